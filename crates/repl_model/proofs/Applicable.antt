@@ -1,0 +1,84 @@
+-- What is applicable leaves the keys.
+use Rattle.std.proofs.Common.{◌≡◌, ℕ, suc, true, ◌&&◌, List, [], ◌∷◌, ◌++◌, length, inl, inr, refl, ap, subst, ◌∙◌}
+use Rattle.std.specs.Prelude.{◌==◌, nat_le, sum_by, slice_index_or}
+use Rattle.std.specs.List.{list_all, list_any}
+use Rattle.std.specs.Str.{bytes_eq}
+use Rattle.std.proofs.lemmas.Bool.{and_parts, or_cases, eqb-true}
+use Rattle.repl_types.specs.Value.{Values}
+use Rattle.repl_types.specs.declared.value.Value.{Value}
+use Rattle.repl_types.specs.declared.value.Value.TheVariants.{Null}
+use Rattle.repl_types.specs.declared.table.TableDef.{TableDef}
+use Rattle.repl_types.specs.declared.table.ColumnDef.{ColumnDef}
+use Rattle.repl_types.specs.declared.record.Change.{Change}
+use Rattle.repl_types.specs.declared.record.Change.TheVariants.{Insert, Update, Delete, Start, Stop}
+use Rattle.repl_types.specs.declared.record.LogRecord.{LogRecord}
+use Rattle.repl_types.specs.declared.record.LogRecord.TheVariants as records
+use Rattle.repl_model.specs.Tables.{images, key_of, same_values, table_of}
+use Rattle.repl_model.specs.Applicable.{fits_column, fits_columns, spelled_len, fits, change_fits, is_change_applicable, is_applicable}
+use Rattle.repl_model.specs.Copies.{IsWhole, LeavesKey, RecordLeavesKey, LeavesKeys, is_key_fixed}
+use Rattle.repl_model.proofs.Lists.{each_push}
+use Rattle.repl_model.proofs.Rows.{same_values_exact}
+
+-- values that fit the columns are as many
+columns_length : (columns : List ColumnDef) (row : Values) → fits_columns columns row ≡ true → length row ≡ length columns
+columns_length [] [] e = refl
+columns_length [] (v ∷ row) e = absurd cc
+columns_length (column ∷ columns) [] e = absurd cc
+columns_length (column ∷ columns) (v ∷ row) e = ap suc (columns_length columns row (and_parts (fits_column column v) (fits_columns columns row) e).1)
+
+-- a row that fits its table has a value for each column
+pub fits_whole : (def : TableDef) (row : Values) → fits def row ≡ true → IsWhole def row
+fits_whole def row e = columns_length def.columns row (and_parts (fits_columns def.columns row) (nat_le (sum_by spelled_len (key_of def row)) 1024) e).0
+
+-- ---- the fixed columns
+
+-- lists that are equal have equal heads and equal tails
+parts_same : (x y : Value) (xs ys : Values) → x ∷ xs ≡ y ∷ ys → (x ≡ y) × (xs ≡ ys)
+parts_same x y xs ys e = (cc, cc)
+
+-- rows that are alike at some places are alike at each of them
+place_same : (places : List ℕ) (a b : Values) (place : ℕ) → images places a ≡ images places b → list_any (λ p. p == place) places ≡ true → slice_index_or a place Null ≡ slice_index_or b place Null
+place_same [] a b place e h = absurd cc
+place_same (p ∷ places) a b place e h =
+    let parts = parts_same (slice_index_or a p Null) (slice_index_or b p Null) (images places a) (images places b) e in
+    let rest = place_same places a b place parts.1 in
+    elim (or_cases (p == place) (list_any (λ p. p == place) places) h) [
+      | inl here ↦ subst (λ (k : ℕ). slice_index_or a k Null ≡ slice_index_or b k Null) (eqb-true p place here) parts.0
+      | inr later ↦ rest later
+    ]
+
+-- rows that are alike at some places are alike at any of these, in any order
+images_same : (fixed key : List ℕ) (a b : Values) → list_all (λ place. list_any (λ f. f == place) fixed) key ≡ true → images fixed a ≡ images fixed b → images key a ≡ images key b
+images_same fixed [] a b h e = refl
+images_same fixed (place ∷ key) a b h e =
+    let parts = and_parts (list_any (λ f. f == place) fixed) (list_all (λ place. list_any (λ f. f == place) fixed) key) h in
+    ap (λ (v : Value). v ∷ images key a) (place_same fixed a b place e parts.0)
+    ∙ ap (λ (vs : Values). slice_index_or b place Null ∷ vs) (images_same fixed key a b parts.1 e)
+
+-- ---- changes
+
+-- a change that fits has whole rows, and leaves the key where the key is fixed
+fits_leaves : (def : TableDef) (change : Change) → is_key_fixed def ≡ true → change_fits def change ≡ true → LeavesKey def change
+unfolding change_fits
+fits_leaves def (Insert table row) fixed h = fits_whole def row h
+fits_leaves def (Update table before after) fixed h =
+    let outer = and_parts (fits def before && fits def after) (same_values (images def.fixed before) (images def.fixed after)) h in
+    let rows = and_parts (fits def before) (fits def after) outer.0 in
+    (fits_whole def before rows.0, fits_whole def after rows.1, images_same def.fixed def.key before after fixed (same_values_exact _ _ outer.1))
+fits_leaves def (Delete table row) fixed h = fits_whole def row h
+fits_leaves def (Start table) fixed h = tt
+fits_leaves def (Stop table) fixed h = tt
+
+-- an applicable change has whole rows, and leaves the key where the key is fixed
+pub applicable_leaves : (def : TableDef) (change : Change) → is_key_fixed def ≡ true → is_change_applicable def change ≡ true → LeavesKey def change
+applicable_leaves def change fixed h = fits_leaves def change fixed (and_parts (bytes_eq (table_of change) def.name) (change_fits def change) h).1
+
+-- one more applicable record leaves the keys
+pub leaves_keys_push : (def : TableDef) (log : List LogRecord) (r : LogRecord) → is_key_fixed def ≡ true → LeavesKeys def log → is_applicable def log r ≡ true → LeavesKeys def (log ++ r ∷ [])
+unfolding is_applicable
+leaves_keys_push def log r fixed h e = each_push (RecordLeavesKey def) log r h (leaves r e)
+  where
+    leaves : (r : LogRecord) → is_applicable def log r ≡ true → RecordLeavesKey def r
+    leaves (records.Change tx change) e = λ named. applicable_leaves def change fixed e
+    leaves (records.Commit tx time authid origin) e = tt
+    leaves (records.Abort tx) e = tt

@@ -1,0 +1,69 @@
+-- Which log records are applicable after a log.
+use Rattle.std.specs.Prelude.{ℕ, ◌+◌, Bool, true, false, ◌&&◌, ◌==◌, nat_le, List, [], ◌∷◌, length, count_by, sum_by}
+use Rattle.std.specs.Str.{bytes_eq}
+use Rattle.repl_types.specs.Value.{Values}
+use Rattle.repl_types.specs.declared.value.Value.{Value}
+use Rattle.repl_types.specs.declared.value.Value.TheVariants.{Null, Int, Text}
+use Rattle.repl_types.specs.declared.table.Kind.{Kind}
+use Rattle.repl_types.specs.declared.table.Kind.TheVariants as kinds
+use Rattle.repl_types.specs.declared.table.ColumnDef.{ColumnDef}
+use Rattle.repl_types.specs.declared.table.TableDef.{TableDef}
+use Rattle.repl_types.specs.declared.record.Change.{Change}
+use Rattle.repl_types.specs.declared.record.Change.TheVariants.{Insert, Update, Delete, Start, Stop}
+use Rattle.repl_types.specs.declared.record.LogRecord.{LogRecord}
+use Rattle.repl_types.specs.declared.record.LogRecord.TheVariants as records
+use Rattle.repl_model.specs.Tables.{images, key_of, same_values, table_of, all_apply}
+use Rattle.repl_model.specs.Units.{units, last_commit, last_time, open_changes}
+use Rattle.repl_model.specs.SourceAt.{unplaced, source_at}
+
+-- a value may stand in a column
+abbrev pub fits_column : ColumnDef → Value → Bool
+fits_column column Null = column.nullable
+fits_column column (Int n) = is_int column.kind
+  where
+    is_int : Kind → Bool
+    is_int kinds.Int = true
+    is_int kinds.Text = false
+fits_column column (Text t) = is_text column.kind
+  where
+    is_text : Kind → Bool
+    is_text kinds.Int = false
+    is_text kinds.Text = true
+
+-- there are as many values as columns, and each may stand in its column
+abbrev pub fits_columns : List ColumnDef → Values → Bool
+fits_columns [] [] = true
+fits_columns [] (v ∷ row) = false
+fits_columns (column ∷ columns) [] = false
+fits_columns (column ∷ columns) (v ∷ row) = fits_column column v && fits_columns columns row
+
+-- the bytes that a value takes in a stored key: a mark, and for an integer 8, for a text its bytes, each
+-- zero doubled, and two more
+abbrev pub spelled_len : Value → ℕ
+spelled_len Null = 1
+spelled_len (Int n) = 9
+spelled_len (Text t) = 3 + length t + count_by (λ b. b == 0) t
+
+-- a row fits its table: its values fit the columns, and its key has at most 1,024 bytes
+abbrev pub fits : TableDef → Values → Bool
+fits def row = fits_columns def.columns row && nat_le (sum_by spelled_len (key_of def row)) 1024
+
+-- a change fits its table: its rows do, and an update leaves the fixed columns
+unfoldable pub change_fits : TableDef → Change → Bool
+change_fits def (Insert table row) = fits def row
+change_fits def (Update table before after) = fits def before && fits def after && same_values (images def.fixed before) (images def.fixed after)
+change_fits def (Delete table row) = fits def row
+change_fits def (Start table) = false
+change_fits def (Stop table) = false
+
+-- a change record of a server with one table is applicable where it is of that table and fits it
+abbrev pub is_change_applicable : TableDef → Change → Bool
+is_change_applicable def change = bytes_eq (table_of change) def.name && change_fits def change
+
+-- a commit record is applicable where its time isn't below that of the last commit, and its unit's changes
+-- apply one after another to the committed rows. An abort is always applicable.
+unfoldable pub is_applicable : TableDef → List LogRecord → LogRecord → Bool
+is_applicable def log (records.Change tx change) = is_change_applicable def change
+is_applicable def log (records.Commit tx time authid origin) = nat_le (last_time (units log)) time
+    && all_apply def (unplaced (open_changes tx log)) (source_at def log (last_commit log))
+is_applicable def log (records.Abort tx) = true

@@ -1,0 +1,8 @@
+use Rattle.repl_types.proofs.Order.{key_cmp_total, exact_key}
+use Rattle.repl_types.proofs.laws.keys_in_order.Goals as goal
+
+pub returns-clause-total : goal.returns-clause-total
+returns-clause-total c = key_cmp_total
+
+pub returns-clause-exact : goal.returns-clause-exact
+returns-clause-exact c = exact_key

@@ -1,0 +1,5 @@
+pub mod Codes
+pub mod Name
+pub mod Numbers
+pub mod Value
+pub mod ValueText

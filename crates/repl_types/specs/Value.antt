@@ -1,0 +1,28 @@
+-- The order of values.
+use Rattle.std.specs.Prelude.{List}
+use Rattle.std.specs.Ordering.{nat_cmp, int_cmp}
+use Rattle.std.specs.Cmp.Lexicographic.{slice_cmp}
+use Rattle.std.specs.declared.cmp.Ordering.{Ordering}
+use Rattle.std.specs.declared.cmp.Ordering.TheVariants.{Less, Equal, Greater}
+use Rattle.repl_types.specs.declared.value.Value.{Value}
+use Rattle.repl_types.specs.declared.value.Value.TheVariants.{Null, Int, Text}
+
+-- NULL, then the integers by number, then the texts by bytes
+abbrev pub value_cmp : Value → Value → Ordering
+value_cmp Null Null = Equal
+value_cmp Null (Int n) = Less
+value_cmp Null (Text t) = Less
+value_cmp (Int n) Null = Greater
+value_cmp (Int n) (Int m) = int_cmp n m
+value_cmp (Int n) (Text t) = Less
+value_cmp (Text t) Null = Greater
+value_cmp (Text t) (Int n) = Greater
+value_cmp (Text t) (Text u) = slice_cmp nat_cmp t u
+
+-- keys by their columns, in order
+abbrev pub key_cmp : List Value → List Value → Ordering
+key_cmp = slice_cmp value_cmp
+
+-- the values of a row, or of a key
+abbrev pub Values : Type 0
+Values = List Value

@@ -1,0 +1,41 @@
+//! Registrations, and the rows of change-data tables.
+
+use crate::list::List;
+use crate::name::Name;
+use crate::value::Row;
+
+/// Which changes of a table are captured, and how. `after` and `before` are places of the table's
+/// columns, counted from 0, in rising order: those whose after-images and whose before-images are kept.
+#[derive(Clone, Debug, Drop, PartialEq, Eq)]
+pub struct Registration {
+    pub table: Name,
+    pub after: List<u32>,
+    pub before: List<u32>,
+    /// An update is captured as a delete and an insert.
+    pub del_ins: bool,
+    /// An update that changes no registered column isn't captured.
+    pub changes_only: bool,
+    /// A gap isn't mended by a refresh.
+    pub disable_refresh: bool,
+}
+
+/// What a change row does to its key.
+#[derive(Clone, Copy, Debug, PartialEq, Eq)]
+pub enum Op {
+    I,
+    U,
+    D,
+}
+
+/// A change row. `commitseq` is its unit's seq, `intentseq` the position of the change, `sub` 1 for the
+/// insert of a delete and insert and else 0. `after` and `before` are the images of the registered
+/// columns.
+#[derive(Clone, Debug, Drop, PartialEq, Eq)]
+pub struct CdRow {
+    pub commitseq: u64,
+    pub intentseq: u64,
+    pub sub: u16,
+    pub op: Op,
+    pub after: Row,
+    pub before: Row,
+}

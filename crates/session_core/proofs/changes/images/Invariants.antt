@@ -1,0 +1,6 @@
+use Rattle.std.proofs.Common.{◌≡◌, take}
+use Rattle.repl_model.specs.Tables.{images}
+use Rattle.session_core.proofs.changes.images.Given as goal
+
+abbrev pub invariant-loop-place : goal.invariant-loop-place
+invariant-loop-place l = l.found ≡ images (take l.place-index l.places) l.row

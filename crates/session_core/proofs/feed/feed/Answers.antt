@@ -1,0 +1,19 @@
+use Rattle.std.proofs.Common.{Ok, ap, ◌∙◌}
+use Rattle.session_core.specs.Input.{left_of}
+use Rattle.session_core.proofs.FedLines.{end_left, end_fits}
+use Rattle.session_core.proofs.feed.feed.Goals as goal
+
+-- src/feed.rt:118:27
+pub take_line-requires-clause-short : goal.take_line-requires-clause-short
+take_line-requires-clause-short g c = rw c.deref.ensures.value (c.next_line.ensures.short (c.in_ok-next_line.was ∙ ap Ok c.in-Line.is))
+
+-- src/feed.rt:120:26
+pub returns-in-End-clause-end : goal.returns-in-End-clause-end
+returns-in-End-clause-end g c =
+    end_left (g.I.Source.left c.args.source.now) (left_of c.loop-line.input (g.I.Source.left c.loop-line.source)) (g.I.Source.left c.next_line.new.source) c.loop-line.fed c.loop-line.number c.next_line.new.line.items c.next_line.new.self c.loop-line.invariant.comes
+    (rw c.in-End.is at c.in_ok-next_line.ensures.line)
+
+-- src/feed.rt:120:26
+pub returns-in-End-clause-fits : goal.returns-in-End-clause-fits
+returns-in-End-clause-fits g c =
+    end_fits (g.I.Source.left c.args.source.now) (g.I.Source.left c.next_line.new.source) c.next_line.new.self (returns-in-End-clause-end g c) (c.in_ok-next_line.ensures.total ∙ c.loop-line.invariant.total) c.next_line.new.self.limited

@@ -1,0 +1,71 @@
+//! What ends a run at once.
+
+ghost use Rattle.std.specs.Prelude.{◌≡◌};
+ghost use Rattle.session_core.specs.Session.{status_of_early};
+
+use crate::input::InputError;
+use keep_core::ReadError;
+use repl_types::Status;
+use std::alloc::AllocError;
+
+/// Why a run ends at once.
+#[derive(Clone, Copy, Debug, PartialEq, Eq)]
+pub enum Early {
+    Memory,
+    InputFailed,
+    InputTooLong,
+    OutputFailed,
+}
+
+impl From<AllocError> for Early {
+    ghost use Rattle.std.specs.Prelude.{◌≡◌};
+    ghost use Rattle.session_core.specs.declared.early.Early.TheVariants.{Memory};
+
+    ghost from_gives = { λ _ early. early ≡ Memory };
+
+    fn from(_: AllocError) -> Early {
+        Early::Memory
+    }
+}
+
+impl From<InputError> for Early {
+    ghost use Rattle.std.specs.Prelude.{◌≡◌};
+    ghost use Rattle.session_core.specs.Session.{early_input};
+
+    ghost from_gives = { λ error early. early ≡ early_input error };
+
+    fn from(error: InputError) -> Early {
+        match error {
+            InputError::Memory => Early::Memory,
+            InputError::Failed => Early::InputFailed,
+            InputError::TooLong => Early::InputTooLong,
+        }
+    }
+}
+
+/// What a call of the output failed by.
+impl From<ReadError> for Early {
+    ghost use Rattle.std.specs.Prelude.{◌≡◌};
+    ghost use Rattle.session_core.specs.Session.{early_output};
+
+    ghost from_gives = { λ error early. early ≡ early_output error };
+
+    fn from(error: ReadError) -> Early {
+        match error {
+            ReadError::Memory => Early::Memory,
+            ReadError::Failed => Early::OutputFailed,
+        }
+    }
+}
+
+/// The status of a run that ended at once.
+pub fn early_status(early: Early) -> Status
+    ensures { result ≡ status_of_early early }
+{
+    match early {
+        Early::Memory => Status::Memory,
+        Early::InputFailed => Status::InputFault,
+        Early::InputTooLong => Status::InputTooLong,
+        Early::OutputFailed => Status::OutputFault,
+    }
+}

@@ -1,0 +1,33 @@
+-- Which words ask for a text.
+use Rattle.std.specs.Prelude.{ℕ, codes, List, Bool, true, false, not, ◌&&◌}
+use Rattle.std.specs.List.{list_all, list_any}
+use Rattle.clap.specs.Faults.{fault_of}
+use Rattle.clap.specs.Kinds.{Kinds}
+use Rattle.clap.specs.Simple.{App, new_app, on_top, with_subcommand}
+use Rattle.clap.specs.Walk.{is_empty}
+use Rattle.clap.specs.declared.error.kind.ErrorKind.{ErrorKind}
+use Rattle.clap.specs.declared.error.kind.ErrorKind.TheVariants.{DisplayHelp, DisplayVersion}
+
+-- what a parse reads of the words that the program takes
+abbrev pub sqlrep_app : App
+sqlrep_app = with_subcommand
+    (on_top (λ s. record s { has_version = true; subcommand_required = true; disable_help_subcommand = true }) (new_app (codes "sqlrep")))
+    (new_app (codes "copy")).top
+
+-- the answer is a text that was asked for, and no mistake in the words
+abbrev pub is_shown : ErrorKind → Bool
+is_shown DisplayHelp = true
+is_shown DisplayVersion = true
+is_shown _ = false
+
+-- whatever a parse may answer is such a text
+abbrev pub all_shown : Kinds → Bool
+all_shown kinds = not (is_empty kinds) && list_all is_shown kinds
+
+-- the words, of which the first is the program's name, ask for help or for the version
+abbrev pub asks_text : List (List ℕ) → Bool
+asks_text words = all_shown (fault_of sqlrep_app words)
+
+-- they ask for neither
+abbrev pub asks_nothing : List (List ℕ) → Bool
+asks_nothing words = not (list_any is_shown (fault_of sqlrep_app words))

@@ -1,0 +1,14 @@
+-- Which answers of a stream count as faults.
+use Rattle.std.specs.Prelude.{ℕ, ◌+◌, ◌-◌, ◌^◌, min, Result, Ok, Err}
+use Rattle.keep_core.specs.declared.streams.ReadError.{ReadError}
+use Rattle.keep_core.specs.declared.streams.ReadError.TheVariants.{Memory, Failed}
+
+-- one more fault where the stream failed, up to the last number of 64 bits
+abbrev pub faults_of_error : ReadError → ℕ → ℕ
+faults_of_error Memory faults = faults
+faults_of_error Failed faults = min (faults + 1) (2 ^ 64 - 1)
+
+-- the count of faults once a read or a write gave this answer
+abbrev pub faults_after : Result ℕ ReadError → ℕ → ℕ
+faults_after (Ok count) faults = faults
+faults_after (Err error) faults = faults_of_error error faults

@@ -1,0 +1,40 @@
+//! What `--help` and `--version` print.
+
+ghost use Rattle.std.specs.Prelude.{◌≡◌, map, string_bytes, IfOk, IsNone, IsSome, IsTrue};
+ghost use Rattle.clap.specs.Simple.{app_of};
+ghost use Rattle.sqlrep.specs.Asked.{sqlrep_app, asks_text, asks_nothing};
+
+use clap::Command;
+use clap::error::ErrorKind;
+use std::alloc::{AllocError, Global};
+
+/// The words that the program takes.
+fn sqlrep_command<'a>(alloc: Global) -> Result<Command<'a>, AllocError>
+    ensures { IfOk result (λ command. app_of command ≡ sqlrep_app) }
+{
+    let copy = Command::new(alloc, "copy").about(
+        "Reads log records on standard input and prints the rows of the copy of items",
+    );
+    Command::new(alloc, "sqlrep")
+        .bin_name("sqlrep")?
+        .version("0.1.0")
+        .about("Staged SQL replication")
+        .subcommand_required(true)
+        .disable_help_subcommand(true)
+        .subcommand(copy)
+}
+
+/// The text that the words of a command line ask for, where they ask for help or for the version.
+pub fn asked_text(alloc: Global, words: &[String]) -> Result<Option<String>, AllocError>
+    ensures asked { IsTrue (asks_text (map string_bytes words.now)) → IfOk result (λ text. IsSome text) }
+    ensures other { IsTrue (asks_nothing (map string_bytes words.now)) → IfOk result (λ text. IsNone text) }
+{
+    let Err(error) = sqlrep_command(alloc)?.try_get_matches_from(words) else {
+        return Ok(None);
+    };
+    match error.kind() {
+        ErrorKind::OutOfMemory => Err(AllocError),
+        _ if error.use_stderr() => Ok(None),
+        _ => Ok(Some(format!(in alloc; "{error}")?)),
+    }
+}

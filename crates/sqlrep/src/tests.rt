@@ -1,0 +1,151 @@
+//! Runs of `session` over streams in memory: what is written, and how each failure ends a run.
+
+ghost use Rattle.std.specs.Prelude.{Some};
+
+use keep_core::{ReadError, Sink, Source};
+use keep_map::{BytesSink, BytesSource};
+use repl_types::{List, Status};
+use session_core::session;
+use std::alloc::{AllocError, Global};
+use std::test::Fail;
+
+/// Three units, of which the last two change what the first inserted.
+const THREE_UNITS: &[u8] = b"insert 1 items 1 'pen'\n\
+insert 1 items 2 'ink'\n\
+commit 1 ann 100\n\
+update 2 items 2 'ink' -> 2 'red ink'\n\
+commit 2 ann 110\n\
+delete 3 items 1 'pen'\n\
+commit 3 bob 120\n";
+
+const ONE_ROW: &[u8] = b"row 2 'red ink'\nok rows 1\n";
+
+/// The delete doesn't name the row that stands, so the commit of it isn't taken.
+const WRONG_DELETE: &[u8] = b"insert 1 items 1 'pen'\n\
+insert 1 items 2 'ink'\n\
+commit 1 ann 100\n\
+delete 2 items 2 'pen'\n\
+commit 2 ann 110\n";
+
+const TWO_ROWS: &[u8] = b"row 1 'pen'\nrow 2 'ink'\nok rows 2\nrefused 10 NotApplicable line 5\n";
+
+/// More bytes than two reads give: each asks for 65,536.
+const MORE_THAN_TWO_READS: usize = 131_073;
+
+/// A sink that takes one byte a call.
+#[derive(Drop)]
+struct Drip {
+    bytes: Vec<u8>,
+}
+
+impl Sink for Drip {
+    ghost taken = { λ drip. Some drip.bytes.items };
+
+    ghost faults = { λ _. 0 };
+
+    fn write(&mut self, piece: &[u8]) -> Result<usize, ReadError> {
+        let Some(byte) = piece.first() else {
+            return Ok(0);
+        };
+        match self.bytes.push(*byte) {
+            Ok(()) => Ok(1),
+            Err(_) => Err(ReadError::Memory),
+        }
+    }
+}
+
+fn words_of(alloc: Global, line: &str) -> Result<Vec<String>, AllocError> {
+    let mut words = Vec::new(alloc);
+    for word in line.split_ascii_whitespace() {
+        words.push(String::from_str(alloc, word)?)?;
+    }
+    Ok(words)
+}
+
+fn source_of(alloc: Global, bytes: &[u8]) -> Result<BytesSource, AllocError> {
+    Ok(BytesSource::new(List::from_vec(Vec::from_slice(alloc, bytes)?)))
+}
+
+/// Runs `copy`.
+fn copy<I: Source, O: Sink>(
+    alloc: Global,
+    input: &mut I,
+    output: &mut O,
+) -> Result<Status, AllocError> {
+    Ok(session(alloc, words_of(alloc, "copy")?.as_slice(), input, output))
+}
+
+#[test]
+fn the_copy_and_the_refused_line_are_written(rt: HostRuntime) -> Result<(), Fail> {
+    let alloc = rt.alloc();
+    for (input, text, status) in [
+        (THREE_UNITS, ONE_ROW, Status::Ok),
+        (WRONG_DELETE, TWO_ROWS, Status::Refused),
+    ] {
+        let mut output = BytesSink::new(alloc);
+        let mut input = source_of(alloc, input)?;
+        assert_eq!(rt; copy(alloc, &mut input, &mut output)?, status);
+        assert_eq!(rt; output.bytes(), text);
+    }
+    Ok(())
+}
+
+#[test]
+fn a_failed_read_ends_the_run_before_a_line_is_written(rt: HostRuntime) -> Result<(), Fail> {
+    let alloc = rt.alloc();
+    for call in [1, 3] {
+        let blank_lines = vec![in alloc; b'\n'; MORE_THAN_TWO_READS]?;
+        let mut input = BytesSource::new(List::from_vec(blank_lines));
+        input.fail_at(List::from_vec(vec![in alloc; call]?));
+        let mut output = BytesSink::new(alloc);
+        let status = copy(alloc, &mut input, &mut output)?;
+        assert_eq!(rt; status, Status::InputFault, "at read {call}");
+        assert!(rt; output.bytes().is_empty(), "at read {call}");
+    }
+    Ok(())
+}
+
+#[test]
+fn a_failed_write_ends_the_run_after_the_lines_before(rt: HostRuntime) -> Result<(), Fail> {
+    let alloc = rt.alloc();
+    for (call, text) in [
+        (1, b"".as_slice()),
+        (3, b"row 1 'pen'\nrow 2 'ink'\n".as_slice()),
+    ] {
+        let mut input = source_of(alloc, WRONG_DELETE)?;
+        let mut output = BytesSink::new(alloc);
+        output.fail_at(List::from_vec(vec![in alloc; call]?));
+        let status = copy(alloc, &mut input, &mut output)?;
+        assert_eq!(rt; status, Status::OutputFault, "at write {call}");
+        assert_eq!(rt; output.bytes(), text, "at write {call}");
+    }
+    Ok(())
+}
+
+#[test]
+fn a_sink_that_takes_a_byte_at_a_time_gets_it_all(rt: HostRuntime) -> Result<(), Fail> {
+    let alloc = rt.alloc();
+    let mut input = source_of(alloc, THREE_UNITS)?;
+    let mut output = Drip {
+        bytes: Vec::new(alloc),
+    };
+    assert_eq!(rt; copy(alloc, &mut input, &mut output)?, Status::Ok);
+    assert_eq!(rt; output.bytes.as_slice(), ONE_ROW);
+    Ok(())
+}
+
+#[test]
+fn other_words_are_usage_and_nothing_is_read_or_written(rt: HostRuntime) -> Result<(), Fail> {
+    let alloc = rt.alloc();
+    for line in ["", "Copy", "copy copy"] {
+        let words = words_of(alloc, line)?;
+        let mut input = source_of(alloc, b"left")?;
+        let mut output = BytesSink::new(alloc);
+        let status = session(alloc, words.as_slice(), &mut input, &mut output);
+        assert_eq!(rt; status, Status::Usage, "at {line:?}");
+        assert!(rt; output.bytes().is_empty(), "at {line:?}");
+        let mut buffer = *b"....";
+        assert_eq!(rt; input.read(&mut buffer), Ok(4), "at {line:?}");
+    }
+    Ok(())
+}
