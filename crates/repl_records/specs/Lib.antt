@@ -1,0 +1,4 @@
+pub mod FirstStates
+pub mod Sequence
+pub mod formers
+pub mod Weights

@@ -1,0 +1,80 @@
+//! Sequences: places in a log.
+
+ghost use Rattle.std.specs.Prelude.{◌≡◌, ◌++◌, OnOk};
+ghost use Rattle.repl_records.specs.Sequence.{sequence_cmp, hex_digits, sequence_text};
+
+use std::alloc::AllocError;
+use std::cmp::Ordering;
+
+/// A place in a log: a position, and a sub-number, which is 1 for the insert of a delete and insert and
+/// else 0. Sequences are in the order of their positions, and those of one position in the order of
+/// their sub-numbers.
+#[derive(Clone, Copy, Debug, PartialEq, Eq, PartialOrd, Ord)]
+pub struct Sequence {
+    pub position: u64,
+    pub sub: u16,
+}
+
+/// Which of two sequences comes first, as their derived order has it.
+pub fn sequence_order(first: &Sequence, second: &Sequence) -> Ordering
+    ensures { result ≡ sequence_cmp first.now second.now }
+{
+    first.cmp(second)
+}
+
+const HEX_DIGITS: &[u8; 16] = b"0123456789abcdef";
+
+/// Appends the text of a sequence: 20 hexadecimal digits, 16 of the position and 4 of the sub-number.
+/// Without memory some of it may have been appended.
+pub fn write_sequence(sequence: &Sequence, out: &mut Vec<u8>) -> Result<(), AllocError>
+    ensures ok { OnOk result (out.new.items ≡ out.old.items ++ sequence_text sequence.now) }
+{
+    write_hex(sequence.position, 16, out)?;
+    write_hex(u64::from(sequence.sub), 4, out)
+}
+
+/// Appends the last digits of a number, so many, with zeros in front.
+fn write_hex(number: u64, count: u32, out: &mut Vec<u8>) -> Result<(), AllocError>
+    ensures ok { OnOk result (out.new.items ≡ out.old.items ++ hex_digits count number) }
+{
+    if count == 0 {
+        return Ok(());
+    }
+    write_hex(number / 16, count - 1, out)?;
+    let digit = HEX_DIGITS[(number % 16) as usize];
+    Ok(out.push(digit)?)
+}
+
+#[cfg(test)]
+mod tests {
+    use super::*;
+    use std::test::*;
+
+    #[test]
+    fn a_sequence_is_twenty_digits(rt: HostRuntime) -> Result<(), Fail> {
+        let table: [(u64, u16, &[u8]); 3] = [
+            (0, 0, b"00000000000000000000"),
+            (1_999_999_999, 1, b"00000000773593ff0001"),
+            (u64::MAX, 0xabcd, b"ffffffffffffffffabcd"),
+        ];
+        for (position, sub, text) in table {
+            let mut out = Vec::new(rt.alloc());
+            write_sequence(&Sequence { position, sub }, &mut out)?;
+            assert!(rt; out.as_slice() == text);
+        }
+        Ok(())
+    }
+
+    #[test]
+    fn positions_come_before_sub_numbers(rt: HostRuntime) {
+        let earlier = Sequence {
+            position: 1,
+            sub: 1,
+        };
+        let later = Sequence {
+            position: 2,
+            sub: 0,
+        };
+        assert!(rt; sequence_order(&earlier, &later) == Ordering::Less);
+    }
+}

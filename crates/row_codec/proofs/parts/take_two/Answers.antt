@@ -1,0 +1,9 @@
+use Rattle.std.proofs.Common.{ap, Err}
+use Rattle.row_codec.specs.declared.take_error.TakeError.{TakeError}
+use Rattle.row_codec.proofs.Exits.{handed_on}
+use Rattle.row_codec.proofs.parts.take_two.Goals as goal
+
+pub returns-in_err-first-clause-spelling : goal.returns-in_err-first-clause-spelling
+returns-in_err-first-clause-spelling g c e first second rest fits_first fits_second same =
+    let given = handed_on c.from_residual.result c.in_err-first.field-0.0 _ c.from_residual.ensures.1 e in
+    c.in_err-first.ensures.spelling (ap (λ (k : TakeError). Err k) given) (first, second) rest (fits_first, fits_second) same

@@ -1,0 +1,78 @@
+-- The spellings of columns, tables and registrations, and of their definitions at a server.
+use Rattle.std.specs.Prelude.{ℕ, List, [], ◌∷◌, ◌++◌}
+use Rattle.repl_types.specs.declared.table.Kind.{Kind}
+use Rattle.repl_types.specs.declared.table.Kind.TheVariants.{Int, Text}
+use Rattle.repl_types.specs.declared.table.ColumnDef.{ColumnDef}
+use Rattle.repl_types.specs.declared.table.TableDef.{TableDef}
+use Rattle.repl_types.specs.declared.change_row.Registration.{Registration}
+use Rattle.repl_records.specs.declared.defined.DefinedTable.{DefinedTable}
+use Rattle.repl_records.specs.declared.defined.DefinedRegistration.{DefinedRegistration}
+use Rattle.row_codec.specs.Spelling.{Any, b16, b32, Is16, Is32, flag, short_text, IsName, list_spelling, ListFits}
+
+-- ---- places
+
+-- a count, and two bytes for each place of a column
+abbrev pub places_spelling : List ℕ → List ℕ
+places_spelling = list_spelling b16
+
+-- the places that have two bytes, in a list whose count has two
+abbrev pub ArePlaces : List ℕ → Type 0
+ArePlaces = ListFits Is16
+
+-- ---- tables
+
+-- 1 for integers, 2 for texts
+abbrev pub kind_spelling : Kind → List ℕ
+kind_spelling Int = 1 ∷ []
+kind_spelling Text = 2 ∷ []
+
+-- a column: its name, its kind, and whether it may be NULL
+abbrev pub column_spelling : ColumnDef → List ℕ
+column_spelling column = short_text column.name ++ kind_spelling column.kind ++ flag column.nullable
+
+abbrev pub IsColumn : ColumnDef → Type 0
+IsColumn column = IsName column.name × Any column.kind × Any column.nullable
+
+-- a table: its name, its columns, and the places of its key and of the fixed columns
+abbrev pub table_spelling : TableDef → List ℕ
+table_spelling table = short_text table.name ++ list_spelling column_spelling table.columns ++ places_spelling table.key ++ places_spelling table.fixed
+
+-- the tables that have a spelling
+abbrev pub HasTableSpelling : TableDef → Type 0
+HasTableSpelling table = ListFits Any table.columns × ArePlaces table.key × ArePlaces table.fixed
+
+abbrev pub IsTable : TableDef → Type 0
+IsTable table = IsName table.name × ListFits IsColumn table.columns × ArePlaces table.key × ArePlaces table.fixed
+
+-- a table with its number at its server
+abbrev pub defined_table_spelling : DefinedTable → List ℕ
+defined_table_spelling defined = b32 defined.number ++ table_spelling defined.def
+
+abbrev pub HasDefinedTableSpelling : DefinedTable → Type 0
+HasDefinedTableSpelling defined = HasTableSpelling defined.def
+
+abbrev pub IsDefinedTable : DefinedTable → Type 0
+IsDefinedTable defined = Is32 defined.number × IsTable defined.def
+
+-- ---- registrations
+
+-- a registration: its table's name, the places of the columns whose images are kept, and three flags
+abbrev pub registration_spelling : Registration → List ℕ
+registration_spelling r = short_text r.table ++ places_spelling r.after ++ places_spelling r.before ++ flag r.del_ins ++ flag r.changes_only ++ flag r.disable_refresh
+
+-- the registrations that have a spelling
+abbrev pub HasRegistrationSpelling : Registration → Type 0
+HasRegistrationSpelling r = ArePlaces r.after × ArePlaces r.before
+
+abbrev pub IsRegistration : Registration → Type 0
+IsRegistration r = IsName r.table × ArePlaces r.after × ArePlaces r.before × Any r.del_ins × Any r.changes_only × Any r.disable_refresh
+
+-- a registration with its number at its server
+abbrev pub defined_registration_spelling : DefinedRegistration → List ℕ
+defined_registration_spelling defined = b32 defined.number ++ registration_spelling defined.registration
+
+abbrev pub HasDefinedRegistrationSpelling : DefinedRegistration → Type 0
+HasDefinedRegistrationSpelling defined = HasRegistrationSpelling defined.registration
+
+abbrev pub IsDefinedRegistration : DefinedRegistration → Type 0
+IsDefinedRegistration defined = Is32 defined.number × IsRegistration defined.registration

@@ -1,0 +1,60 @@
+-- Proofs that each key has one spelling, and that byte order of spellings is the order of keys. There
+-- is nothing to believe here.
+use Rattle.std.proofs.Common.{ℕ, refl, ap}
+use Rattle.std.specs.Ordering.{nat_cmp}
+use Rattle.repl_records.specs.declared.sequence.Sequence.{Sequence}
+use Rattle.repl_records.specs.Sequence.{sequence_cmp}
+use Rattle.row_codec.specs.Takes.{One, PairFits, pair_spelling, one_by}
+use Rattle.row_codec.specs.Ones.{one_pair}
+use Rattle.row_codec.specs.Numbers.{one16, one32, one64}
+use Rattle.row_codec.specs.Order.{Ordered, order16, order32, order64, order_pair}
+use Rattle.row_codec.specs.Spelling.{Any, Is16, Is32, Is64, b16, b32, b64}
+use Rattle.row_codec.specs.RecordKeys.{single_spelling, single_cmp, sequence_spelling, IsSequence, in_flight_key_spelling, IsInFlightKey, in_flight_key_cmp, change_key_spelling, IsChangeKey, change_key_cmp, unit_key_spelling, IsUnitKey, unit_key_cmp, member_key_spelling, IsMemberKey, member_key_cmp}
+
+-- the key of a table that has one record
+pub one_single : One Any single_spelling
+one_single x y a b fx fy e = (refl, cc)
+
+-- which are equal
+pub order_single : Ordered Any single_spelling single_cmp
+order_single x y a b fx fy = refl
+
+-- places in a log
+pub one_sequence : One IsSequence sequence_spelling
+one_sequence = one_by (PairFits Is64 Is16) (pair_spelling b64 b16) IsSequence (λ s. (s.position, s.sub)) (λ x y e. ap (λ (p : ℕ × ℕ). record { position = p.0; sub = p.1 }) e) (λ _ fits. fits) (one_pair _ _ _ _ one64 one16)
+
+-- places by position and sub-number
+pub order_sequence : Ordered IsSequence sequence_spelling sequence_cmp
+order_sequence x y = order_pair Is64 Is16 b64 b16 nat_cmp nat_cmp order64 order16 (x.position, x.sub) (y.position, y.sub)
+
+-- changes in flight
+pub one_in_flight_key : One IsInFlightKey in_flight_key_spelling
+one_in_flight_key = one_by (PairFits Is32 Is64) (pair_spelling b32 b64) IsInFlightKey (λ k. (k.tx, k.pos)) (λ x y e. ap (λ (p : ℕ × ℕ). record { tx = p.0; pos = p.1 }) e) (λ _ fits. fits) (one_pair _ _ _ _ one32 one64)
+
+-- changes in flight by transaction and position
+pub order_in_flight_key : Ordered IsInFlightKey in_flight_key_spelling in_flight_key_cmp
+order_in_flight_key x y = order_pair Is32 Is64 b32 b64 nat_cmp nat_cmp order32 order64 (x.tx, x.pos) (y.tx, y.pos)
+
+-- change rows
+pub one_change_key : One IsChangeKey change_key_spelling
+one_change_key = one_by (PairFits Is64 IsSequence) (pair_spelling b64 sequence_spelling) IsChangeKey (λ k. (k.commitseq, k.intentseq)) (λ x y e. ap (λ (p : ℕ × Sequence). record { commitseq = p.0; intentseq = p.1 }) e) (λ _ fits. fits) (one_pair _ _ _ _ one64 one_sequence)
+
+-- change rows by unit and place
+pub order_change_key : Ordered IsChangeKey change_key_spelling change_key_cmp
+order_change_key x y = order_pair Is64 IsSequence b64 sequence_spelling nat_cmp sequence_cmp order64 order_sequence (x.commitseq, x.intentseq) (y.commitseq, y.intentseq)
+
+-- decided units
+pub one_unit_key : One IsUnitKey unit_key_spelling
+one_unit_key = one_by (PairFits Is32 Is64) (pair_spelling b32 b64) IsUnitKey (λ k. (k.set, k.seq)) (λ x y e. ap (λ (p : ℕ × ℕ). record { set = p.0; seq = p.1 }) e) (λ _ fits. fits) (one_pair _ _ _ _ one32 one64)
+
+-- decided units by set and seq
+pub order_unit_key : Ordered IsUnitKey unit_key_spelling unit_key_cmp
+order_unit_key x y = order_pair Is32 Is64 b32 b64 nat_cmp nat_cmp order32 order64 (x.set, x.seq) (y.set, y.seq)
+
+-- members of sets
+pub one_member_key : One IsMemberKey member_key_spelling
+one_member_key = one_by (PairFits Is32 Is32) (pair_spelling b32 b32) IsMemberKey (λ k. (k.set, k.member)) (λ x y e. ap (λ (p : ℕ × ℕ). record { set = p.0; member = p.1 }) e) (λ _ fits. fits) (one_pair _ _ _ _ one32 one32)
+
+-- members by set and place
+pub order_member_key : Ordered IsMemberKey member_key_spelling member_key_cmp
+order_member_key x y = order_pair Is32 Is32 b32 b32 nat_cmp nat_cmp order32 order32 (x.set, x.member) (y.set, y.member)

@@ -1,0 +1,49 @@
+-- The spellings of the records of a log.
+use Rattle.std.specs.Prelude.{ℕ, List, [], ◌∷◌, ◌++◌}
+use Rattle.repl_types.specs.declared.record.Change.{Change}
+use Rattle.repl_types.specs.declared.record.Change.TheVariants.{Insert, Update, Delete, Start, Stop}
+use Rattle.repl_types.specs.declared.record.LogRecord.{LogRecord}
+use Rattle.repl_types.specs.declared.record.LogRecord.TheVariants as records
+use Rattle.row_codec.specs.Spelling.{Any, b32, b64, Is32, Is64, short_text, IsName, origin, IsOrigin, row_spelling, IsRow, IsCounted, ListFits}
+
+-- a change: its number, the transaction, the table and the rows
+abbrev pub change_spelling : ℕ → Change → List ℕ
+change_spelling tx (Insert table row) = 17 ∷ b32 tx ++ short_text table ++ row_spelling row
+change_spelling tx (Update table before after) = 18 ∷ b32 tx ++ short_text table ++ row_spelling before ++ row_spelling after
+change_spelling tx (Delete table row) = 19 ∷ b32 tx ++ short_text table ++ row_spelling row
+change_spelling tx (Start table) = 22 ∷ b32 tx ++ short_text table
+change_spelling tx (Stop table) = 23 ∷ b32 tx ++ short_text table
+
+-- a record: a change, a commit with its time, user and origin, or an abort
+abbrev pub log_spelling : LogRecord → List ℕ
+log_spelling (records.Change tx change) = change_spelling tx change
+log_spelling (records.Commit tx time authid from) = 20 ∷ b32 tx ++ b64 time ++ short_text authid ++ origin from
+log_spelling (records.Abort tx) = 21 ∷ b32 tx
+
+-- the changes whose rows have counts of two bytes
+abbrev pub HasChangeSpelling : Change → Type 0
+HasChangeSpelling (Insert table row) = ListFits Any row
+HasChangeSpelling (Update table before after) = ListFits Any before × ListFits Any after
+HasChangeSpelling (Delete table row) = ListFits Any row
+HasChangeSpelling (Start table) = Unit {0}
+HasChangeSpelling (Stop table) = Unit {0}
+
+-- the records that have a spelling
+abbrev pub HasLogSpelling : LogRecord → Type 0
+HasLogSpelling (records.Change tx change) = HasChangeSpelling change
+HasLogSpelling (records.Commit tx time authid from) = Unit {0}
+HasLogSpelling (records.Abort tx) = Unit {0}
+
+-- a change whose parts are in their ranges
+abbrev pub IsChange : ℕ → Change → Type 0
+IsChange tx (Insert table row) = Is32 tx × IsName table × IsRow row
+IsChange tx (Update table before after) = Is32 tx × IsName table × IsRow before × IsRow after
+IsChange tx (Delete table row) = Is32 tx × IsName table × IsRow row
+IsChange tx (Start table) = Is32 tx × IsName table
+IsChange tx (Stop table) = Is32 tx × IsName table
+
+-- a record whose parts are in their ranges
+abbrev pub IsLogRecord : LogRecord → Type 0
+IsLogRecord (records.Change tx change) = IsChange tx change
+IsLogRecord (records.Commit tx time authid from) = Is32 tx × Is64 time × IsName authid × IsOrigin from
+IsLogRecord (records.Abort tx) = Is32 tx

@@ -1,0 +1,120 @@
+-- The spellings of members and sets.
+use Rattle.std.specs.Prelude.{ℕ, List, [], ◌∷◌, ◌++◌, Option, Some, None, IfSome}
+use Rattle.repl_types.specs.declared.record.SetId.{SetId}
+use Rattle.repl_records.specs.declared.tree.Predicate.{Predicate}
+use Rattle.repl_records.specs.declared.set.TargetKind.{TargetKind}
+use Rattle.repl_records.specs.declared.set.TargetKind.TheVariants.{UserCopy, PointInTime, BaseAggregate, ChangeAggregate, Ccd, Replica}
+use Rattle.repl_records.specs.declared.set.ColumnFrom.{ColumnFrom}
+use Rattle.repl_records.specs.declared.set.ColumnFrom.TheVariants.{Plain, Count, CountOf, Sum, Min, Max}
+use Rattle.repl_records.specs.declared.set.TargetColumn.{TargetColumn}
+use Rattle.repl_records.specs.declared.set.Member.{Member}
+use Rattle.repl_records.specs.declared.set.SetDef.{SetDef}
+use Rattle.repl_records.specs.declared.defined.SourceSet.{SourceSet}
+use Rattle.repl_records.specs.declared.defined.TargetSet.{TargetSet}
+use Rattle.row_codec.specs.Spelling.{Any, b16, b32, Is16, Is32, flag, short_text, IsName, set_spelling, IsSet, list_spelling, ListFits}
+use Rattle.row_codec.specs.Exprs.{expr_spelling, IsExpr, HasExprSpelling}
+use Rattle.row_codec.specs.Predicates.{predicate_spelling, IsPredicate, HasPredicateSpelling}
+
+-- ---- members
+
+-- 1 to 6; after 5 whether the target is complete, and whether it is condensed
+abbrev pub target_kind_spelling : TargetKind → List ℕ
+target_kind_spelling UserCopy = 1 ∷ []
+target_kind_spelling PointInTime = 2 ∷ []
+target_kind_spelling BaseAggregate = 3 ∷ []
+target_kind_spelling ChangeAggregate = 4 ∷ []
+target_kind_spelling (Ccd complete condensed) = 5 ∷ flag complete ++ flag condensed
+target_kind_spelling Replica = 6 ∷ []
+
+-- where a column comes from: 1 and an expression, 2 for the number of rows, 3 to 6 with a column's place
+abbrev pub source_spelling : ColumnFrom → List ℕ
+source_spelling (Plain e) = 1 ∷ expr_spelling e
+source_spelling Count = 2 ∷ []
+source_spelling (CountOf place) = 3 ∷ b16 place
+source_spelling (Sum place) = 4 ∷ b16 place
+source_spelling (Min place) = 5 ∷ b16 place
+source_spelling (Max place) = 6 ∷ b16 place
+
+-- the sources that have a spelling
+abbrev pub HasSourceSpelling : ColumnFrom → Type 0
+HasSourceSpelling (Plain e) = HasExprSpelling e
+HasSourceSpelling Count = Unit {0}
+HasSourceSpelling (CountOf place) = Is16 place
+HasSourceSpelling (Sum place) = Is16 place
+HasSourceSpelling (Min place) = Is16 place
+HasSourceSpelling (Max place) = Is16 place
+
+abbrev pub IsSource : ColumnFrom → Type 0
+IsSource (Plain e) = IsExpr e
+IsSource Count = Unit {0}
+IsSource (CountOf place) = Is16 place
+IsSource (Sum place) = Is16 place
+IsSource (Min place) = Is16 place
+IsSource (Max place) = Is16 place
+
+-- a column of a target: its name and its source
+abbrev pub target_column_spelling : TargetColumn → List ℕ
+target_column_spelling column = short_text column.name ++ source_spelling column.from
+
+-- the columns that have a spelling
+abbrev pub HasTargetColumnSpelling : TargetColumn → Type 0
+HasTargetColumnSpelling column = HasSourceSpelling column.from
+
+abbrev pub IsTargetColumn : TargetColumn → Type 0
+IsTargetColumn column = IsName column.name × IsSource column.from
+
+-- 0 for no predicate, or 1 and the predicate
+abbrev pub filter_spelling : Option Predicate → List ℕ
+filter_spelling None = 0 ∷ []
+filter_spelling (Some p) = 1 ∷ predicate_spelling p
+
+-- the filters that have a spelling
+abbrev pub HasFilterSpelling : Option Predicate → Type 0
+HasFilterSpelling filter = IfSome filter HasPredicateSpelling
+
+abbrev pub IsFilter : Option Predicate → Type 0
+IsFilter filter = IfSome filter IsPredicate
+
+-- a member: its source and target tables, the target's kind and columns, and which rows it takes
+abbrev pub member_spelling : Member → List ℕ
+member_spelling m = short_text m.source ++ short_text m.target ++ target_kind_spelling m.kind ++ list_spelling target_column_spelling m.columns ++ filter_spelling m.filter
+
+-- the members that have a spelling
+abbrev pub HasMemberSpelling : Member → Type 0
+HasMemberSpelling m = ListFits HasTargetColumnSpelling m.columns × HasFilterSpelling m.filter
+
+abbrev pub IsMember : Member → Type 0
+IsMember m = IsName m.source × IsName m.target × Any m.kind × ListFits IsTargetColumn m.columns × IsFilter m.filter
+
+-- ---- sets
+
+-- a set: its name, its servers, its two limits and its members
+abbrev pub set_def_spelling : SetDef → List ℕ
+set_def_spelling s = set_spelling s.id ++ short_text s.source ++ short_text s.target ++ b32 s.commit_count ++ b32 s.max_minutes ++ list_spelling member_spelling s.members
+
+-- the sets that have a spelling
+abbrev pub HasSetDefSpelling : SetDef → Type 0
+HasSetDefSpelling s = ListFits HasMemberSpelling s.members
+
+abbrev pub IsSetDef : SetDef → Type 0
+IsSetDef s = IsSet s.id × IsName s.source × IsName s.target × Is32 s.commit_count × Is32 s.max_minutes × ListFits IsMember s.members
+
+-- a set with its number at its source
+abbrev pub source_set_spelling : SourceSet → List ℕ
+source_set_spelling defined = b32 defined.number ++ set_def_spelling defined.def
+
+abbrev pub HasSourceSetSpelling : SourceSet → Type 0
+HasSourceSetSpelling defined = HasSetDefSpelling defined.def
+
+abbrev pub IsSourceSet : SourceSet → Type 0
+IsSourceSet defined = Is32 defined.number × IsSetDef defined.def
+
+-- a set with its number at its target
+abbrev pub target_set_spelling : TargetSet → List ℕ
+target_set_spelling defined = b32 defined.number ++ set_def_spelling defined.def
+
+abbrev pub HasTargetSetSpelling : TargetSet → Type 0
+HasTargetSetSpelling defined = HasSetDefSpelling defined.def
+
+abbrev pub IsTargetSet : TargetSet → Type 0
+IsTargetSet defined = Is32 defined.number × IsSetDef defined.def

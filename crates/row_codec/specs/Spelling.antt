@@ -1,0 +1,123 @@
+-- The spellings of numbers, flags, names, values, rows and keys.
+use Rattle.std.specs.Prelude.{ℕ, ℤ, pos, negsuc, Bool, true, false, ◌+◌, ◌-◌, ◌<◌, ◌^◌, ◌==◌, if◌then◌else◌, IsTrue, IfSome, List, [], ◌∷◌, ◌++◌, length, Option, Some, None}
+use Rattle.std.specs.List.{flat_map, AllByRecursion}
+use Rattle.std.specs.Int.{w16, w32, w64, to_be_bytes}
+use Rattle.repl_types.specs.Name.{is_name}
+use Rattle.repl_types.specs.ValueText.{IsValue}
+use Rattle.repl_types.specs.declared.record.SetId.{SetId}
+use Rattle.repl_types.specs.declared.value.Value.{Value}
+use Rattle.repl_types.specs.declared.value.Value.TheVariants.{Null, Int, Text}
+
+-- nothing is asked
+abbrev pub Any : {X : Type 0} → X → Type 0
+Any x = Unit {0}
+
+-- ---- numbers and flags
+
+-- a number of one, two, four or eight bytes, the highest first
+abbrev pub b8 : ℕ → List ℕ
+b8 n = n ∷ []
+
+unfoldable pub b16 : ℕ → List ℕ
+b16 n = to_be_bytes w16 n
+
+unfoldable pub b32 : ℕ → List ℕ
+b32 n = to_be_bytes w32 n
+
+unfoldable pub b64 : ℕ → List ℕ
+b64 n = to_be_bytes w64 n
+
+-- the numbers that have so many bytes
+abbrev pub Is8 : ℕ → Type 0
+Is8 n = n < 2 ^ 8
+
+abbrev pub Is16 : ℕ → Type 0
+Is16 n = n < 2 ^ 16
+
+abbrev pub Is32 : ℕ → Type 0
+Is32 n = n < 2 ^ 32
+
+abbrev pub Is64 : ℕ → Type 0
+Is64 n = n < 2 ^ 64
+
+-- no is 0, yes is 1
+abbrev pub flag : Bool → List ℕ
+flag false = 0 ∷ []
+flag true = 1 ∷ []
+
+-- ---- names
+
+abbrev pub IsName : List ℕ → Type 0
+IsName name = IsTrue (is_name name)
+
+-- a byte of length, and the bytes
+abbrev pub short_text : List ℕ → List ℕ
+short_text text = length text ∷ text
+
+-- a set's name: its qualifier and its name
+abbrev pub set_spelling : SetId → List ℕ
+set_spelling set = short_text set.qual ++ short_text set.name
+
+abbrev pub IsSet : SetId → Type 0
+IsSet set = IsName set.qual × IsName set.name
+
+-- the set that made a unit: 0 for none, or 1 and the set's name
+abbrev pub origin : Option SetId → List ℕ
+origin None = 0 ∷ []
+origin (Some set) = 1 ∷ set_spelling set
+
+abbrev pub IsOrigin : Option SetId → Type 0
+IsOrigin set = IfSome set IsSet
+
+-- ---- values
+
+-- a byte of a text: a zero is followed by 255
+abbrev pub marked_byte : ℕ → List ℕ
+marked_byte b = if b == 0 then 0 ∷ 255 ∷ [] else b ∷ []
+
+-- the bytes of a text, so that two zeros end it
+abbrev pub zeros_marked : List ℕ → List ℕ
+zeros_marked [] = []
+zeros_marked (b ∷ bs) = marked_byte b ++ zeros_marked bs
+
+-- an integer plus 2 ^ 63
+abbrev pub shifted : ℤ → ℕ
+shifted (pos n) = n + 2 ^ 63
+shifted (negsuc n) = 2 ^ 63 - 1 - n
+
+-- 0 for NULL; 1 and eight bytes for an integer; 2, the bytes and two zeros for a text
+abbrev pub value_spelling : Value → List ℕ
+value_spelling Null = 0 ∷ []
+value_spelling (Int n) = 1 ∷ b64 (shifted n)
+value_spelling (Text t) = 2 ∷ zeros_marked t ++ 0 ∷ 0 ∷ []
+
+-- a text has at most 1,000 bytes of UTF-8
+abbrev pub IsText : List ℕ → Type 0
+IsText text = IsValue (Text text)
+
+-- ---- lists, rows and keys
+
+-- two bytes of count, and the elements
+abbrev pub list_spelling : {X : Type 0} → (X → List ℕ) → List X → List ℕ
+list_spelling spelling xs = b16 (length xs) ++ flat_map spelling xs
+
+-- the lists whose count has two bytes
+abbrev pub IsCounted : {X : Type 0} → List X → Type 0
+IsCounted xs = length xs < 2 ^ 16
+
+-- such lists, of elements that meet what is asked of them
+abbrev pub ListFits : {X : Type 0} → (X → Type 0) → List X → Type 0
+ListFits fits xs = IsCounted xs × AllByRecursion fits xs
+
+abbrev pub row_spelling : List Value → List ℕ
+row_spelling = list_spelling value_spelling
+
+abbrev pub IsRow : List Value → Type 0
+IsRow = ListFits IsValue
+
+-- the values of a key, without a count
+abbrev pub key_spelling : List Value → List ℕ
+key_spelling = flat_map value_spelling
+
+abbrev pub IsKey : List Value → Type 0
+IsKey = AllByRecursion IsValue

@@ -1,0 +1,36 @@
+//! What holds of the spellings that clauses cite. The functions do nothing: their contracts say it.
+
+ghost use Rattle.std.specs.Prelude.{◌≡◌, ◌++◌, ◌∷◌, [], ℕ, List, length, pos};
+ghost use Rattle.std.specs.List.{sum_by};
+ghost use Rattle.repl_types.specs.ValueText.{IsValue};
+ghost use Rattle.repl_types.specs.Value.{Values, value_cmp, key_cmp};
+ghost use Rattle.repl_types.specs.declared.value.Value.{Value};
+ghost use Rattle.repl_types.specs.declared.value.Value.TheVariants.{Null, Int, Text};
+ghost use Rattle.repl_model.specs.Tables.{images};
+ghost use Rattle.repl_model.specs.Applicable.{spelled_len};
+ghost use Rattle.row_codec.specs.Spelling.{IsKey, IsRow, value_spelling, row_spelling, key_spelling};
+ghost use Rattle.row_codec.specs.Order.{bytes_cmp};
+
+/// Byte order of spelled keys is the order of keys: column by column, NULL first, then the integers by
+/// number, then the texts by bytes. So a map that is kept by bytes is one that is kept by keys in order.
+/// Only equal keys have one spelling.
+pub fn keys_in_byte_order()
+    ensures order { (x y : Values) → IsKey x → IsKey y → bytes_cmp (key_spelling x) (key_spelling y) ≡ key_cmp x y }
+    ensures of_rows { (places : List ℕ) (x y : Values) → IsKey (images places x) → IsKey (images places y) → bytes_cmp (key_spelling (images places x)) (key_spelling (images places y)) ≡ key_cmp (images places x) (images places y) }
+    ensures one { (x y : Values) → IsKey x → IsKey y → key_spelling x ≡ key_spelling y → x ≡ y }
+{}
+
+/// How many bytes a spelled key has, as the rule on the length of keys counts them.
+pub fn length_of_a_key()
+    ensures { (key : Values) → length (key_spelling key) ≡ sum_by spelled_len key }
+{}
+
+/// Rows of one spelling are equal.
+pub fn one_spelling_of_a_row()
+    ensures { (x y : Values) → IsRow x → IsRow y → row_spelling x ≡ row_spelling y → x ≡ y }
+{}
+
+/// The row of a log record `insert 1 orders 1 'pen' 20`, worked out by hand.
+pub fn worked_row()
+    ensures { row_spelling (Int (pos 1) ∷ Text (112 ∷ 101 ∷ 110 ∷ []) ∷ Int (pos 20) ∷ []) ≡ 0 ∷ 3 ∷ 1 ∷ 128 ∷ 0 ∷ 0 ∷ 0 ∷ 0 ∷ 0 ∷ 0 ∷ 1 ∷ 2 ∷ 112 ∷ 101 ∷ 110 ∷ 0 ∷ 0 ∷ 1 ∷ 128 ∷ 0 ∷ 0 ∷ 0 ∷ 0 ∷ 0 ∷ 0 ∷ 20 ∷ [] }
+{}

@@ -1,0 +1,149 @@
+//! Records of a log.
+
+ghost use Rattle.repl_types.specs.declared.status.Area.TheVariants as areas;
+ghost use Rattle.std.specs.Prelude.{◌≡◌, ◌++◌, OnOk};
+ghost use Rattle.row_codec.specs.LogRecords.{change_spelling, IsChange, HasChangeSpelling, log_spelling, IsLogRecord, HasLogSpelling};
+ghost use Rattle.row_codec.specs.LogRecordLaws.{one_log_record};
+
+use crate::part::Part;
+use crate::parts::{take_four, take_three, take_two};
+use crate::stored::Stored;
+use crate::take_error::TakeError;
+use repl_types::{Area, Change, LogRecord, Name, Row, SetId};
+use std::alloc::{AllocError, Global};
+
+impl Part for LogRecord {
+    ghost fits = { IsLogRecord };
+
+    ghost has_spelling = { HasLogSpelling };
+
+    ghost spelling = { log_spelling };
+
+    ghost one = { one_log_record };
+
+    fn put_part(&self, out: &mut Vec<u8>) -> Result<(), AllocError> {
+        match self {
+            LogRecord::Change { tx, change } => put_change(*tx, change, out),
+            LogRecord::Commit {
+                tx,
+                time,
+                authid,
+                origin,
+            } => {
+                out.push(0x14)?;
+                tx.put_part(out)?;
+                time.put_part(out)?;
+                authid.put_part(out)?;
+                origin.put_part(out)
+            }
+            LogRecord::Abort { tx } => {
+                out.push(0x15)?;
+                tx.put_part(out)
+            }
+        }
+    }
+
+    fn take_part(alloc: Global, bytes: &[u8]) -> Result<(LogRecord, &[u8]), TakeError> {
+        match bytes {
+            [0x11, rest @ ..] => {
+                let (tx, table, row, rest) = take_three::<u32, Name, Row>(alloc, rest)?;
+                let change = Change::Insert { table, row };
+                Ok((LogRecord::Change { tx, change }, rest))
+            }
+            [0x12, rest @ ..] => {
+                let (tx, table, before, after, rest) = take_four::<u32, Name, Row, Row>(
+                    alloc, rest,
+                )?;
+                let change = Change::Update {
+                    table,
+                    before,
+                    after,
+                };
+                Ok((LogRecord::Change { tx, change }, rest))
+            }
+            [0x13, rest @ ..] => {
+                let (tx, table, row, rest) = take_three::<u32, Name, Row>(alloc, rest)?;
+                let change = Change::Delete { table, row };
+                Ok((LogRecord::Change { tx, change }, rest))
+            }
+            [0x14, rest @ ..] => {
+                let (tx, time, authid, origin, rest) = take_four::<u32, u64, Name, Option<SetId>>(
+                    alloc, rest,
+                )?;
+                let commit = LogRecord::Commit {
+                    tx,
+                    time,
+                    authid,
+                    origin,
+                };
+                Ok((commit, rest))
+            }
+            [0x15, rest @ ..] => {
+                let (tx, rest) = u32::take_part(alloc, rest)?;
+                Ok((LogRecord::Abort { tx }, rest))
+            }
+            [0x16, rest @ ..] => {
+                let (tx, table, rest) = take_two::<u32, Name>(alloc, rest)?;
+                let change = Change::Start { table };
+                Ok((LogRecord::Change { tx, change }, rest))
+            }
+            [0x17, rest @ ..] => {
+                let (tx, table, rest) = take_two::<u32, Name>(alloc, rest)?;
+                let change = Change::Stop { table };
+                Ok((LogRecord::Change { tx, change }, rest))
+            }
+            _ => Err(TakeError::Spelling),
+        }
+    }
+}
+
+impl Stored for LogRecord {
+    type Key = u64;
+
+    const AREA: Area = Area::Log;
+
+    ghost AREA = { areas.Log };
+}
+
+/// Appends the spelling of a change of a transaction.
+fn put_change(tx: u32, change: &Change, out: &mut Vec<u8>) -> Result<(), AllocError>
+    requires { HasChangeSpelling change.now }
+    ensures ok { OnOk result (out.new.items ≡ out.old.items ++ change_spelling tx change.now) }
+    ensures fits { OnOk result (IsChange tx change.now) }
+{
+    match change {
+        Change::Insert { table, row } => {
+            out.push(0x11)?;
+            tx.put_part(out)?;
+            table.put_part(out)?;
+            row.put_part(out)
+        }
+        Change::Update {
+            table,
+            before,
+            after,
+        } => {
+            out.push(0x12)?;
+            tx.put_part(out)?;
+            table.put_part(out)?;
+            before.put_part(out)?;
+            after.put_part(out)
+        }
+        Change::Delete { table, row } => {
+            out.push(0x13)?;
+            tx.put_part(out)?;
+            table.put_part(out)?;
+            row.put_part(out)
+        }
+        Change::Start { table } => {
+            out.push(0x16)?;
+            tx.put_part(out)?;
+            table.put_part(out)
+        }
+        Change::Stop { table } => {
+            out.push(0x17)?;
+            tx.put_part(out)?;
+            table.put_part(out)
+        }
+    }
+}

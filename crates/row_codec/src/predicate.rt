@@ -1,0 +1,232 @@
+//! Predicates.
+
+ghost use Rattle.row_codec.specs.Spelling.{Any};
+ghost use Rattle.row_codec.specs.Predicates.{op_spelling, operand_spelling, IsOperand, HasOperandSpelling, predicate_node_spelling, IsPredicateNode, HasPredicateNodeSpelling, predicate_top, predicate_nodes, predicate_spelling, IsPredicate, HasPredicateSpelling};
+ghost use Rattle.row_codec.specs.PredicateLaws.{one_op, one_operand, one_predicate_node, filled_predicate_node, predicate_forest, predicate_first, one_predicate};
+
+use crate::nested::{Nested, Root, put_nested, take_nested};
+use crate::part::Part;
+use crate::parts::take_three;
+use crate::take_error::TakeError;
+use repl_records::{Boxed, CompareOp, Operand, Predicate};
+use repl_types::Value;
+use std::alloc::{AllocError, Global};
+
+impl Part for CompareOp {
+    ghost fits = { Any };
+
+    ghost has_spelling = { Any };
+
+    ghost spelling = { op_spelling };
+
+    ghost one = { one_op };
+
+    fn put_part(&self, out: &mut Vec<u8>) -> Result<(), AllocError> {
+        let number = match self {
+            CompareOp::Eq => 1,
+            CompareOp::Ne => 2,
+            CompareOp::Lt => 3,
+            CompareOp::Le => 4,
+            CompareOp::Gt => 5,
+            CompareOp::Ge => 6,
+        };
+        Ok(out.push(number)?)
+    }
+
+    fn take_part(_: Global, bytes: &[u8]) -> Result<(CompareOp, &[u8]), TakeError> {
+        match bytes {
+            [1, rest @ ..] => Ok((CompareOp::Eq, rest)),
+            [2, rest @ ..] => Ok((CompareOp::Ne, rest)),
+            [3, rest @ ..] => Ok((CompareOp::Lt, rest)),
+            [4, rest @ ..] => Ok((CompareOp::Le, rest)),
+            [5, rest @ ..] => Ok((CompareOp::Gt, rest)),
+            [6, rest @ ..] => Ok((CompareOp::Ge, rest)),
+            _ => Err(TakeError::Spelling),
+        }
+    }
+}
+
+impl Part for Operand {
+    ghost fits = { IsOperand };
+
+    ghost has_spelling = { HasOperandSpelling };
+
+    ghost spelling = { operand_spelling };
+
+    ghost one = { one_operand };
+
+    fn put_part(&self, out: &mut Vec<u8>) -> Result<(), AllocError> {
+        match self {
+            Operand::Column(place) => {
+                out.push(0x30)?;
+                (*place as u16).put_part(out)
+            }
+            Operand::Value(value) => {
+                out.push(0x31)?;
+                value.put_part(out)
+            }
+        }
+    }
+
+    fn take_part(alloc: Global, bytes: &[u8]) -> Result<(Operand, &[u8]), TakeError> {
+        match bytes {
+            [0x30, rest @ ..] => {
+                let (place, rest) = u16::take_part(alloc, rest)?;
+                Ok((Operand::Column(u32::from(place)), rest))
+            }
+            [0x31, rest @ ..] => {
+                let (value, rest) = Value::take_part(alloc, rest)?;
+                match value {
+                    Value::Null => Err(TakeError::Spelling),
+                    _ => Ok((Operand::Value(value), rest)),
+                }
+            }
+            _ => Err(TakeError::Spelling),
+        }
+    }
+}
+
+/// A predicate that has no other below it.
+#[derive(Drop)]
+pub(crate) enum PredicateLeaf {
+    Compare {
+        left: Operand,
+        op: CompareOp,
+        right: Operand,
+    },
+    IsNull(u32),
+    IsNotNull(u32),
+}
+
+/// What joins two predicates.
+#[derive(Drop)]
+pub(crate) enum PredicateJoint {
+    And,
+    Or,
+}
+
+impl Nested for Predicate {
+    type Leaf = PredicateLeaf;
+
+    type Joint = PredicateJoint;
+
+    ghost node_fits = { IsPredicateNode };
+
+    ghost has_node_spelling = { HasPredicateNodeSpelling };
+
+    ghost node_spelling = { predicate_node_spelling };
+
+    ghost top = { predicate_top };
+
+    ghost nodes = { predicate_nodes };
+
+    ghost one_node = { one_predicate_node };
+
+    ghost filled = { filled_predicate_node };
+
+    ghost forest = { predicate_forest };
+
+    ghost first = { predicate_first };
+
+    fn take_root(
+        alloc: Global,
+        bytes: &[u8],
+    ) -> Result<(Root<PredicateLeaf, PredicateJoint>, &[u8]), TakeError> {
+        match bytes {
+            [0x20, rest @ ..] => {
+                let (left, op, right, rest) = take_three::<Operand, CompareOp, Operand>(
+                    alloc, rest,
+                )?;
+                let compare = PredicateLeaf::Compare { left, op, right };
+                Ok((Root::Single(compare), rest))
+            }
+            [0x21, rest @ ..] => {
+                let (place, rest) = u16::take_part(alloc, rest)?;
+                Ok((Root::Single(PredicateLeaf::IsNull(u32::from(place))), rest))
+            }
+            [0x22, rest @ ..] => {
+                let (place, rest) = u16::take_part(alloc, rest)?;
+                Ok((
+                    Root::Single(PredicateLeaf::IsNotNull(u32::from(place))),
+                    rest,
+                ))
+            }
+            [0x23, rest @ ..] => Ok((Root::Joined(PredicateJoint::And), rest)),
+            [0x24, rest @ ..] => Ok((Root::Joined(PredicateJoint::Or), rest)),
+            _ => Err(TakeError::Spelling),
+        }
+    }
+
+    #[tactic(auto, using(crate::specs::PredicateLaws::predicate_views))]
+    fn put_root(&self, out: &mut Vec<u8>) -> Result<Option<(&Predicate, &Predicate)>, AllocError> {
+        match self {
+            Predicate::Compare { left, op, right } => {
+                out.push(0x20)?;
+                left.put_part(out)?;
+                op.put_part(out)?;
+                right.put_part(out)?;
+                Ok(None)
+            }
+            Predicate::IsNull(place) => {
+                out.push(0x21)?;
+                (*place as u16).put_part(out)?;
+                Ok(None)
+            }
+            Predicate::IsNotNull(place) => {
+                out.push(0x22)?;
+                (*place as u16).put_part(out)?;
+                Ok(None)
+            }
+            Predicate::And(left, right) => {
+                out.push(0x23)?;
+                Ok(Some((left.get(), right.get())))
+            }
+            Predicate::Or(left, right) => {
+                out.push(0x24)?;
+                Ok(Some((left.get(), right.get())))
+            }
+        }
+    }
+
+    #[tactic(auto, using(crate::specs::PredicateLaws::predicate_views))]
+    fn leaf(leaf: PredicateLeaf) -> Predicate {
+        match leaf {
+            PredicateLeaf::Compare { left, op, right } => Predicate::Compare { left, op, right },
+            PredicateLeaf::IsNull(place) => Predicate::IsNull(place),
+            PredicateLeaf::IsNotNull(place) => Predicate::IsNotNull(place),
+        }
+    }
+
+    #[tactic(auto, using(crate::specs::PredicateLaws::predicate_views))]
+    fn join(
+        alloc: Global,
+        joint: PredicateJoint,
+        left: Predicate,
+        right: Predicate,
+    ) -> Result<Predicate, AllocError> {
+        let left = Boxed::new(alloc, left)?;
+        let right = Boxed::new(alloc, right)?;
+        Ok(match joint {
+            PredicateJoint::And => Predicate::And(left, right),
+            PredicateJoint::Or => Predicate::Or(left, right),
+        })
+    }
+}
+
+impl Part for Predicate {
+    ghost fits = { IsPredicate };
+
+    ghost has_spelling = { HasPredicateSpelling };
+
+    ghost spelling = { predicate_spelling };
+
+    ghost one = { one_predicate };
+
+    fn put_part(&self, out: &mut Vec<u8>) -> Result<(), AllocError> {
+        put_nested::<Predicate>(self, out)
+    }
+
+    fn take_part(alloc: Global, bytes: &[u8]) -> Result<(Predicate, &[u8]), TakeError> {
+        take_nested::<Predicate>(alloc, bytes)
+    }
+}

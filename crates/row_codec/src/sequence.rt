@@ -1,0 +1,31 @@
+//! Places in a log.
+
+ghost use Rattle.row_codec.specs.Spelling.{Any};
+ghost use Rattle.row_codec.specs.RecordKeys.{sequence_spelling, IsSequence};
+ghost use Rattle.row_codec.specs.KeyOrder.{one_sequence};
+
+use crate::part::Part;
+use crate::parts::take_two;
+use crate::take_error::TakeError;
+use repl_records::Sequence;
+use std::alloc::{AllocError, Global};
+
+impl Part for Sequence {
+    ghost fits = { IsSequence };
+
+    ghost has_spelling = { Any };
+
+    ghost spelling = { sequence_spelling };
+
+    ghost one = { one_sequence };
+
+    fn put_part(&self, out: &mut Vec<u8>) -> Result<(), AllocError> {
+        self.position.put_part(out)?;
+        self.sub.put_part(out)
+    }
+
+    fn take_part(alloc: Global, bytes: &[u8]) -> Result<(Sequence, &[u8]), TakeError> {
+        let (position, sub, rest) = take_two(alloc, bytes)?;
+        Ok((Sequence { position, sub }, rest))
+    }
+}
