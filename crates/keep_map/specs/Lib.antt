@@ -1,2 +1,4 @@
+pub mod Keepers
 pub mod Planned
+pub mod Stored
 pub mod Streams

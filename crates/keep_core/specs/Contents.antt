@@ -1,0 +1,70 @@
+-- The contents of a keeper: of each area and table what stands at each key.
+use Rattle.std.specs.Prelude.{◌≡◌, ℕ, Bool, List, Option, Some, None, if◌then◌else◌, ◌&&◌, ◌==◌}
+use Rattle.std.specs.Ordering.{is_eq, nat_cmp}
+use Rattle.std.specs.Cmp.Lexicographic.{slice_cmp}
+use Rattle.std.specs.declared.cmp.Ordering.{Ordering}
+use Rattle.std.specs.declared.cmp.Ordering.TheVariants.{Less}
+use Rattle.repl_types.specs.declared.status.Area.{Area}
+use Rattle.repl_types.specs.declared.status.Area.TheVariants as areas
+
+-- the value that a table has at each key
+abbrev pub Table : Type 0
+Table = List ℕ → Option (List ℕ)
+
+-- the tables of each area, by number
+abbrev pub Contents : Type 0
+Contents = Area → ℕ → Table
+
+-- keys are in byte order
+abbrev pub bytes_cmp : List ℕ → List ℕ → Ordering
+bytes_cmp = slice_cmp nat_cmp
+
+-- two keys are one
+abbrev pub same_key : List ℕ → List ℕ → Bool
+same_key k q = is_eq (bytes_cmp k q)
+
+-- areas by number
+abbrev pub area_number : Area → ℕ
+area_number areas.Log = 1
+area_number areas.Source = 2
+area_number areas.Inflight = 3
+area_number areas.Head = 4
+area_number areas.Defs = 5
+area_number areas.Cd = 6
+area_number areas.Uow = 7
+area_number areas.Capture = 8
+area_number areas.Prune = 9
+area_number areas.Spill = 10
+area_number areas.Target = 11
+area_number areas.SetState = 12
+area_number areas.Trail = 13
+
+-- two areas are one
+abbrev pub same_area : Area → Area → Bool
+same_area a b = area_number a == area_number b
+
+-- nothing stands anywhere
+abbrev pub nothing : Contents
+nothing a t k = None
+
+-- the table with this at one key
+abbrev pub set_key : Table → List ℕ → Option (List ℕ) → Table
+set_key t k v q = if same_key k q then v else t q
+
+-- the contents with this table in the place of one
+abbrev pub with_table : Contents → Area → ℕ → Table → Contents
+with_table c a t table b u = if same_area a b && (t == u) then table else c b u
+
+-- the contents with this at one key of one table
+abbrev pub put_at : Contents → Area → ℕ → List ℕ → Option (List ℕ) → Contents
+put_at c a t k v = with_table c a t (set_key (c a t) k v)
+
+-- the least key above `after` is this, with this value
+pub record IsNext (t : Table) (after key value : List ℕ) : Type 0 where
+  pub above : bytes_cmp after key ≡ Less
+  pub has : t key ≡ Some value
+  pub least : (q : List ℕ) → bytes_cmp after q ≡ Less → bytes_cmp q key ≡ Less → t q ≡ None
+
+-- no key is above `after`
+abbrev pub IsLast : Table → List ℕ → Type 0
+IsLast t after = (q : List ℕ) → bytes_cmp after q ≡ Less → t q ≡ None

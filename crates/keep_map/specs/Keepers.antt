@@ -1,0 +1,33 @@
+-- What clauses see of a keeper in memory.
+use Rattle.std.specs.Prelude.{◌≡◌, ℕ, if◌then◌else◌, [], Some, None, slice_index}
+use Rattle.repl_types.specs.declared.status.Area.{Area}
+use Rattle.keep_core.specs.Contents.{area_number, nothing}
+use Rattle.keep_core.specs.Kept.{Kept}
+use Rattle.keep_map.specs.declared.counts.Counts.{Counts}
+use Rattle.keep_map.specs.declared.map_keeper.MapKeeper.{MapKeeper}
+use Rattle.keep_map.specs.Planned.{after_call}
+use Rattle.keep_map.specs.Stored.{seen_of, held_of}
+
+-- the count of each area
+abbrev pub count_of : Counts → Area → ℕ
+count_of c a = slice_index c.each (area_number a)
+
+-- a keeper in memory tells what it holds and what its open transaction sees
+abbrev pub kept_of : MapKeeper → Kept
+kept_of m = record {
+  held = Some (held_of m.rows.map);
+  open_work = if m.is_open then Some (Some (seen_of m.rows.map)) else None;
+  faults = m.plan.faults;
+  reads = count_of m.reads;
+  writes = count_of m.writes;
+}
+
+-- a keeper that holds nothing, with no transaction open and nothing counted
+abbrev pub kept_empty : Kept
+kept_empty = record { held = Some nothing; open_work = None; faults = 0; reads = λ _. 0; writes = λ _. 0 }
+
+-- one more call was counted, and what else was asked of the keeper stays
+pub record IsCounted (old new : MapKeeper) : Type 0 where
+  pub plan : new.plan ≡ after_call old.plan
+  pub unplanned : old.plan.failing ≡ [] → new.plan.faults ≡ old.plan.faults
+  pub doubt : new.doubt_takes ≡ old.doubt_takes

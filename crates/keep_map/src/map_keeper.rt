@@ -1,0 +1,279 @@
+//! A keeper that holds its contents in memory.
+
+ghost use Rattle.std.specs.Prelude.{◌≡◌, ◌≤◌, false, []};
+ghost use Rattle.keep_map.specs.Planned.{fails_next, after_call};
+
+use crate::counts::Counts;
+use crate::plan::Plan;
+use crate::rows::Rows;
+use keep_core::{KeepError, Keeper};
+use repl_types::{Area, List};
+use std::alloc::Global;
+
+#[cfg(test)]
+mod tests;
+
+/// Contents in memory, with a plan of the calls that fail, and a count of the reads and of the writes of
+/// each area. Every call but `rollback` counts for the plan, whatever it answers.
+///
+/// `begin`, `commit` and `rollback` take no memory. Where the others find none they answer `Memory`.
+#[derive(Debug, Drop)]
+pub struct MapKeeper {
+    alloc: Global,
+    rows: Rows,
+    is_open: bool,
+    plan: Plan,
+    doubt_takes: bool,
+    reads: Counts,
+    writes: Counts,
+    ghost idle: { is_open ≡ false → rows.touched.items ≡ [] },
+}
+
+impl MapKeeper {
+    ghost use Rattle.std.specs.Prelude.{◌≡◌, false, IsTrue, if◌then◌else◌};
+    ghost use Rattle.keep_core.specs.Kept.{IsOpen, closed, committed};
+    ghost use Rattle.keep_map.specs.Planned.{nothing_planned, planned_anew};
+    ghost use Rattle.keep_map.specs.Keepers.{kept_of, kept_empty};
+
+    /// Nothing is held, no transaction is open and no call fails. It takes no memory.
+    pub fn new(alloc: Global) -> MapKeeper
+        ensures kept { kept_of result ≡ kept_empty }
+        ensures plan { result.plan ≡ nothing_planned }
+        ensures doubt { result.doubt_takes ≡ false }
+    {
+        MapKeeper {
+            alloc,
+            rows: Rows::new(alloc),
+            is_open: false,
+            plan: Plan::new(alloc),
+            doubt_takes: false,
+            reads: Counts::new(),
+            writes: Counts::new(),
+        }
+    }
+
+    /// The calls of `begin`, `get`, `next`, `put`, `remove` and `commit` from now on fail at these numbers,
+    /// counted from 1. It takes no memory.
+    pub fn fail_at(&mut self, calls: List<u64>)
+        ensures kept { kept_of self.new ≡ kept_of self.old }
+        ensures plan { self.new.plan ≡ planned_anew self.old.plan calls }
+        ensures doubt { self.new.doubt_takes ≡ self.old.doubt_takes }
+    {
+        self.plan.fail_at(calls);
+    }
+
+    /// Whether a commit that fails from now on takes place all the same. At first none does.
+    pub fn doubt_new(&mut self, taken: bool)
+        ensures kept { kept_of self.new ≡ kept_of self.old }
+        ensures plan { self.new.plan ≡ self.old.plan }
+        ensures doubt { self.new.doubt_takes ≡ taken }
+    {
+        self.doubt_takes = taken;
+    }
+
+    /// How often an area was read, by `get` and by `next`.
+    pub fn read_count(&self, area: Area) -> u64
+        ensures { result ≡ (kept_of self.now).reads area }
+    {
+        self.reads.get(area)
+    }
+
+    /// How often an area was written, by `put` and by `remove`.
+    pub fn write_count(&self, area: Area) -> u64
+        ensures { result ≡ (kept_of self.now).writes area }
+    {
+        self.writes.get(area)
+    }
+
+    /// No transaction is open. What is held is what it saw where it is kept, else what was held before.
+    fn close(&mut self, keep: bool)
+        requires { IsTrue keep → IsOpen (kept_of self.old) }
+        ensures kept { kept_of self.new ≡ closed (if keep then committed (kept_of self.old) else kept_of self.old) (kept_of self.old).faults }
+        ensures plan { self.new.plan ≡ self.old.plan }
+        ensures doubt { self.new.doubt_takes ≡ self.old.doubt_takes }
+    {
+        self.rows.settle(keep);
+        self.is_open = false;
+    }
+}
+
+impl Keeper for MapKeeper {
+    ghost use Rattle.std.specs.Prelude.{◌≡◌, ◌≢◌, ◌↔◌, ◌<◌, ◌≤◌, length, IsTrue, IfOk, OnOk, IfErr, IfSome, if◌then◌else◌};
+    ghost use Rattle.keep_core.specs.Kept.{IsOpen, IsClosed, opened, closed, committed, after_read, after_write, after_put, after_remove, seen, Refuses, InDoubt, Found, NextIs, WasThere, GivesValue, GivesNext};
+    ghost use Rattle.keep_map.specs.Planned.{fails_next};
+    ghost use Rattle.keep_map.specs.Keepers.{kept_of, IsCounted};
+
+    ghost kept = { kept_of };
+
+    /// It takes no memory.
+    fn begin(&mut self) -> Result<(), KeepError>
+        requires { IsClosed (kept_of self.old) }
+        ensures planned { (result ≡ Err KeepError.Failed) ↔ IsTrue (fails_next self.old.plan) }
+        ensures memory { result ≢ Err KeepError.Memory }
+        ensures counted { IsCounted self.old self.new }
+
+        // What every keeper ensures.
+        ensures ok { OnOk result (kept_of self.new ≡ opened (kept_of self.old)) }
+        ensures err { IfErr result (Refuses (kept_of self.old) (kept_of self.new)) }
+    {
+        if call_fails(&mut self.plan) {
+            return Err(KeepError::Failed);
+        }
+        self.is_open = true;
+        Ok(())
+    }
+
+    fn get(
+        &mut self,
+        area: Area,
+        table: u32,
+        key: &[u8],
+        out: &mut Vec<u8>,
+    ) -> Result<bool, KeepError>
+        ensures planned { (result ≡ Err KeepError.Failed) ↔ IsTrue (fails_next self.old.plan) }
+        ensures counted { IsCounted self.old self.new }
+
+        // What every keeper ensures.
+        ensures ok { OnOk result (kept_of self.new ≡ after_read (kept_of self.old) area) }
+        ensures found { IfOk result (λ found. IfSome (seen (kept_of self.old)) (Found area table key.now found out.new.items)) }
+        ensures gives { IfOk result (λ found. GivesValue found out.new.items) }
+        ensures err { IfErr result (Refuses (after_read (kept_of self.old) area) (kept_of self.new)) }
+    {
+        self.reads.bump(area);
+        if call_fails(&mut self.plan) {
+            self.close(false);
+            return Err(KeepError::Failed);
+        }
+        match self.rows.get(self.alloc, area, table, key, out) {
+            Ok(found) => Ok(found),
+            Err(_) => {
+                self.close(false);
+                Err(KeepError::Memory)
+            }
+        }
+    }
+
+    fn next(
+        &mut self,
+        area: Area,
+        table: u32,
+        after: &[u8],
+        key: &mut Vec<u8>,
+        out: &mut Vec<u8>,
+    ) -> Result<bool, KeepError>
+        ensures planned { (result ≡ Err KeepError.Failed) ↔ IsTrue (fails_next self.old.plan) }
+        ensures counted { IsCounted self.old self.new }
+
+        // What every keeper ensures.
+        ensures ok { OnOk result (kept_of self.new ≡ after_read (kept_of self.old) area) }
+        ensures found { IfOk result (λ found. IfSome (seen (kept_of self.old)) (NextIs area table after.now found key.new.items out.new.items)) }
+        ensures gives { IfOk result (λ found. GivesNext after.now found key.new.items out.new.items) }
+        ensures err { IfErr result (Refuses (after_read (kept_of self.old) area) (kept_of self.new)) }
+    {
+        self.reads.bump(area);
+        if call_fails(&mut self.plan) {
+            self.close(false);
+            return Err(KeepError::Failed);
+        }
+        match self.rows.next(self.alloc, area, table, after, key, out) {
+            Ok(found) => Ok(found),
+            Err(_) => {
+                self.close(false);
+                Err(KeepError::Memory)
+            }
+        }
+    }
+
+    fn put(&mut self, area: Area, table: u32, key: &[u8], value: &[u8]) -> Result<(), KeepError>
+        requires open { IsOpen (kept_of self.old) }
+        requires some { 0 < length key.now }
+        requires short { length key.now ≤ 1024 }
+        requires value { length value.now ≤ 262144 }
+        ensures planned { (result ≡ Err KeepError.Failed) ↔ IsTrue (fails_next self.old.plan) }
+        ensures counted { IsCounted self.old self.new }
+
+        // What every keeper ensures.
+        ensures ok { OnOk result (kept_of self.new ≡ after_put (kept_of self.old) area table key.now value.now) }
+        ensures err { IfErr result (Refuses (after_write (kept_of self.old) area) (kept_of self.new)) }
+    {
+        self.writes.bump(area);
+        if call_fails(&mut self.plan) {
+            self.close(false);
+            return Err(KeepError::Failed);
+        }
+        match self.rows.put(self.alloc, area, table, key, value) {
+            Ok(()) => Ok(()),
+            Err(_) => {
+                self.close(false);
+                Err(KeepError::Memory)
+            }
+        }
+    }
+
+    fn remove(&mut self, area: Area, table: u32, key: &[u8]) -> Result<bool, KeepError>
+        requires { IsOpen (kept_of self.old) }
+        ensures planned { (result ≡ Err KeepError.Failed) ↔ IsTrue (fails_next self.old.plan) }
+        ensures counted { IsCounted self.old self.new }
+
+        // What every keeper ensures.
+        ensures ok { OnOk result (kept_of self.new ≡ after_remove (kept_of self.old) area table key.now) }
+        ensures found { IfOk result (λ found. IfSome (seen (kept_of self.old)) (WasThere area table key.now found)) }
+        ensures err { IfErr result (Refuses (after_write (kept_of self.old) area) (kept_of self.new)) }
+    {
+        self.writes.bump(area);
+        if call_fails(&mut self.plan) {
+            self.close(false);
+            return Err(KeepError::Failed);
+        }
+        match self.rows.remove(self.alloc, area, table, key) {
+            Ok(found) => Ok(found),
+            Err(_) => {
+                self.close(false);
+                Err(KeepError::Memory)
+            }
+        }
+    }
+
+    /// It takes no memory, and its time goes by what the transaction changed. Where it fails it takes
+    /// place all the same if `doubt_new` last said so.
+    fn commit(&mut self) -> Result<(), KeepError>
+        requires { IsOpen (kept_of self.old) }
+        ensures planned { (result ≡ Err KeepError.Failed) ↔ IsTrue (fails_next self.old.plan) }
+        ensures memory { result ≢ Err KeepError.Memory }
+        ensures counted { IsCounted self.old self.new }
+        ensures doubt { result ≡ Err KeepError.Failed → kept_of self.new ≡ closed (if self.old.doubt_takes then committed (kept_of self.old) else kept_of self.old) (kept_of self.new).faults }
+
+        // What every keeper ensures.
+        ensures ok { OnOk result (kept_of self.new ≡ committed (kept_of self.old)) }
+        ensures err { IfErr result (InDoubt (kept_of self.old) (kept_of self.new)) }
+    {
+        if call_fails(&mut self.plan) {
+            self.close(self.doubt_takes);
+            return Err(KeepError::Failed);
+        }
+        self.close(true);
+        Ok(())
+    }
+
+    /// It takes no memory, and its time goes by what the transaction changed.
+    fn rollback(&mut self)
+        ensures same { self.new.plan ≡ self.old.plan }
+        ensures doubt { self.new.doubt_takes ≡ self.old.doubt_takes }
+
+        // What every keeper ensures.
+        ensures kept { kept_of self.new ≡ closed (kept_of self.old) (kept_of self.old).faults }
+    {
+        self.close(false);
+    }
+}
+
+/// Counts the call that is next, and tells whether it is to fail.
+fn call_fails(plan: &mut Plan) -> bool
+    ensures fails { result ≡ fails_next plan.old }
+    ensures counted { plan.new ≡ after_call plan.old }
+    ensures later { plan.old.faults ≤ plan.new.faults }
+{
+    let fails = plan.fails();
+    plan.count();
+    fails
+}

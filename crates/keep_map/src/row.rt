@@ -1,0 +1,64 @@
+//! What stands at one key.
+
+ghost use Rattle.std.specs.Prelude.{◌≡◌, ◌≤◌, length, None, Some, IfOk, if◌then◌else◌};
+ghost use Rattle.std.specs.Option.{unwrap_or};
+
+use std::alloc::{AllocError, Global};
+
+/// The bytes of a value, at most 262,144.
+#[derive(Debug, Drop)]
+pub struct StoredValue {
+    bytes: Vec<u8>,
+    ghost short: { length bytes.items ≤ 262144 },
+}
+
+impl StoredValue {
+    /// A copy of the bytes.
+    pub fn new(alloc: Global, bytes: &[u8]) -> Result<StoredValue, AllocError>
+        requires { length bytes.now ≤ 262144 }
+        ensures { IfOk result (λ v. v.bytes.items ≡ bytes.now) }
+    {
+        Ok(StoredValue {
+            bytes: Vec::from_slice(alloc, bytes)?,
+        })
+    }
+
+    /// The bytes.
+    pub fn bytes(&self) -> &[u8]
+        ensures bytes { result.now ≡ self.now.bytes.items }
+        ensures short { length result.now ≤ 262144 }
+    {
+        self.bytes.as_slice()
+    }
+}
+
+/// The value at one key, and where the open transaction changed it, the one before that.
+#[derive(Debug, Drop)]
+pub struct Row {
+    pub now: Option<StoredValue>,
+    pub before: Option<Option<StoredValue>>,
+}
+
+impl Row {
+    /// The value is this one, and what stood there before the transaction is not forgotten.
+    pub fn change(&mut self, value: Option<StoredValue>)
+        ensures { self.new ≡ record { now = value; before = Some (unwrap_or self.old.before self.old.now) } }
+    {
+        let old = std::mem::replace(&mut self.now, value);
+        if self.before.is_none() {
+            self.before = Some(old);
+        }
+    }
+
+    /// The value is settled: what the transaction made of it where it is kept, else what stood there
+    /// before.
+    pub fn settle(&mut self, keep: bool)
+        ensures { self.new ≡ record { now = if keep then self.old.now else unwrap_or self.old.before self.old.now; before = None } }
+    {
+        if let Some(before) = self.before.take()
+            && !keep
+        {
+            self.now = before;
+        }
+    }
+}

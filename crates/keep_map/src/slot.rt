@@ -1,0 +1,51 @@
+//! Where a row stands.
+
+ghost use Rattle.std.specs.Prelude.{◌≡◌, ◌<◌, IfOk};
+ghost use Rattle.keep_core.specs.Contents.{area_number};
+ghost use Rattle.keep_map.specs.Stored.{place_of};
+
+use repl_types::Area;
+use std::alloc::{AllocError, Global};
+
+/// The place of a row: the number of its area, its table and its key. Slots are in this order.
+#[derive(Clone, Debug, PartialEq, Eq, PartialOrd, Ord, Drop)]
+pub struct Slot {
+    pub area: u8,
+    pub table: u32,
+    pub key: Vec<u8>,
+}
+
+impl Slot {
+    /// The slot of a key of one table, with a copy of the key.
+    pub fn new(alloc: Global, area: Area, table: u32, key: &[u8]) -> Result<Slot, AllocError>
+        ensures { IfOk result (λ s. place_of s ≡ (area_number area, table, key.now)) }
+    {
+        Ok(Slot {
+            area: number(area),
+            table,
+            key: Vec::from_slice(alloc, key)?,
+        })
+    }
+}
+
+/// The number of an area, from 1 to 13.
+pub fn number(area: Area) -> u8
+    ensures number { result ≡ area_number area }
+    ensures small { result < 14 }
+{
+    match area {
+        Area::Log => 1,
+        Area::Source => 2,
+        Area::Inflight => 3,
+        Area::Head => 4,
+        Area::Defs => 5,
+        Area::Cd => 6,
+        Area::Uow => 7,
+        Area::Capture => 8,
+        Area::Prune => 9,
+        Area::Spill => 10,
+        Area::Target => 11,
+        Area::SetState => 12,
+        Area::Trail => 13,
+    }
+}
