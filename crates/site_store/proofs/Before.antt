@@ -1,0 +1,77 @@
+-- The order of keys.
+use Rattle.std.proofs.Common.{◌≡◌, ℕ, ◌<◌, Bool, true, false, List, [], ◌∷◌, length, arith, refl, sym, ap, ◌∙◌}
+use Rattle.std.specs.Ordering.{is_lt, is_eq, ordering_reverse}
+use Rattle.std.specs.declared.cmp.Ordering.{Ordering}
+use Rattle.std.specs.declared.cmp.Ordering.TheVariants.{Less, Equal, Greater}
+use Rattle.std.specs.Cmp.{IsTotalOrder}
+use Rattle.std.proofs.lemmas.Cmp.{nat_list_cmp_total, tied_itself, alike_right}
+use Rattle.keep_core.specs.Contents.{bytes_cmp}
+use Rattle.site_store.specs.Rows.{is_before, IsUpTo}
+
+-- keys are in a total order
+pub order : IsTotalOrder bytes_cmp
+order = nat_list_cmp_total
+
+-- a test of the order that passes
+pub is_less : (o : Ordering) → is_lt o ≡ true → o ≡ Less
+is_less Less e = refl
+is_less Equal e = absurd cc
+is_less Greater e = absurd cc
+
+-- a test of sameness that passes
+pub is_equal : (o : Ordering) → is_eq o ≡ true → o ≡ Equal
+is_equal Equal e = refl
+is_equal Less e = absurd cc
+is_equal Greater e = absurd cc
+
+-- a test is not both
+pub not_both : (t : Bool) → t ≡ true → t ≡ false → ⊥
+not_both t e f = cc
+
+-- no key is before one that is before it
+pub not_back : (a b : List ℕ) → bytes_cmp a b ≡ Less → IsUpTo a b
+not_back a b lt = ap is_lt (order.antisymm b a ∙ ap ordering_reverse lt)
+
+-- a key is up to itself
+pub upto_itself : (a : List ℕ) → IsUpTo a a
+upto_itself a = ap is_lt (tied_itself order a)
+
+-- what is up to a key isn't after it
+pub not_after : (a b : List ℕ) → IsUpTo a b → bytes_cmp a b ≡ Greater → ⊥
+not_after a b le e = not_both (is_before b a) (ap is_lt (order.antisymm b a ∙ ap ordering_reverse e)) le
+
+-- what is up to a key is before what that is before
+pub upto_before : (a b c : List ℕ) → IsUpTo a b → bytes_cmp b c ≡ Less → bytes_cmp a c ≡ Less
+upto_before a b c le lt = pick (bytes_cmp a b) refl
+  where
+    pick : (o : Ordering) → bytes_cmp a b ≡ o → bytes_cmp a c ≡ Less
+    pick Less e = order.trans a b c e lt
+    pick Equal e = order.congr a b c e ∙ lt
+    pick Greater e = absurd (not_after a b le e)
+
+-- what is before a key is before what that is up to
+pub before_upto : (a b c : List ℕ) → bytes_cmp a b ≡ Less → IsUpTo b c → bytes_cmp a c ≡ Less
+before_upto a b c lt le = pick (bytes_cmp b c) refl
+  where
+    pick : (o : Ordering) → bytes_cmp b c ≡ o → bytes_cmp a c ≡ Less
+    pick Less e = order.trans a b c lt e
+    pick Equal e = sym (alike_right order b c a e) ∙ lt
+    pick Greater e = absurd (not_after b c le e)
+
+-- being up to a key goes on
+pub upto_trans : (a b c : List ℕ) → IsUpTo a b → IsUpTo b c → IsUpTo a c
+upto_trans a b c le more = pick (is_before c a) refl
+  where
+    pick : (t : Bool) → is_before c a ≡ t → is_before c a ≡ false
+    pick false e = e
+    pick true e = absurd (not_both (is_before c b) (ap is_lt (before_upto c a b (is_less (bytes_cmp c a) e) le)) more)
+
+-- no key is before the empty one
+pub empty_first : (a : List ℕ) → IsUpTo [] a
+empty_first [] = refl
+empty_first (b ∷ bs) = refl
+
+-- the empty one is before each key
+pub empty_before : (a : List ℕ) → 0 < length a → bytes_cmp [] a ≡ Less
+empty_before [] lt = absurd (omega arith)
+empty_before (b ∷ bs) lt = refl

@@ -1,0 +1,55 @@
+-- Tables that are made of rows, in the order of the rows' keys.
+use Rattle.std.specs.Prelude.{◌≡◌, ℕ, Bool, false, not, ◌&&◌, if◌then◌else◌, List, [], ◌∷◌, ◌++◌, filter, Some, None}
+use Rattle.std.specs.List.{AllByRecursion}
+use Rattle.std.specs.Ordering.{is_lt}
+use Rattle.std.specs.declared.cmp.Ordering.TheVariants.{Less}
+use Rattle.keep_core.specs.Contents.{Table, bytes_cmp, same_key}
+
+-- the one key is before the other
+abbrev pub is_before : List ℕ → List ℕ → Bool
+is_before k l = is_lt (bytes_cmp k l)
+
+-- the one key is before the other, or they are one
+abbrev pub IsUpTo : List ℕ → List ℕ → Type 0
+IsUpTo k l = is_before l k ≡ false
+
+-- the table that has each row's value at its key
+abbrev pub table_of : {A X : Type 0} → (A → List ℕ) → (X → List ℕ) → List (A × X) → Table
+table_of key value [] k = None
+table_of key value (r ∷ rs) k = if same_key (key r.0) k then Some (value r.1) else table_of key value rs k
+
+-- all these rows are before the key
+abbrev pub AllBefore : {A X : Type 0} → (A → List ℕ) → List ℕ → List (A × X) → Type 0
+AllBefore key k rows = AllByRecursion (λ r. bytes_cmp (key r.0) k ≡ Less) rows
+
+-- all these rows are after the key
+abbrev pub AllAfter : {A X : Type 0} → (A → List ℕ) → List ℕ → List (A × X) → Type 0
+AllAfter key k rows = AllByRecursion (λ r. bytes_cmp k (key r.0) ≡ Less) rows
+
+-- no row is after the key
+abbrev pub NoneAfter : {A X : Type 0} → (A → List ℕ) → List ℕ → List (A × X) → Type 0
+NoneAfter key k rows = AllByRecursion (λ r. IsUpTo (key r.0) k) rows
+
+-- the rows' keys rise
+abbrev pub IsRising : {A X : Type 0} → (A → List ℕ) → List (A × X) → Type 0
+IsRising key [] = Unit {0}
+IsRising key (r ∷ rs) = AllAfter key (key r.0) rs × IsRising key rs
+
+-- the rows after one key, and up to another
+abbrev pub between : {A X : Type 0} → (A → List ℕ) → List ℕ → List ℕ → List (A × X) → List (A × X)
+between key low high rows = filter (λ r. is_before low (key r.0) && not (is_before high (key r.0))) rows
+
+-- this is one of the rows
+pub record HasRow {A X : Type 0} (rows : List (A × X)) (row : A × X) : Type 0 where
+  pub front : List (A × X)
+  pub back : List (A × X)
+  pub split : rows ≡ front ++ row ∷ back
+
+-- the first row after a key
+pub record NextRow {A X : Type 0} (key : A → List ℕ) (rows : List (A × X)) (after : List ℕ) (row : A × X) : Type 0 where
+  pub front : List (A × X)
+  pub back : List (A × X)
+  pub split : rows ≡ front ++ row ∷ back
+  pub passed : NoneAfter key after front
+  pub above : bytes_cmp after (key row.0) ≡ Less
+  pub later : AllAfter key (key row.0) back

@@ -1,0 +1,24 @@
+//! Servers by number, and the records that they keep.
+//!
+//! A `Site` is a server: its name and its keeper. `Sites` are all of them, each at its number. Records
+//! are put, read and removed by their kinds (`Stored` of `row_codec`), inside one transaction a server.
+//! Any fault of `Sites` leaves no transaction open at any server, so a layer above that hands a fault on
+//! by `?` knows what stands: each server holds what it held.
+//!
+//! The crate's `specs/` have the words in which every layer above says what it changed: `Views` is what
+//! a clause sees of all servers, `Calls` is what a call leaves, `Works` what a transaction makes of what
+//! it sees, and `Rows` is a table whose rows are read in key order.
+#![tactic(auto)]
+
+mod laws;
+mod records;
+mod site;
+mod sites;
+#[cfg(test)]
+mod tests;
+
+pub use laws::{
+    key_bytes_in_order, next_of_rows, row_after_all, row_at_key, row_before_all, rows_between,
+};
+pub use site::Site;
+pub use sites::{Sites, SitesError};

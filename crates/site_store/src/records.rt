@@ -1,0 +1,244 @@
+//! Records of one keeper.
+//!
+//! These calls leave a transaction open at a fault: who calls them rolls it back.
+
+ghost use Rattle.std.specs.Prelude.{◌≡◌, ◌<◌, ◌≤◌, length, OnOk, IfOk, IfErr, OnErr, IfSome};
+ghost use Rattle.std.specs.Option.{option_copied};
+ghost use Rattle.repl_types.specs.declared.status.Area.TheVariants.{Spill, Log};
+ghost use Rattle.keep_core.specs.Kept.{Kept, IsOpen, IsClosed, opened, committed, after_read, after_write, after_put, after_remove, seen, WasThere, NextIs, GivesNext};
+ghost use Rattle.site_store.specs.Records.{RowIs, IsRow, after_key, NextRowIs, Follows, Misspelt, MisspeltNext, NoDamage, CauseFor, fault_from, Halts, MayHalt};
+
+use keep_core::{KeepError, Keeper};
+use repl_records::Fault;
+use repl_types::{Area, DamageCause, List};
+use row_codec::{Stored, TakeError};
+use std::alloc::{AllocError, Global};
+
+fn fault_of(server: u32, e: KeepError) -> Fault
+    ensures { result ≡ fault_from server e }
+{
+    match e {
+        KeepError::Memory => Fault::Memory,
+        KeepError::Failed => Fault::Keeper { server },
+    }
+}
+
+/// Bytes of a server that are no spelling.
+fn misspelt(server: u32, area: Area, bytes: Vec<u8>) -> Fault
+    ensures { result ≡ Fault.Damaged server area (DamageCause.Spelling bytes.items) }
+{
+    Fault::Damaged {
+        server,
+        area,
+        cause: DamageCause::Spelling(List::from_vec(bytes)),
+    }
+}
+
+/// The record at the key, where there is one.
+pub(crate) fn get_record<K: Keeper, R: Stored>(
+    alloc: Global,
+    server: u32,
+    keeper: &mut K,
+    table: u32,
+    key: &R::Key,
+) -> Result<Option<R>, Fault>
+    ensures ok { OnOk result (K.kept keeper.new ≡ after_read (K.kept keeper.old) R.AREA) }
+    ensures row { IfOk result (λ row. IfSome (seen (K.kept keeper.old)) (RowIs R.spelling R.AREA table (R.Key.spelling key.now) row)) }
+    ensures fits { IfOk result (λ row. IfSome row (IsRow R.fits R.spelling)) }
+    ensures err { OnErr result (Halts (K.kept keeper.old) (after_read (K.kept keeper.old) R.AREA) (K.kept keeper.new)) }
+    ensures cause { IfErr result (CauseFor server R.AREA (K.kept keeper.old) (K.kept keeper.new) (Misspelt R.fits R.spelling R.AREA table (R.Key.spelling key.now))) }
+{
+    let mut spelled = Vec::new(alloc);
+    R::put_key(key, &mut spelled)?;
+    let mut out = Vec::new(alloc);
+    match keeper.get(R::AREA, table, &spelled, &mut out) {
+        Ok(true) => match R::take(alloc, &out) {
+            Ok(row) => Ok(Some(row)),
+            Err(TakeError::Memory) => Err(Fault::Memory),
+            Err(TakeError::Spelling) => Err(misspelt(server, R::AREA, out)),
+        },
+        Ok(false) => Ok(None),
+        Err(e) => Err(fault_of(server, e)),
+    }
+}
+
+/// Where the search for the next key begins.
+fn spell_after<R: Stored>(alloc: Global, after: Option<&R::Key>) -> Result<Vec<u8>, AllocError>
+    ensures { IfOk result (λ spelled. spelled.items ≡ after_key R.Key.spelling (option_copied after.entry)) }
+{
+    let mut spelled = Vec::new(alloc);
+    if let Some(key) = after {
+        R::put_key(key, &mut spelled)?;
+    }
+    Ok(spelled)
+}
+
+/// The first record whose key is above `after`, or of all where `after` is `None`.
+pub(crate) fn next_record<K: Keeper, R: Stored>(
+    alloc: Global,
+    server: u32,
+    keeper: &mut K,
+    table: u32,
+    after: Option<&R::Key>,
+) -> Result<Option<(R::Key, R)>, Fault>
+    ensures ok { OnOk result (K.kept keeper.new ≡ after_read (K.kept keeper.old) R.AREA) }
+    ensures row { IfOk result (λ row. IfSome (seen (K.kept keeper.old)) (NextRowIs R.Key.spelling R.spelling R.AREA table (after_key R.Key.spelling (option_copied after.entry)) row)) }
+    ensures rises { IfOk result (λ row. IfSome row (Follows R.Key.fits R.Key.spelling R.fits R.spelling (after_key R.Key.spelling (option_copied after.entry)))) }
+    ensures err { OnErr result (Halts (K.kept keeper.old) (after_read (K.kept keeper.old) R.AREA) (K.kept keeper.new)) }
+    ensures cause { IfErr result (CauseFor server R.AREA (K.kept keeper.old) (K.kept keeper.new) (MisspeltNext R.Key.fits R.Key.spelling R.fits R.spelling R.AREA table (after_key R.Key.spelling (option_copied after.entry)))) }
+{
+    let spelled = spell_after::<R>(alloc, after)?;
+    let mut key = Vec::new(alloc);
+    let mut out = Vec::new(alloc);
+    match keeper.next(R::AREA, table, &spelled, &mut key, &mut out) {
+        Ok(true) => match R::take_key(alloc, &key) {
+            Ok(next) => match R::take(alloc, &out) {
+                Ok(row) => Ok(Some((next, row))),
+                Err(TakeError::Memory) => Err(Fault::Memory),
+                Err(TakeError::Spelling) => Err(misspelt(server, R::AREA, out)),
+            },
+            Err(TakeError::Memory) => Err(Fault::Memory),
+            Err(TakeError::Spelling) => Err(misspelt(server, R::AREA, key)),
+        },
+        Ok(false) => Ok(None),
+        Err(e) => Err(fault_of(server, e)),
+    }
+}
+
+/// The open transaction sees this record at the key.
+pub(crate) fn put_record<K: Keeper, R: Stored>(
+    alloc: Global,
+    server: u32,
+    keeper: &mut K,
+    table: u32,
+    key: &R::Key,
+    value: &R,
+) -> Result<(), Fault>
+    requires open { IsOpen (K.kept keeper.old) }
+    requires spelling { R.has_spelling value.now }
+    requires some { 0 < length (R.Key.spelling key.now) }
+    requires short { length (R.Key.spelling key.now) ≤ 1024 }
+    requires value { length (R.spelling value.now) ≤ 262144 }
+    ensures ok { OnOk result (K.kept keeper.new ≡ after_put (K.kept keeper.old) R.AREA table (R.Key.spelling key.now) (R.spelling value.now)) }
+    ensures err { OnErr result (Halts (K.kept keeper.old) (after_write (K.kept keeper.old) R.AREA) (K.kept keeper.new)) }
+    ensures cause { IfErr result (CauseFor server R.AREA (K.kept keeper.old) (K.kept keeper.new) NoDamage) }
+{
+    let mut spelled = Vec::new(alloc);
+    R::put_key(key, &mut spelled)?;
+    let mut out = Vec::new(alloc);
+    value.put(&mut out)?;
+    match keeper.put(R::AREA, table, &spelled, &out) {
+        Ok(()) => Ok(()),
+        Err(e) => Err(fault_of(server, e)),
+    }
+}
+
+/// The open transaction sees no record at the key. Tells whether there was one.
+pub(crate) fn remove_record<K: Keeper, R: Stored>(
+    alloc: Global,
+    server: u32,
+    keeper: &mut K,
+    table: u32,
+    key: &R::Key,
+) -> Result<bool, Fault>
+    requires { IsOpen (K.kept keeper.old) }
+    ensures ok { OnOk result (K.kept keeper.new ≡ after_remove (K.kept keeper.old) R.AREA table (R.Key.spelling key.now)) }
+    ensures found { IfOk result (λ found. IfSome (seen (K.kept keeper.old)) (WasThere R.AREA table (R.Key.spelling key.now) found)) }
+    ensures err { OnErr result (Halts (K.kept keeper.old) (after_write (K.kept keeper.old) R.AREA) (K.kept keeper.new)) }
+    ensures cause { IfErr result (CauseFor server R.AREA (K.kept keeper.old) (K.kept keeper.new) NoDamage) }
+{
+    let mut spelled = Vec::new(alloc);
+    R::put_key(key, &mut spelled)?;
+    match keeper.remove(R::AREA, table, &spelled) {
+        Ok(found) => Ok(found),
+        Err(e) => Err(fault_of(server, e)),
+    }
+}
+
+/// Opens a transaction, which sees what is held.
+pub(crate) fn begin_at<K: Keeper>(server: u32, keeper: &mut K) -> Result<(), Fault>
+    requires { IsClosed (K.kept keeper.old) }
+    ensures ok { OnOk result (K.kept keeper.new ≡ opened (K.kept keeper.old)) }
+    ensures err { OnErr result (Halts (K.kept keeper.old) (K.kept keeper.old) (K.kept keeper.new)) }
+    // It reads no area, so the one that is named doesn't matter.
+    ensures cause { IfErr result (CauseFor server Log (K.kept keeper.old) (K.kept keeper.new) NoDamage) }
+{
+    match keeper.begin() {
+        Ok(()) => Ok(()),
+        Err(e) => Err(fault_of(server, e)),
+    }
+}
+
+/// What is held is what the transaction saw. At a fault of the keeper it may be so too.
+pub(crate) fn commit_at<K: Keeper>(server: u32, keeper: &mut K) -> Result<(), Fault>
+    requires { IsOpen (K.kept keeper.old) }
+    ensures ok { OnOk result (K.kept keeper.new ≡ committed (K.kept keeper.old)) }
+    ensures err { IfErr result (MayHalt server (K.kept keeper.old) (K.kept keeper.new)) }
+    // It reads no area, so the one that is named doesn't matter.
+    ensures cause { IfErr result (CauseFor server Log (K.kept keeper.old) (K.kept keeper.new) NoDamage) }
+{
+    match keeper.commit() {
+        Ok(()) => Ok(()),
+        Err(e) => Err(fault_of(server, e)),
+    }
+}
+
+/// The open transaction sees these bytes at the key, in table 0 of the Spill area.
+pub(crate) fn put_spill_at<K: Keeper>(
+    server: u32,
+    keeper: &mut K,
+    key: &[u8],
+    value: &[u8],
+) -> Result<(), Fault>
+    requires open { IsOpen (K.kept keeper.old) }
+    requires some { 0 < length key.now }
+    requires short { length key.now ≤ 1024 }
+    requires value { length value.now ≤ 262144 }
+    ensures ok { OnOk result (K.kept keeper.new ≡ after_put (K.kept keeper.old) Spill 0 key.now value.now) }
+    ensures err { OnErr result (Halts (K.kept keeper.old) (after_write (K.kept keeper.old) Spill) (K.kept keeper.new)) }
+    ensures cause { IfErr result (CauseFor server Spill (K.kept keeper.old) (K.kept keeper.new) NoDamage) }
+{
+    match keeper.put(Area::Spill, 0, key, value) {
+        Ok(()) => Ok(()),
+        Err(e) => Err(fault_of(server, e)),
+    }
+}
+
+/// The first key above `after` in table 0 of the Spill area, and its bytes.
+pub(crate) fn next_spill_at<K: Keeper>(
+    server: u32,
+    keeper: &mut K,
+    after: &[u8],
+    key: &mut Vec<u8>,
+    out: &mut Vec<u8>,
+) -> Result<bool, Fault>
+    ensures ok { OnOk result (K.kept keeper.new ≡ after_read (K.kept keeper.old) Spill) }
+    ensures found { IfOk result (λ found. IfSome (seen (K.kept keeper.old)) (NextIs Spill 0 after.now found key.new.items out.new.items)) }
+    ensures gives { IfOk result (λ found. GivesNext after.now found key.new.items out.new.items) }
+    ensures err { OnErr result (Halts (K.kept keeper.old) (after_read (K.kept keeper.old) Spill) (K.kept keeper.new)) }
+    ensures cause { IfErr result (CauseFor server Spill (K.kept keeper.old) (K.kept keeper.new) NoDamage) }
+{
+    match keeper.next(Area::Spill, 0, after, key, out) {
+        Ok(found) => Ok(found),
+        Err(e) => Err(fault_of(server, e)),
+    }
+}
+
+/// The open transaction sees nothing at the key, in table 0 of the Spill area. Tells whether there was
+/// something.
+pub(crate) fn remove_spill_at<K: Keeper>(
+    server: u32,
+    keeper: &mut K,
+    key: &[u8],
+) -> Result<bool, Fault>
+    requires { IsOpen (K.kept keeper.old) }
+    ensures ok { OnOk result (K.kept keeper.new ≡ after_remove (K.kept keeper.old) Spill 0 key.now) }
+    ensures found { IfOk result (λ found. IfSome (seen (K.kept keeper.old)) (WasThere Spill 0 key.now found)) }
+    ensures err { OnErr result (Halts (K.kept keeper.old) (after_write (K.kept keeper.old) Spill) (K.kept keeper.new)) }
+    ensures cause { IfErr result (CauseFor server Spill (K.kept keeper.old) (K.kept keeper.new) NoDamage) }
+{
+    match keeper.remove(Area::Spill, 0, key) {
+        Ok(found) => Ok(found),
+        Err(e) => Err(fault_of(server, e)),
+    }
+}

@@ -1,0 +1,191 @@
+//! One server: its name and its keeper.
+
+ghost use Rattle.std.specs.Prelude.{◌≡◌, ◌<◌, ◌≤◌, length, OnOk, IfOk, IfErr, OnErr, IfSome};
+ghost use Rattle.std.specs.Option.{option_copied};
+ghost use Rattle.keep_core.specs.Kept.{IsOpen, IsClosed, opened, closed, committed, after_read, after_write, after_put, after_remove, seen, WasThere};
+ghost use Rattle.repl_types.specs.declared.status.Area.TheVariants.{Log};
+
+use crate::records::{begin_at, commit_at, get_record, next_record, put_record, remove_record};
+use keep_core::Keeper;
+use repl_records::Fault;
+use repl_types::Name;
+use row_codec::Stored;
+use std::alloc::Global;
+
+/// A server by itself. A fault names it as server 0, and leaves no transaction open.
+#[derive(Drop)]
+pub struct Site<K> {
+    pub(crate) name: Name,
+    pub(crate) keeper: K,
+}
+
+impl<K: Keeper> Site<K> {
+    ghost use Rattle.site_store.specs.Records.{RowIs, IsRow, after_key, NextRowIs, Follows, Misspelt, MisspeltNext, NoDamage, CauseFor, Halts, MayHalt};
+    ghost use Rattle.site_store.specs.Servers.{name_of, keeper_of, state};
+
+    /// It takes no memory.
+    pub fn open_site(name: Name, keeper: K) -> Site<K>
+        requires { IsClosed (K.kept keeper) }
+        ensures name { name_of result ≡ name }
+        ensures keeper { keeper_of result ≡ keeper }
+    {
+        Site { name, keeper }
+    }
+
+    /// Opens a transaction, which sees what is held. After a fault what is held is as before.
+    pub fn begin(&mut self) -> Result<(), Fault>
+        requires { IsClosed (state K.kept self.old) }
+        ensures ok { OnOk result (state K.kept self.new ≡ opened (state K.kept self.old)) }
+        ensures err { OnErr result (Halts (state K.kept self.old) (state K.kept self.old) (state K.kept self.new)) }
+        ensures closed { OnErr result (IsClosed (state K.kept self.new)) }
+        // It reads no area, so the one that is named doesn't matter.
+        ensures cause { IfErr result (CauseFor 0 Log (state K.kept self.old) (state K.kept self.new) NoDamage) }
+        ensures name { name_of self.new ≡ name_of self.old }
+    {
+        match begin_at(0, &mut self.keeper) {
+            Ok(()) => Ok(()),
+            Err(e) => {
+                self.keeper.rollback();
+                Err(e)
+            }
+        }
+    }
+
+    /// What is held is what the transaction saw. After a fault it is as before, or after one of the
+    /// keeper it may be what the transaction saw.
+    pub fn commit(&mut self) -> Result<(), Fault>
+        requires { IsOpen (state K.kept self.old) }
+        ensures ok { OnOk result (state K.kept self.new ≡ committed (state K.kept self.old)) }
+        ensures err { IfErr result (MayHalt 0 (state K.kept self.old) (state K.kept self.new)) }
+        ensures closed { OnErr result (IsClosed (state K.kept self.new)) }
+        // It reads no area, so the one that is named doesn't matter.
+        ensures cause { IfErr result (CauseFor 0 Log (state K.kept self.old) (state K.kept self.new) NoDamage) }
+        ensures name { name_of self.new ≡ name_of self.old }
+    {
+        match commit_at(0, &mut self.keeper) {
+            Ok(()) => Ok(()),
+            Err(e) => {
+                self.keeper.rollback();
+                Err(e)
+            }
+        }
+    }
+
+    /// No transaction is open, and what is held stays.
+    pub fn rollback(&mut self)
+        ensures closed { state K.kept self.new ≡ closed (state K.kept self.old) (state K.kept self.old).faults }
+        ensures name { name_of self.new ≡ name_of self.old }
+    {
+        self.keeper.rollback();
+    }
+
+    /// The record at the key, where there is one. After a fault what is held is as before.
+    pub fn get<R: Stored>(
+        &mut self,
+        alloc: Global,
+        table: u32,
+        key: &R::Key,
+    ) -> Result<Option<R>, Fault>
+        ensures ok { OnOk result (state K.kept self.new ≡ after_read (state K.kept self.old) R.AREA) }
+        ensures row { IfOk result (λ row. IfSome (seen (state K.kept self.old)) (RowIs R.spelling R.AREA table (R.Key.spelling key.now) row)) }
+        ensures fits { IfOk result (λ row. IfSome row (IsRow R.fits R.spelling)) }
+        ensures err { OnErr result (Halts (state K.kept self.old) (after_read (state K.kept self.old) R.AREA) (state K.kept self.new)) }
+        ensures closed { OnErr result (IsClosed (state K.kept self.new)) }
+        ensures cause { IfErr result (CauseFor 0 R.AREA (state K.kept self.old) (state K.kept self.new) (Misspelt R.fits R.spelling R.AREA table (R.Key.spelling key.now))) }
+        ensures name { name_of self.new ≡ name_of self.old }
+    {
+        match get_record(alloc, 0, &mut self.keeper, table, key) {
+            Ok(row) => Ok(row),
+            Err(e) => {
+                self.keeper.rollback();
+                Err(e)
+            }
+        }
+    }
+
+    /// The first record whose key is above `after`, or of all where `after` is `None`. After a fault
+    /// what is held is as before.
+    pub fn next<R: Stored>(
+        &mut self,
+        alloc: Global,
+        table: u32,
+        after: Option<&R::Key>,
+    ) -> Result<Option<(R::Key, R)>, Fault>
+        ensures ok { OnOk result (state K.kept self.new ≡ after_read (state K.kept self.old) R.AREA) }
+        ensures row { IfOk result (λ row. IfSome (seen (state K.kept self.old)) (NextRowIs R.Key.spelling R.spelling R.AREA table (after_key R.Key.spelling (option_copied after.entry)) row)) }
+        ensures rises { IfOk result (λ row. IfSome row (Follows R.Key.fits R.Key.spelling R.fits R.spelling (after_key R.Key.spelling (option_copied after.entry)))) }
+        ensures err { OnErr result (Halts (state K.kept self.old) (after_read (state K.kept self.old) R.AREA) (state K.kept self.new)) }
+        ensures closed { OnErr result (IsClosed (state K.kept self.new)) }
+        ensures cause { IfErr result (CauseFor 0 R.AREA (state K.kept self.old) (state K.kept self.new) (MisspeltNext R.Key.fits R.Key.spelling R.fits R.spelling R.AREA table (after_key R.Key.spelling (option_copied after.entry)))) }
+        ensures name { name_of self.new ≡ name_of self.old }
+    {
+        match next_record(alloc, 0, &mut self.keeper, table, after) {
+            Ok(row) => Ok(row),
+            Err(e) => {
+                self.keeper.rollback();
+                Err(e)
+            }
+        }
+    }
+
+    /// The open transaction sees this record at the key. After a fault what is held is as before.
+    pub fn put<R: Stored>(
+        &mut self,
+        alloc: Global,
+        table: u32,
+        key: &R::Key,
+        value: &R,
+    ) -> Result<(), Fault>
+        requires open { IsOpen (state K.kept self.old) }
+        requires spelling { R.has_spelling value.now }
+        requires some { 0 < length (R.Key.spelling key.now) }
+        requires short { length (R.Key.spelling key.now) ≤ 1024 }
+        requires value { length (R.spelling value.now) ≤ 262144 }
+        ensures ok { OnOk result (state K.kept self.new ≡ after_put (state K.kept self.old) R.AREA table (R.Key.spelling key.now) (R.spelling value.now)) }
+        ensures err { OnErr result (Halts (state K.kept self.old) (after_write (state K.kept self.old) R.AREA) (state K.kept self.new)) }
+        ensures closed { OnErr result (IsClosed (state K.kept self.new)) }
+        ensures cause { IfErr result (CauseFor 0 R.AREA (state K.kept self.old) (state K.kept self.new) NoDamage) }
+        ensures name { name_of self.new ≡ name_of self.old }
+    {
+        match put_record(alloc, 0, &mut self.keeper, table, key, value) {
+            Ok(()) => Ok(()),
+            Err(e) => {
+                self.keeper.rollback();
+                Err(e)
+            }
+        }
+    }
+
+    /// The open transaction sees no record at the key. Tells whether there was one. After a fault what
+    /// is held is as before.
+    pub fn remove<R: Stored>(
+        &mut self,
+        alloc: Global,
+        table: u32,
+        key: &R::Key,
+    ) -> Result<bool, Fault>
+        requires { IsOpen (state K.kept self.old) }
+        ensures ok { OnOk result (state K.kept self.new ≡ after_remove (state K.kept self.old) R.AREA table (R.Key.spelling key.now)) }
+        ensures found { IfOk result (λ found. IfSome (seen (state K.kept self.old)) (WasThere R.AREA table (R.Key.spelling key.now) found)) }
+        ensures err { OnErr result (Halts (state K.kept self.old) (after_write (state K.kept self.old) R.AREA) (state K.kept self.new)) }
+        ensures closed { OnErr result (IsClosed (state K.kept self.new)) }
+        ensures cause { IfErr result (CauseFor 0 R.AREA (state K.kept self.old) (state K.kept self.new) NoDamage) }
+        ensures name { name_of self.new ≡ name_of self.old }
+    {
+        match remove_record::<K, R>(alloc, 0, &mut self.keeper, table, key) {
+            Ok(found) => Ok(found),
+            Err(e) => {
+                self.keeper.rollback();
+                Err(e)
+            }
+        }
+    }
+
+    /// The keeper. It takes no memory.
+    pub fn into_keeper(self) -> K
+        ensures { result ≡ keeper_of self }
+    {
+        let Site { name: _, keeper } = self;
+        keeper
+    }
+}
