@@ -12,7 +12,7 @@ use Rattle.std.proofs.lemmas.List.{get_or-set_same, length-map}
 use Rattle.repl_types.specs.declared.status.Area.{Area}
 use Rattle.repl_types.specs.declared.status.Area.TheVariants as areas
 use Rattle.keep_core.specs.Contents.{Contents, Table, IsNext, IsLast, bytes_cmp, same_key, set_key, put_at}
-use Rattle.row_codec.specs.Spelling.{b64}
+use Rattle.row_codec.specs.Spelling.{b64, Is64}
 use Rattle.row_codec.specs.Numbers.{one64}
 use Rattle.row_codec.specs.Takes.{one_whole}
 use Rattle.keep_core.specs.Kept.{Kept, seen_of}
@@ -24,25 +24,25 @@ use Rattle.site_store.specs.Calls.{Goes, Begins}
 use Rattle.site_store.specs.Works.{Works, Sets}
 use Rattle.site_store.proofs.Worked.{seen_held, took}
 use Rattle.two_areas.specs.declared.records.Taken.{Taken}
-use Rattle.two_areas.specs.Order.{order64}
+use Rattle.row_codec.specs.Order.{order64, whole_order}
 use Rattle.two_areas.specs.World.{World, IsSound, took_next, placed, count_rows, tables, Stands}
 
 -- ---- spelled numbers
 
 -- spelled numbers are one where the numbers are
 same64 : (a b : ℕ) → a < 2 ^ 64 → b < 2 ^ 64 → same_key (b64 a) (b64 b) ≡ (a == b)
-same64 a b la lb = ap is_eq (order64 a b la lb) ∙ test a b
+same64 a b la lb = ap is_eq (whole_order Is64 b64 nat_cmp order64 a b la lb) ∙ test a b
   where
     test : (a b : ℕ) → is_eq (nat_cmp a b) ≡ (a == b)
     test a b = grind (arith, nat_tests)
 
 -- spelled numbers are in order where the numbers are
 less64 : (a b : ℕ) → a < 2 ^ 64 → b < 2 ^ 64 → bytes_cmp (b64 a) (b64 b) ≡ Less → a < b
-less64 a b la lb e = ranked a b Less (sym e ∙ order64 a b la lb)
+less64 a b la lb e = ranked a b Less (sym e ∙ whole_order Is64 b64 nat_cmp order64 a b la lb)
 
 -- and the numbers where they are spelled so
 is_less64 : (a b : ℕ) → a < 2 ^ 64 → b < 2 ^ 64 → a < b → bytes_cmp (b64 a) (b64 b) ≡ Less
-is_less64 a b la lb lt = order64 a b la lb ∙ less a b lt
+is_less64 a b la lb lt = whole_order Is64 b64 nat_cmp order64 a b la lb ∙ less a b lt
   where
     less : (a b : ℕ) → a < b → nat_cmp a b ≡ Less
     less a b lt = grind (arith, nat_tests)

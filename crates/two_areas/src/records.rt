@@ -5,8 +5,8 @@ ghost use Rattle.std.proofs.Common.{ap};
 ghost use Rattle.repl_types.specs.declared.status.Area.TheVariants.{Log, Capture};
 ghost use Rattle.row_codec.specs.Spelling.{b64, Is64, Any};
 ghost use Rattle.row_codec.specs.Numbers.{one64};
+ghost use Rattle.row_codec.specs.Order.{order64, whole_order};
 ghost use Rattle.row_codec.specs.Takes.{one_by, one_whole};
-ghost use Rattle.two_areas.specs.Order.{order64};
 
 use repl_types::Area;
 use row_codec::{Key, Part, Stored, TakeError};
@@ -39,20 +39,15 @@ impl Key for Place {
 
     ghost one = { λ x y fx fy e. ap (λ n. record { place = n }) (one_whole Is64 b64 one64 x.place y.place fx fy e) };
 
-    ghost order = { λ x y. order64 x.place y.place };
+    ghost order = { λ x y. whole_order Is64 b64 nat_cmp order64 x.place y.place };
 
     fn put_key(&self, out: &mut Vec<u8>) -> Result<(), AllocError> {
         self.place.put_part(out)
     }
 
-    #[tactic(auto, unfolding(row_codec::specs::Spelling::b64))]
-    fn take_key(_: Global, bytes: &[u8]) -> Result<Place, TakeError> {
-        match bytes {
-            [a, b, c, d, e, f, g, h] => Ok(Place {
-                place: u64::from_be_bytes([*a, *b, *c, *d, *e, *f, *g, *h]),
-            }),
-            _ => Err(TakeError::Spelling),
-        }
+    fn take_key(alloc: Global, bytes: &[u8]) -> Result<Place, TakeError> {
+        let place = u64::take_key(alloc, bytes)?;
+        Ok(Place { place })
     }
 }
 
