@@ -1,9 +1,8 @@
 -- The contents of a keeper: of each area and table what stands at each key.
 use Rattle.std.specs.Prelude.{◌≡◌, ℕ, Bool, List, Option, Some, None, if◌then◌else◌, ◌&&◌, ◌==◌}
-use Rattle.std.specs.Ordering.{is_eq, nat_cmp}
-use Rattle.std.specs.Cmp.Lexicographic.{slice_cmp}
-use Rattle.std.specs.declared.cmp.Ordering.{Ordering}
+use Rattle.std.specs.Ordering.{is_eq}
 use Rattle.std.specs.declared.cmp.Ordering.TheVariants.{Less}
+use Rattle.repl_types.specs.Bytes.{bytes_cmp}
 use Rattle.repl_types.specs.declared.status.Area.{Area}
 use Rattle.repl_types.specs.declared.status.Area.TheVariants as areas
 
@@ -14,10 +13,6 @@ Table = List ℕ → Option (List ℕ)
 -- the tables of each area, by number
 abbrev pub Contents : Type 0
 Contents = Area → ℕ → Table
-
--- keys are in byte order
-abbrev pub bytes_cmp : List ℕ → List ℕ → Ordering
-bytes_cmp = slice_cmp nat_cmp
 
 -- two keys are one
 abbrev pub same_key : List ℕ → List ℕ → Bool

@@ -2,10 +2,11 @@
 use Rattle.std.specs.Prelude.{◌≡◌, ◌⊎◌, ℕ, ◌+◌, ◌-◌, ◌^◌, ◌<◌, ◌≤◌, Bool, true, false, List, [], length, Option, Some, None, IsSome, is_some, if◌then◌else◌, min}
 use Rattle.std.specs.declared.cmp.Ordering.TheVariants.{Less}
 use Rattle.std.specs.Option.{option_map}
+use Rattle.repl_types.specs.Bytes.{bytes_cmp}
 use Rattle.repl_types.specs.declared.status.Area.{Area}
 use Rattle.keep_core.specs.declared.keeper.KeepError.{KeepError}
 use Rattle.keep_core.specs.declared.keeper.KeepError.TheVariants.{Failed}
-use Rattle.keep_core.specs.Contents.{Contents, same_area, put_at, bytes_cmp, IsNext, IsLast}
+use Rattle.keep_core.specs.Contents.{Contents, same_area, put_at, IsNext, IsLast}
 use Rattle.keep_core.specs.Told.{Rises}
 
 pub record Kept : Type 0 where

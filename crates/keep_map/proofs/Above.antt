@@ -15,10 +15,11 @@ use Rattle.std.proofs.lemmas.Map.Lookups.{exact_unsigned}
 use Rattle.std.proofs.lemmas.Bool.Decides.{nat_tests}
 use Rattle.std.specs.declared.cmp.Ordering.{Ordering}
 use Rattle.std.specs.declared.cmp.Ordering.TheVariants.{Less, Equal, Greater}
+use Rattle.repl_types.specs.Bytes.{bytes_cmp}
 use Rattle.keep_map.specs.declared.slot.Slot.{Slot}
 use Rattle.keep_map.specs.declared.row.Row.{Row}
 use Rattle.keep_map.specs.declared.row.StoredValue.{StoredValue}
-use Rattle.keep_core.specs.Contents.{IsNext, IsLast, bytes_cmp}
+use Rattle.keep_core.specs.Contents.{IsNext, IsLast}
 use Rattle.keep_map.specs.Stored.{Place, place_cmp, same_place, place_of, slot_cmp, row_at, seen_in, bytes_of, table_of, entries_above, stops}
 use Rattle.keep_map.proofs.Places.{places_total, place_is}
 

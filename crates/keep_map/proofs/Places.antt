@@ -1,7 +1,6 @@
 -- The order of places, and what a change of a map makes of the rows at them.
 use Rattle.std.proofs.Common.{◌≡◌, ℕ, Bool, true, false, cond, List, refl, sym, ap, subst, ◌∙◌}
-use Rattle.std.specs.Prelude.{Option, Some, None, IsSome, Result, Ok, Err, OnOk, OnErr}
-use Rattle.std.specs.Result.{is_ok}
+use Rattle.std.specs.Prelude.{Option, Some, None, IsSome}
 use Rattle.std.specs.BTreeMap.{BTreeMap, UpdatesBy, is_at}
 use Rattle.std.specs.Map.{lookup, IsKeyTest, AreApart, KeepsOthers}
 use Rattle.std.specs.Ordering.{is_eq, nat_cmp, ordering_then, eq_by_cmp}
@@ -10,7 +9,7 @@ use Rattle.std.specs.Cmp.Lexicographic.{nat_list_cmp_total}
 use Rattle.std.specs.declared.cmp.Ordering.{Ordering}
 use Rattle.std.specs.declared.cmp.Ordering.TheVariants.{Less, Equal, Greater}
 use Rattle.std.proofs.lemmas.Map.Lookups.{exact_unsigned, exact_bytes, exact_pairs}
-use Rattle.keep_core.specs.Contents.{bytes_cmp}
+use Rattle.repl_types.specs.Bytes.{bytes_cmp}
 use Rattle.keep_map.specs.declared.slot.Slot.{Slot}
 use Rattle.keep_map.specs.declared.row.Row.{Row}
 use Rattle.keep_map.specs.Stored.{Place, place_cmp, same_place, place_of, slot_cmp, row_at, Sets}
@@ -57,10 +56,6 @@ kept m at w is p = by_cases (same_place at p) refl
     by_cases false e = refl
     by_cases true e = is ∙ ap (λ (q : Place). row_at m q) (place_is at p e)
 
--- a row that is set as it was leaves the rows as they were
-pub same_rows : (m n : BTreeMap Slot Row) (at : Place) (w : Option Row) → w ≡ row_at m at → Sets at w m n → (p : Place) → row_at n p ≡ row_at m p
-same_rows m n at w is sets p = sets p ∙ kept m at w is p
-
 -- a map that stays sets each row as it was
 pub stays : (m n : BTreeMap Slot Row) (at : Place) (w : Option Row) → w ≡ row_at m at → n.entries ≡ m.entries → Sets at w m n
 stays m n at w is same p = ap (λ es. lookup (λ (s : Slot). same_place p (place_of s)) es) same ∙ sym (kept m at w is p)
@@ -76,8 +71,3 @@ sets_again m n o at v w first second p = second p ∙ ap (λ (r : Option Row). c
 -- what is written through a row that was found
 pub written_through : (m n : BTreeMap Slot Row) (s : Slot) (old new : Row) → Some old ≡ row_at m (place_of s) → (IsSome (row_at m (place_of s)) → UpdatesBy slot_cmp (slot_cmp s) m n (Some new)) → Sets (place_of s) (Some new) m n
 written_through m n s old new found h = written m n s (Some new) (h (subst (λ (r : Option Row). IsSome r) found refl))
-
--- a row that is inserted where there is none, or not for want of memory
-pub inserted : {A E : Type 0} (m n : BTreeMap Slot Row) (s : Slot) (row : Row) (r : Result A E) → OnOk r (UpdatesBy slot_cmp (slot_cmp s) m n (Some row)) → OnErr r (row_at m (place_of s) ≡ None) → OnErr r (n.entries ≡ m.entries) → Sets (place_of s) (cond (is_ok r) (Some row) None) m n
-inserted m n s row (Ok x) updates absent same = written m n s (Some row) updates
-inserted m n s row (Err e) updates absent same = stays m n (place_of s) None (sym absent) same

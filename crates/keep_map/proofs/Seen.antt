@@ -6,8 +6,9 @@ use Rattle.std.specs.Ordering.{is_eq, nat_cmp, ordering_then}
 use Rattle.std.specs.Cmp.{tied_then}
 use Rattle.std.proofs.lemmas.Bool.{eqb-true}
 use Rattle.std.proofs.lemmas.Bool.Decides.{nat_tests}
+use Rattle.repl_types.specs.Bytes.{bytes_cmp}
 use Rattle.repl_types.specs.declared.status.Area.{Area}
-use Rattle.keep_core.specs.Contents.{Contents, Table, area_number, bytes_cmp, same_key, set_key, put_at}
+use Rattle.keep_core.specs.Contents.{Contents, Table, area_number, same_key, set_key, put_at}
 use Rattle.keep_map.specs.declared.slot.Slot.{Slot}
 use Rattle.keep_map.specs.declared.row.Row.{Row}
 use Rattle.keep_map.specs.declared.row.StoredValue.{StoredValue}

@@ -7,7 +7,8 @@ use Rattle.std.specs.declared.cmp.Ordering.{Ordering}
 use Rattle.std.specs.BTreeMap.{BTreeMap, get_by}
 use Rattle.std.specs.BTreeMap.Range.{entries_between}
 use Rattle.std.specs.declared.ops.Bound.TheVariants.{Excluded, Unbounded}
-use Rattle.keep_core.specs.Contents.{Contents, Table, bytes_cmp, area_number}
+use Rattle.repl_types.specs.Bytes.{bytes_cmp}
+use Rattle.keep_core.specs.Contents.{Contents, Table, area_number}
 use Rattle.keep_map.specs.declared.slot.Slot.{Slot}
 use Rattle.keep_map.specs.declared.row.StoredValue.{StoredValue}
 use Rattle.keep_map.specs.declared.row.Row.{Row}
@@ -81,6 +82,11 @@ abbrev pub stops : ℕ → ℕ → Slot × Row → Bool
 stops n t e = (is_some e.1.now || not (e.0.area == n)) || not (e.0.table == t)
 
 -- ---- changes
+
+-- the open transaction changed the row
+abbrev pub is_changed : Option Row → Bool
+is_changed None = false
+is_changed (Some row) = is_some row.before
 
 -- the open transaction didn't change the row, and a row has a value
 abbrev pub is_settled : Option Row → Bool

@@ -4,10 +4,11 @@ ghost use Rattle.std.specs.Prelude.{◌≡◌, ◌<◌, ◌≤◌, length, [], f
 ghost use Rattle.std.specs.Option.{option_map};
 ghost use Rattle.std.specs.List.{find};
 ghost use Rattle.std.specs.Map.Iter.{deref_pair};
-ghost use Rattle.std.specs.BTreeMap.{IsOrdered};
-ghost use Rattle.keep_core.specs.Contents.{nothing, put_at, IsNext, IsLast, bytes_cmp};
+ghost use Rattle.std.specs.BTreeMap.{IsOrdered, IsUnchanged};
+ghost use Rattle.repl_types.specs.Bytes.{bytes_cmp};
+ghost use Rattle.keep_core.specs.Contents.{nothing, put_at, IsNext, IsLast};
 ghost use Rattle.keep_core.specs.Kept.{Found, NextIs, WasThere, GivesValue, GivesNext};
-ghost use Rattle.keep_map.specs.Stored.{Place, IsKey, place_of, same_place, bytes_of, row_at, seen_in, table_of, seen_of, held_of, slot_cmp, entries_above, stops, AreRows, Sets, changed, settled};
+ghost use Rattle.keep_map.specs.Stored.{Place, IsKey, place_of, same_place, bytes_of, row_at, seen_in, table_of, seen_of, held_of, slot_cmp, entries_above, stops, is_changed, AreRows, Sets, changed, settled};
 
 use crate::row::{Row, StoredValue};
 use crate::slot::Slot;
@@ -167,29 +168,11 @@ impl Rows {
         ensures ok { OnOk result (Sets (place_of slot) (Some (changed (row_at self.old.map (place_of slot)) value)) self.old.map self.new.map) }
         ensures err { OnErr result ((p : Place) → row_at self.new.map p ≡ row_at self.old.map p) }
     {
-        if let Some(row) = self.map.get_mut(&slot) {
-            if row.before.is_none() {
-                self.touched.push(slot)?;
-            }
-            row.change(value);
-            return Ok(());
-        }
-        self.add(slot, value)
-    }
-
-    /// The transaction sees this value at a slot that has no row yet, or none.
-    fn add(&mut self, slot: Slot, value: Option<StoredValue>) -> Result<(), AllocError>
-        requires key { IsKey slot.key.items }
-        requires new { row_at self.old.map (place_of slot) ≡ None }
-        ensures ok { OnOk result (Sets (place_of slot) (Some (changed None value)) self.old.map self.new.map) }
-        ensures err { OnErr result ((p : Place) → row_at self.new.map p ≡ row_at self.old.map p) }
-    {
         self.touched.push(slot.clone()?)?;
-        let row = Row {
-            now: value,
-            before: Some(None),
-        };
-        self.map.insert(slot, row)?;
+        let was_named = change_row(&mut self.map, slot, value)?;
+        if was_named {
+            self.touched.pop();
+        }
         Ok(())
     }
 
@@ -204,6 +187,26 @@ impl Rows {
             settle_row(&mut self.map, &slot, keep);
         }
     }
+}
+
+/// The row at the slot has this value now, or none. Tells whether the transaction changed it before.
+fn change_row(
+    map: &mut BTreeMap<Slot, Row>,
+    slot: Slot,
+    value: Option<StoredValue>,
+) -> Result<bool, AllocError>
+    ensures ok { OnOk result (Sets (place_of slot) (Some (changed (row_at map.old (place_of slot)) value)) map.old map.new) }
+    ensures changed { IfOk result (λ was. was ≡ is_changed (row_at map.old (place_of slot))) }
+    ensures err { OnErr result (IsUnchanged map.old map.new) }
+{
+    let none = Row {
+        now: None,
+        before: None,
+    };
+    let row = map.entry(slot)?.or_insert(none);
+    let was_changed = row.before.is_some();
+    row.change(value);
+    Ok(was_changed)
 }
 
 /// The row at the slot is settled. Where no value is left there, the row goes.

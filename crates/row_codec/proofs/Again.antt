@@ -1,11 +1,9 @@
 -- What is taken has a spelling, so it can be put again.
 use Rattle.std.proofs.Common.{List, [], ◌∷◌, Option, Some, None}
 use Rattle.std.specs.List.{AllByRecursion}
-use Rattle.repl_types.specs.declared.record.Change.{Change}
 use Rattle.repl_types.specs.declared.record.Change.TheVariants.{Insert, Update, Delete, Start, Stop}
 use Rattle.repl_types.specs.declared.record.LogRecord.{LogRecord}
 use Rattle.repl_types.specs.declared.record.LogRecord.TheVariants as records
-use Rattle.repl_types.specs.declared.value.Value.TheVariants as values
 use Rattle.repl_records.specs.declared.tree.Expr.{Expr}
 use Rattle.repl_records.specs.declared.tree.Operand.{Operand}
 use Rattle.repl_records.specs.declared.tree.Operand.TheVariants as operands
@@ -20,7 +18,7 @@ use Rattle.repl_records.specs.declared.defined.TargetSet.{TargetSet}
 use Rattle.row_codec.specs.declared.nested.Root.TheVariants.{Single, Joined}
 use Rattle.row_codec.specs.declared.expr.ExprLeaf.TheVariants.{Column, Int, Text}
 use Rattle.row_codec.specs.declared.predicate.PredicateLeaf.TheVariants.{Compare, IsNull, IsNotNull}
-use Rattle.row_codec.specs.Spelling.{Any, ListFits}
+use Rattle.row_codec.specs.Spelling.{ListFits}
 use Rattle.row_codec.specs.LogRecords.{IsLogRecord, HasLogSpelling}
 use Rattle.row_codec.specs.Definitions.{IsDefinedTable, HasDefinedTableSpelling, IsDefinedRegistration, HasDefinedRegistrationSpelling}
 use Rattle.row_codec.specs.Exprs.{ExprNode, IsExprNode, HasExprNodeSpelling, expr_nodes, IsExpr, HasExprSpelling}
@@ -38,9 +36,9 @@ list_again P Q less xs fits = (fits.0, each_again P Q less xs fits.1)
 
 -- log records
 pub log_again : (x : LogRecord) → IsLogRecord x → HasLogSpelling x
-log_again (records.Change tx (Insert table row)) fits = list_again _ Any (λ _ _. tt) row fits.2
-log_again (records.Change tx (Update table before after)) fits = (list_again _ Any (λ _ _. tt) before fits.2, list_again _ Any (λ _ _. tt) after fits.3)
-log_again (records.Change tx (Delete table row)) fits = list_again _ Any (λ _ _. tt) row fits.2
+log_again (records.Change tx (Insert table row)) fits = fits.2.0
+log_again (records.Change tx (Update table before after)) fits = (fits.2.0, fits.3.0)
+log_again (records.Change tx (Delete table row)) fits = fits.2.0
 log_again (records.Change tx (Start table)) fits = tt
 log_again (records.Change tx (Stop table)) fits = tt
 log_again (records.Commit tx time authid from) fits = tt
@@ -48,7 +46,7 @@ log_again (records.Abort tx) fits = tt
 
 -- tables
 pub table_again : (x : DefinedTable) → IsDefinedTable x → HasDefinedTableSpelling x
-table_again x fits = (list_again _ Any (λ _ _. tt) x.def.columns fits.1.1, fits.1.2, fits.1.3)
+table_again x fits = (fits.1.1.0, fits.1.2, fits.1.3)
 
 -- registrations
 pub registration_again : (x : DefinedRegistration) → IsDefinedRegistration x → HasDefinedRegistrationSpelling x

@@ -1,5 +1,5 @@
 -- The error at the exit of a `?`.
-use Rattle.std.proofs.Common.{◌≡◌, Result, Ok, Err, sym, ap, ◌∙◌}
+use Rattle.std.proofs.Common.{◌≡◌, Result, Ok, Err, sym, ◌∙◌}
 use Rattle.std.specs.Prelude.{IsErrAnd}
 
 -- the error that the call gave is the one that is handed on

@@ -1,19 +1,14 @@
 -- How long spellings are.
-use Rattle.std.proofs.Common.{◌≡◌, ◌≢◌, ℕ, ◌+◌, Bool, true, false, cond, List, [], ◌∷◌, ◌++◌, length, refl, sym, ap, subst, ◌∙◌, arith, inl, inr}
+use Rattle.std.proofs.Common.{◌≡◌, ℕ, ◌+◌, cond, List, [], ◌∷◌, length, refl, sym, ap, ◌∙◌, arith, inl, inr}
 use Rattle.std.specs.Prelude.{◌==◌, sum_by, count_by}
 use Rattle.std.proofs.lemmas.Bool.{cases_Bool}
-use Rattle.std.proofs.lemmas.Bool.Decides.{nat_tests}
 use Rattle.std.proofs.lemmas.List.{length-append}
 use Rattle.std.proofs.lemmas.List.Sums.{sum_by-cons}
 use Rattle.repl_types.specs.declared.value.Value.{Value}
 use Rattle.repl_types.specs.declared.value.Value.TheVariants.{Null, Int, Text}
 use Rattle.repl_model.specs.Applicable.{spelled_len}
-use Rattle.row_codec.specs.Spelling.{b64, shifted, marked_byte, zeros_marked, value_spelling, key_spelling}
-
--- eight bytes
-length_b64 : (n : ℕ) → length (b64 n) ≡ 8
-unfolding b64
-length_b64 n = refl
+use Rattle.row_codec.specs.Numbers.{length64}
+use Rattle.row_codec.specs.Spelling.{shifted, marked_byte, zeros_marked, value_spelling, key_spelling}
 
 -- a marked byte
 length_marked_byte : (b : ℕ) → length (marked_byte b) ≡ 1 + cond (b == 0) 1 0
@@ -30,7 +25,7 @@ length_marked (b ∷ t) = omega (arith, length-append (marked_byte b) (zeros_mar
 -- a value
 length_value : (v : Value) → length (value_spelling v) ≡ spelled_len v
 length_value Null = refl
-length_value (Int n) = omega (arith, length_b64 (shifted n))
+length_value (Int n) = omega (arith, length64 (shifted n))
 length_value (Text t) = omega (arith, length-append (2 ∷ zeros_marked t) (0 ∷ 0 ∷ []), length_marked t)
 
 -- a key

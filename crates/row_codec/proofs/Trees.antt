@@ -1,5 +1,5 @@
 -- Trees that are being read or written.
-use Rattle.std.proofs.Common.{◌≡◌, ℕ, ◌+◌, List, [], ◌∷◌, ◌++◌, refl, sym, ap, subst, ◌∙◌, arith, append_assoc, append-nil, Some, None}
+use Rattle.std.proofs.Common.{◌≡◌, ℕ, ◌+◌, List, [], ◌∷◌, ◌++◌, sym, ap, subst, ◌∙◌, arith, append_assoc, append-nil, Some, None}
 use Rattle.row_codec.specs.declared.nested.Root.{Root}
 use Rattle.row_codec.specs.declared.nested.Root.TheVariants.{Joined}
 use Rattle.row_codec.specs.declared.nested.Pending.{Pending}

@@ -1,5 +1,5 @@
 -- Spellings worked out by hand.
-use Rattle.std.proofs.Common.{◌≡◌, ℕ, List, [], ◌∷◌, refl}
+use Rattle.std.proofs.Common.{◌≡◌, [], ◌∷◌, refl}
 use Rattle.std.specs.Prelude.{pos}
 use Rattle.repl_types.specs.declared.value.Value.TheVariants.{Int, Text}
 use Rattle.row_codec.specs.Spelling.{b16, b64, row_spelling}

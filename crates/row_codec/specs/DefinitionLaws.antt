@@ -1,13 +1,11 @@
 -- Proofs that columns, tables and registrations have one spelling each. There is nothing to believe
 -- here.
-use Rattle.std.proofs.Common.{◌≡◌, ℕ, Bool, List, ◌++◌, drop, refl, ap}
+use Rattle.std.proofs.Common.{ℕ, Bool, List, drop, refl, ap}
 use Rattle.repl_types.specs.declared.table.Kind.{Kind}
 use Rattle.repl_types.specs.declared.table.Kind.TheVariants.{Int, Text}
 use Rattle.repl_types.specs.declared.table.ColumnDef.{ColumnDef}
 use Rattle.repl_types.specs.declared.table.TableDef.{TableDef}
 use Rattle.repl_types.specs.declared.change_row.Registration.{Registration}
-use Rattle.repl_records.specs.declared.defined.DefinedTable.{DefinedTable}
-use Rattle.repl_records.specs.declared.defined.DefinedRegistration.{DefinedRegistration}
 use Rattle.row_codec.specs.Tags.{other_tag}
 use Rattle.row_codec.specs.Takes.{One, PairFits, pair_spelling, one_by}
 use Rattle.row_codec.specs.Ones.{one_pair}

@@ -7,7 +7,7 @@ use Rattle.repl_types.specs.declared.table.TableDef.{TableDef}
 use Rattle.repl_types.specs.declared.change_row.Registration.{Registration}
 use Rattle.repl_records.specs.declared.defined.DefinedTable.{DefinedTable}
 use Rattle.repl_records.specs.declared.defined.DefinedRegistration.{DefinedRegistration}
-use Rattle.row_codec.specs.Spelling.{Any, b16, b32, Is16, Is32, flag, short_text, IsName, list_spelling, ListFits}
+use Rattle.row_codec.specs.Spelling.{Any, b16, b32, Is16, Is32, flag, short_text, IsName, list_spelling, IsCounted, ListFits}
 
 -- ---- places
 
@@ -30,6 +30,7 @@ kind_spelling Text = 2 ∷ []
 abbrev pub column_spelling : ColumnDef → List ℕ
 column_spelling column = short_text column.name ++ kind_spelling column.kind ++ flag column.nullable
 
+-- the columns whose name is a name
 abbrev pub IsColumn : ColumnDef → Type 0
 IsColumn column = IsName column.name × Any column.kind × Any column.nullable
 
@@ -39,8 +40,9 @@ table_spelling table = short_text table.name ++ list_spelling column_spelling ta
 
 -- the tables that have a spelling
 abbrev pub HasTableSpelling : TableDef → Type 0
-HasTableSpelling table = ListFits Any table.columns × ArePlaces table.key × ArePlaces table.fixed
+HasTableSpelling table = IsCounted table.columns × ArePlaces table.key × ArePlaces table.fixed
 
+-- the tables of names, whose lists have counts of two bytes
 abbrev pub IsTable : TableDef → Type 0
 IsTable table = IsName table.name × ListFits IsColumn table.columns × ArePlaces table.key × ArePlaces table.fixed
 
@@ -48,9 +50,11 @@ IsTable table = IsName table.name × ListFits IsColumn table.columns × ArePlace
 abbrev pub defined_table_spelling : DefinedTable → List ℕ
 defined_table_spelling defined = b32 defined.number ++ table_spelling defined.def
 
+-- the numbered tables that have a spelling
 abbrev pub HasDefinedTableSpelling : DefinedTable → Type 0
 HasDefinedTableSpelling defined = HasTableSpelling defined.def
 
+-- the numbered tables whose number has four bytes
 abbrev pub IsDefinedTable : DefinedTable → Type 0
 IsDefinedTable defined = Is32 defined.number × IsTable defined.def
 
@@ -64,6 +68,7 @@ registration_spelling r = short_text r.table ++ places_spelling r.after ++ place
 abbrev pub HasRegistrationSpelling : Registration → Type 0
 HasRegistrationSpelling r = ArePlaces r.after × ArePlaces r.before
 
+-- the registrations of a name, whose lists have counts of two bytes
 abbrev pub IsRegistration : Registration → Type 0
 IsRegistration r = IsName r.table × ArePlaces r.after × ArePlaces r.before × Any r.del_ins × Any r.changes_only × Any r.disable_refresh
 
@@ -71,8 +76,10 @@ IsRegistration r = IsName r.table × ArePlaces r.after × ArePlaces r.before × 
 abbrev pub defined_registration_spelling : DefinedRegistration → List ℕ
 defined_registration_spelling defined = b32 defined.number ++ registration_spelling defined.registration
 
+-- the numbered registrations that have a spelling
 abbrev pub HasDefinedRegistrationSpelling : DefinedRegistration → Type 0
 HasDefinedRegistrationSpelling defined = HasRegistrationSpelling defined.registration
 
+-- the numbered registrations whose number has four bytes
 abbrev pub IsDefinedRegistration : DefinedRegistration → Type 0
 IsDefinedRegistration defined = Is32 defined.number × IsRegistration defined.registration

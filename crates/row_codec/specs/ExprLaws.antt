@@ -4,7 +4,6 @@ use Rattle.repl_types.specs.declared.value.Value.TheVariants as values
 use Rattle.repl_records.specs.declared.tree.Expr.{Expr, Expr-F, fold-roll-Expr, ind-Expr, map-Expr, roll-Expr}
 use Rattle.repl_records.specs.declared.tree.Expr.TheOpen as layer
 use Rattle.repl_records.specs.declared.tree.Expr.TheVariants as exprs
-use Rattle.row_codec.specs.declared.nested.Root.{Root}
 use Rattle.row_codec.specs.declared.nested.Root.TheVariants.{Single, Joined}
 use Rattle.row_codec.specs.declared.expr.ExprLeaf.{ExprLeaf}
 use Rattle.row_codec.specs.declared.expr.ExprLeaf.TheVariants.{Column, Int, Text}

@@ -19,6 +19,7 @@ use Rattle.row_codec.specs.Forests.{nodes_spelling, NodesFit}
 abbrev pub ExprNode : Type 0
 ExprNode = Root ExprLeaf ExprJoint
 
+-- 16 and a place, 17 and a value, or 18 to 21 for +, -, * and ||
 abbrev pub expr_node_spelling : ExprNode → List ℕ
 expr_node_spelling (Single (Column place)) = 16 ∷ b16 place
 expr_node_spelling (Single (Int n)) = 17 ∷ value_spelling (values.Int n)
@@ -76,6 +77,7 @@ expr_nodes = fold-Expr (List ExprNode) (λ nodes. layer_top nodes ∷ layer_belo
 abbrev pub expr_spelling : Expr → List ℕ
 expr_spelling e = nodes_spelling expr_node_spelling (expr_nodes e)
 
+-- the expressions whose literals are values too
 abbrev pub IsExpr : Expr → Type 0
 IsExpr e = NodesFit IsExprNode (expr_nodes e)
 

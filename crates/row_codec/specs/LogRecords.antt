@@ -1,10 +1,10 @@
 -- The spellings of the records of a log.
-use Rattle.std.specs.Prelude.{ℕ, List, [], ◌∷◌, ◌++◌}
+use Rattle.std.specs.Prelude.{ℕ, List, ◌∷◌, ◌++◌}
 use Rattle.repl_types.specs.declared.record.Change.{Change}
 use Rattle.repl_types.specs.declared.record.Change.TheVariants.{Insert, Update, Delete, Start, Stop}
 use Rattle.repl_types.specs.declared.record.LogRecord.{LogRecord}
 use Rattle.repl_types.specs.declared.record.LogRecord.TheVariants as records
-use Rattle.row_codec.specs.Spelling.{Any, b32, b64, Is32, Is64, short_text, IsName, origin, IsOrigin, row_spelling, IsRow, IsCounted, ListFits}
+use Rattle.row_codec.specs.Spelling.{b32, b64, Is32, Is64, short_text, IsName, origin, IsOrigin, row_spelling, IsRow, IsCounted}
 
 -- a change: its number, the transaction, the table and the rows
 abbrev pub change_spelling : ℕ → Change → List ℕ
@@ -22,9 +22,9 @@ log_spelling (records.Abort tx) = 21 ∷ b32 tx
 
 -- the changes whose rows have counts of two bytes
 abbrev pub HasChangeSpelling : Change → Type 0
-HasChangeSpelling (Insert table row) = ListFits Any row
-HasChangeSpelling (Update table before after) = ListFits Any before × ListFits Any after
-HasChangeSpelling (Delete table row) = ListFits Any row
+HasChangeSpelling (Insert table row) = IsCounted row
+HasChangeSpelling (Update table before after) = IsCounted before × IsCounted after
+HasChangeSpelling (Delete table row) = IsCounted row
 HasChangeSpelling (Start table) = Unit {0}
 HasChangeSpelling (Stop table) = Unit {0}
 

@@ -1,11 +1,26 @@
--- Proofs that numbers have one spelling each, in the order of the numbers. There is nothing to believe
--- here.
-use Rattle.std.proofs.Common.{◌≡◌, ℕ, true, false, ◌+◌, ◌*◌, ◌/◌, ◌%◌, ◌^◌, ◌<◌, ◌≤◌, List, ◌∷◌, ◌++◌, length, take, drop, refl, sym, ap, ◌∙◌, arith}
+-- Proofs of how many bytes a number takes, and that numbers have one spelling each. There is nothing to
+-- believe here.
+use Rattle.std.proofs.Common.{◌≡◌, ℕ, true, false, List, ◌∷◌, ◌++◌, length, take, drop, refl, sym, ap, ◌∙◌}
 use Rattle.std.proofs.Math.Seq.{take-append_seam, drop-append_seam}
 use Rattle.std.proofs.lemmas.Nat.{from_be_bytes-to_be_bytes_2, from_be_bytes-to_be_bytes_4, from_be_bytes-to_be_bytes_8}
 use Rattle.std.specs.Int.{w16, w32, w64, from_be_bytes}
 use Rattle.row_codec.specs.Takes.{One}
 use Rattle.row_codec.specs.Spelling.{Any, Is8, Is16, Is32, Is64, b8, b16, b32, b64, flag}
+
+-- two bytes
+pub length16 : (n : ℕ) → length (b16 n) ≡ 2
+unfolding b16
+length16 n = refl
+
+-- four bytes
+pub length32 : (n : ℕ) → length (b32 n) ≡ 4
+unfolding b32
+length32 n = refl
+
+-- eight bytes
+pub length64 : (n : ℕ) → length (b64 n) ≡ 8
+unfolding b64
+length64 n = refl
 
 -- fronts of one length are told apart by the whole
 pub fronts : (s t a b : List ℕ) → length s ≡ length t → s ++ a ≡ t ++ b → (s ≡ t) × (a ≡ b)

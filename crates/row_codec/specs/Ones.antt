@@ -1,5 +1,5 @@
 -- Proofs that each value has one spelling, whatever follows it. There is nothing to believe here.
-use Rattle.std.proofs.Common.{◌≡◌, ℕ, List, ◌++◌, sym, ◌∙◌, append_assoc}
+use Rattle.std.proofs.Common.{ℕ, List, ◌++◌, sym, ◌∙◌, append_assoc}
 use Rattle.row_codec.specs.Takes.{One, PairFits, pair_spelling}
 
 -- two parts, one after the other

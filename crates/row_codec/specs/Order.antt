@@ -3,15 +3,11 @@ use Rattle.std.proofs.Common.{◌≡◌, ℕ, ◌+◌, ◌*◌, ◌/◌, ◌%◌
 use Rattle.std.proofs.Math.Nat.{mul-le-mul_left}
 use Rattle.std.specs.Cmp.{nat_cmp_is, ranked}
 use Rattle.std.specs.Ordering.{nat_cmp, ordering_then}
-use Rattle.std.specs.Cmp.Lexicographic.{slice_cmp}
 use Rattle.std.specs.declared.cmp.Ordering.{Ordering}
 use Rattle.std.specs.declared.cmp.Ordering.TheVariants.{Less, Equal, Greater}
+use Rattle.repl_types.specs.Bytes.{bytes_cmp}
 use Rattle.row_codec.specs.Takes.{PairFits, pair_spelling}
 use Rattle.row_codec.specs.Spelling.{Is16, Is32, Is64, IsName, b16, b32, b64, short_text}
-
--- bytes are compared from the first to the last
-abbrev pub bytes_cmp : List ℕ → List ℕ → Ordering
-bytes_cmp = slice_cmp nat_cmp
 
 -- spellings are in the order of what they spell; where that ties, what follows decides
 abbrev pub Ordered : {X : Type 0} → (X → Type 0) → (X → List ℕ) → (X → X → Ordering) → Type 0

@@ -21,17 +21,17 @@ use Rattle.row_codec.specs.Numbers.{one16}
 use Rattle.row_codec.specs.Values.{one_value}
 use Rattle.row_codec.specs.Forests.{IsForest}
 use Rattle.row_codec.specs.ForestLaws.{Trees, one_tree, one_nested, has_first}
-use Rattle.row_codec.specs.Predicates.{op_spelling, operand_spelling, IsOperand, PredicateNode, predicate_node_spelling, IsPredicateNode, layer_top, layer_below, predicate_top, predicate_nodes, predicate_spelling, IsPredicate}
+use Rattle.row_codec.specs.Predicates.{compare_op_spelling, operand_spelling, IsOperand, PredicateNode, predicate_node_spelling, IsPredicateNode, layer_top, layer_below, predicate_top, predicate_nodes, predicate_spelling, IsPredicate}
 
 -- comparisons
-pub one_op : One Any op_spelling
-one_op Eq Eq a b fx fy e = (refl, ap (drop 1) e)
-one_op Ne Ne a b fx fy e = (refl, ap (drop 1) e)
-one_op Lt Lt a b fx fy e = (refl, ap (drop 1) e)
-one_op Le Le a b fx fy e = (refl, ap (drop 1) e)
-one_op Gt Gt a b fx fy e = (refl, ap (drop 1) e)
-one_op Ge Ge a b fx fy e = (refl, ap (drop 1) e)
-one_op x y a b fx fy e = absurd (other_tag _ _ _ _ e refl)
+pub one_compare_op : One Any compare_op_spelling
+one_compare_op Eq Eq a b fx fy e = (refl, ap (drop 1) e)
+one_compare_op Ne Ne a b fx fy e = (refl, ap (drop 1) e)
+one_compare_op Lt Lt a b fx fy e = (refl, ap (drop 1) e)
+one_compare_op Le Le a b fx fy e = (refl, ap (drop 1) e)
+one_compare_op Gt Gt a b fx fy e = (refl, ap (drop 1) e)
+one_compare_op Ge Ge a b fx fy e = (refl, ap (drop 1) e)
+one_compare_op x y a b fx fy e = absurd (other_tag _ _ _ _ e refl)
 
 -- operands
 pub one_operand : One IsOperand operand_spelling
@@ -40,8 +40,8 @@ one_operand (operands.Value v) (operands.Value w) a b fx fy e = let same = one_v
 one_operand x y a b fx fy e = absurd (other_tag _ _ _ _ e refl)
 
 -- two operands with a comparison between them
-one_comparison : One (PairFits (PairFits IsOperand Any) IsOperand) (pair_spelling (pair_spelling operand_spelling op_spelling) operand_spelling)
-one_comparison = one_pair (PairFits IsOperand Any) IsOperand (pair_spelling operand_spelling op_spelling) operand_spelling (one_pair IsOperand Any operand_spelling op_spelling one_operand one_op) one_operand
+one_comparison : One (PairFits (PairFits IsOperand Any) IsOperand) (pair_spelling (pair_spelling operand_spelling compare_op_spelling) operand_spelling)
+one_comparison = one_pair (PairFits IsOperand Any) IsOperand (pair_spelling operand_spelling compare_op_spelling) operand_spelling (one_pair IsOperand Any operand_spelling compare_op_spelling one_operand one_compare_op) one_operand
 
 -- nodes
 pub one_predicate_node : One IsPredicateNode predicate_node_spelling

@@ -21,13 +21,13 @@ use Rattle.row_codec.specs.Forests.{nodes_spelling, NodesFit}
 -- ---- comparisons
 
 -- 1 to 6 for =, <>, <, <=, > and >=
-abbrev pub op_spelling : CompareOp → List ℕ
-op_spelling Eq = 1 ∷ []
-op_spelling Ne = 2 ∷ []
-op_spelling Lt = 3 ∷ []
-op_spelling Le = 4 ∷ []
-op_spelling Gt = 5 ∷ []
-op_spelling Ge = 6 ∷ []
+abbrev pub compare_op_spelling : CompareOp → List ℕ
+compare_op_spelling Eq = 1 ∷ []
+compare_op_spelling Ne = 2 ∷ []
+compare_op_spelling Lt = 3 ∷ []
+compare_op_spelling Le = 4 ∷ []
+compare_op_spelling Gt = 5 ∷ []
+compare_op_spelling Ge = 6 ∷ []
 
 -- a column's place, or a value
 abbrev pub operand_spelling : Operand → List ℕ
@@ -45,6 +45,7 @@ abbrev pub HasOperandSpelling : Operand → Type 0
 HasOperandSpelling (operands.Column place) = Is16 place
 HasOperandSpelling (operands.Value value) = IsLiteral value
 
+-- the operands whose literal is a value too
 abbrev pub IsOperand : Operand → Type 0
 IsOperand (operands.Column place) = Is16 place
 IsOperand (operands.Value value) = IsLiteral value × IsValue value
@@ -55,8 +56,9 @@ IsOperand (operands.Value value) = IsLiteral value × IsValue value
 abbrev pub PredicateNode : Type 0
 PredicateNode = Root PredicateLeaf PredicateJoint
 
+-- 32 and a comparison, 33 and 34 and a place for IS NULL and IS NOT NULL, 35 for AND, 36 for OR
 abbrev pub predicate_node_spelling : PredicateNode → List ℕ
-predicate_node_spelling (Single (Compare left op right)) = 32 ∷ operand_spelling left ++ op_spelling op ++ operand_spelling right
+predicate_node_spelling (Single (Compare left op right)) = 32 ∷ operand_spelling left ++ compare_op_spelling op ++ operand_spelling right
 predicate_node_spelling (Single (IsNull place)) = 33 ∷ b16 place
 predicate_node_spelling (Single (IsNotNull place)) = 34 ∷ b16 place
 predicate_node_spelling (Joined And) = 35 ∷ []
@@ -69,6 +71,7 @@ HasPredicateNodeSpelling (Single (IsNull place)) = Is16 place
 HasPredicateNodeSpelling (Single (IsNotNull place)) = Is16 place
 HasPredicateNodeSpelling (Joined joint) = Unit {0}
 
+-- the nodes whose literals are values too
 abbrev pub IsPredicateNode : PredicateNode → Type 0
 IsPredicateNode (Single (Compare left op right)) = IsOperand left × Any op × IsOperand right
 IsPredicateNode (Single (IsNull place)) = Is16 place
@@ -105,6 +108,7 @@ predicate_nodes = fold-Predicate (List PredicateNode) (λ nodes. layer_top nodes
 abbrev pub predicate_spelling : Predicate → List ℕ
 predicate_spelling p = nodes_spelling predicate_node_spelling (predicate_nodes p)
 
+-- the predicates whose literals are values too
 abbrev pub IsPredicate : Predicate → Type 0
 IsPredicate p = NodesFit IsPredicateNode (predicate_nodes p)
 

@@ -1,7 +1,6 @@
 -- Proofs that records have one spelling each. There is nothing to believe here.
 use Rattle.std.proofs.Common.{◌≡◌, ℕ, Bool, List, Option, refl, ap, arith}
 use Rattle.repl_types.specs.declared.value.Value.{Value}
-use Rattle.repl_types.specs.ValueText.{IsValue}
 use Rattle.repl_types.specs.declared.record.SetId.{SetId}
 use Rattle.repl_types.specs.declared.change_row.Op.{Op}
 use Rattle.repl_types.specs.declared.change_row.Op.TheVariants.{I, U, D}
@@ -10,15 +9,11 @@ use Rattle.row_codec.specs.Takes.{One, PairFits, pair_spelling, one_by}
 use Rattle.row_codec.specs.Ones.{one_pair}
 use Rattle.row_codec.specs.Numbers.{first_is, one64, one_flag}
 use Rattle.row_codec.specs.Names.{one_name, one_origin}
-use Rattle.row_codec.specs.Values.{one_value, one_list}
-use Rattle.row_codec.specs.Spelling.{Any, IsRow, Is64, b8, b64, row_spelling, value_spelling}
+use Rattle.row_codec.specs.Values.{one_row}
+use Rattle.row_codec.specs.Spelling.{Any, IsRow, Is64, b8, b64, row_spelling}
 use Rattle.row_codec.specs.RecordKeys.{IsSequence, sequence_spelling}
 use Rattle.row_codec.specs.KeyOrder.{one_sequence}
-use Rattle.row_codec.specs.Records.{last_number_spelling, IsLastNumber, copy_spelling, IsCopy, point_spelling, IsPoint, aggregate_spelling, IsAggregate, history_spelling, IsHistory, latest_spelling, IsLatest, source_row_spelling, IsSourceRow, in_flight_spelling, head_spelling, IsHead, op_spelling, change_spelling, IsChange, IsCode, uow_spelling, IsUow, capture_spelling, IsCapture, registration_spelling, IsRegistrationState, mark_spelling, IsMark, decided_spelling, IsDecided, rejected_spelling, IsRejected}
-
--- rows
-pub one_row : One IsRow row_spelling
-one_row = one_list IsValue value_spelling one_value
+use Rattle.row_codec.specs.Records.{last_number_spelling, IsLastNumber, copy_spelling, IsCopy, point_spelling, IsPoint, aggregate_spelling, IsAggregate, history_spelling, IsHistory, latest_spelling, IsLatest, source_row_spelling, IsSourceRow, in_flight_spelling, head_spelling, IsHead, op_spelling, change_row_spelling, IsChangeRow, IsCode, uow_spelling, IsUow, capture_spelling, IsCapture, registration_state_spelling, IsRegistrationState, mark_spelling, IsMark, decided_spelling, IsDecided, rejected_spelling, IsRejected}
 
 -- two numbers
 pub one_two_numbers : One (PairFits Is64 Is64) (pair_spelling b64 b64)
@@ -57,8 +52,8 @@ pub one_head : One IsHead head_spelling
 one_head = one_by _ _ IsHead (λ r. ((r.last, r.commit), r.time)) (λ x y e. ap (λ (p : (ℕ × ℕ) × ℕ). record { last = p.0.0; commit = p.0.1; time = p.1 }) e) (λ _ fits. ((fits.0, fits.1), fits.2)) one_three_numbers
 
 -- change rows
-pub one_change : One IsChange change_spelling
-one_change = one_by _ _ IsChange (λ r. ((r.op, r.after), r.before)) (λ x y e. ap (λ (p : (Op × List Value) × List Value). record { op = p.0.0; after = p.0.1; before = p.1 }) e) (λ _ fits. ((tt, fits.0), fits.1)) (one_pair _ _ _ _ (one_pair _ _ _ _ one_op one_row) one_row)
+pub one_change_row : One IsChangeRow change_row_spelling
+one_change_row = one_by _ _ IsChangeRow (λ r. ((r.op, r.after), r.before)) (λ x y e. ap (λ (p : (Op × List Value) × List Value). record { op = p.0.0; after = p.0.1; before = p.1 }) e) (λ _ fits. ((tt, fits.0), fits.1)) (one_pair _ _ _ _ (one_pair _ _ _ _ one_op one_row) one_row)
 
 -- captured units
 pub one_uow : One IsUow uow_spelling
@@ -69,8 +64,8 @@ pub one_capture : One IsCapture capture_spelling
 one_capture = one_by _ _ IsCapture (λ r. ((r.captured, r.restart), r.floor)) (λ x y e. ap (λ (p : (ℕ × ℕ) × ℕ). record { captured = p.0.0; restart = p.0.1; floor = p.1 }) e) (λ _ fits. ((fits.0, fits.1), fits.2)) one_three_numbers
 
 -- states of registrations
-pub one_registration : One IsRegistrationState registration_spelling
-one_registration = one_by _ _ IsRegistrationState (λ r. ((r.active, r.start), r.floor)) (λ x y e. ap (λ (p : (Bool × ℕ) × ℕ). record { active = p.0.0; start = p.0.1; floor = p.1 }) e) (λ _ fits. ((tt, fits.0), fits.1)) (one_pair _ _ _ _ (one_pair _ _ _ _ one_flag one64) one64)
+pub one_registration_state : One IsRegistrationState registration_state_spelling
+one_registration_state = one_by _ _ IsRegistrationState (λ r. ((r.active, r.start), r.floor)) (λ x y e. ap (λ (p : (Bool × ℕ) × ℕ). record { active = p.0.0; start = p.0.1; floor = p.1 }) e) (λ _ fits. ((tt, fits.0), fits.1)) (one_pair _ _ _ _ (one_pair _ _ _ _ one_flag one64) one64)
 
 -- marks of sets
 pub one_mark : One IsMark mark_spelling

@@ -54,12 +54,12 @@ op_spelling U = 0x55 ∷ []
 op_spelling D = 0x44 ∷ []
 
 -- a change row: the operation, and the images after and before
-abbrev pub change_spelling : ChangeRow → List ℕ
-change_spelling r = op_spelling r.op ++ row_spelling r.after ++ row_spelling r.before
+abbrev pub change_row_spelling : ChangeRow → List ℕ
+change_row_spelling r = op_spelling r.op ++ row_spelling r.after ++ row_spelling r.before
 
 -- change rows whose images have a spelling
-abbrev pub IsChange : ChangeRow → Type 0
-IsChange r = IsRow r.after × IsRow r.before
+abbrev pub IsChangeRow : ChangeRow → Type 0
+IsChangeRow r = IsRow r.after × IsRow r.before
 
 -- the rejection codes of units, 0 for a unit that stands
 abbrev pub IsCode : ℕ → Type 0
@@ -82,8 +82,8 @@ abbrev pub IsCapture : CaptureState → Type 0
 IsCapture r = Is64 r.captured × Is64 r.restart × Is64 r.floor
 
 -- the state of a registration: whether it is active, its start and its floor
-abbrev pub registration_spelling : RegState → List ℕ
-registration_spelling r = flag r.active ++ b64 r.start ++ b64 r.floor
+abbrev pub registration_state_spelling : RegState → List ℕ
+registration_state_spelling r = flag r.active ++ b64 r.start ++ b64 r.floor
 
 -- the states of registrations whose numbers have eight bytes
 abbrev pub IsRegistrationState : RegState → Type 0

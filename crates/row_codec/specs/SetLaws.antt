@@ -1,5 +1,5 @@
 -- Proofs that members and sets have one spelling each. There is nothing to believe here.
-use Rattle.std.proofs.Common.{◌≡◌, ℕ, Bool, List, ◌∷◌, ◌++◌, Option, Some, None, drop, refl, ap}
+use Rattle.std.proofs.Common.{ℕ, Bool, List, Option, Some, None, drop, refl, ap}
 use Rattle.repl_types.specs.declared.record.SetId.{SetId}
 use Rattle.repl_records.specs.declared.tree.Expr.{Expr}
 use Rattle.repl_records.specs.declared.tree.Predicate.{Predicate}
@@ -10,18 +10,14 @@ use Rattle.repl_records.specs.declared.set.ColumnFrom.TheVariants.{Plain, Count,
 use Rattle.repl_records.specs.declared.set.TargetColumn.{TargetColumn}
 use Rattle.repl_records.specs.declared.set.Member.{Member}
 use Rattle.repl_records.specs.declared.set.SetDef.{SetDef}
-use Rattle.repl_records.specs.declared.defined.SourceSet.{SourceSet}
-use Rattle.repl_records.specs.declared.defined.TargetSet.{TargetSet}
 use Rattle.row_codec.specs.Tags.{other_tag}
 use Rattle.row_codec.specs.Takes.{One, PairFits, pair_spelling, one_by}
 use Rattle.row_codec.specs.Ones.{one_pair}
 use Rattle.row_codec.specs.Numbers.{one16, one32, one_flag}
 use Rattle.row_codec.specs.Names.{one_name, one_set}
 use Rattle.row_codec.specs.Values.{one_list}
-use Rattle.row_codec.specs.Spelling.{Any, b16, b32, Is16, Is32, flag, short_text, IsName, set_spelling, IsSet, list_spelling, ListFits}
-use Rattle.row_codec.specs.Exprs.{expr_spelling, IsExpr}
+use Rattle.row_codec.specs.Spelling.{Any, b32, Is32, flag, short_text, IsName, set_spelling, IsSet, list_spelling, ListFits}
 use Rattle.row_codec.specs.ExprLaws.{one_expr}
-use Rattle.row_codec.specs.Predicates.{predicate_spelling, IsPredicate}
 use Rattle.row_codec.specs.PredicateLaws.{one_predicate}
 use Rattle.row_codec.specs.Sets.{target_kind_spelling, source_spelling, IsSource, target_column_spelling, IsTargetColumn, filter_spelling, IsFilter, member_spelling, IsMember, set_def_spelling, IsSetDef, source_set_spelling, IsSourceSet, target_set_spelling, IsTargetSet}
 

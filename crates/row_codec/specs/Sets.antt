@@ -1,6 +1,5 @@
 -- The spellings of members and sets.
 use Rattle.std.specs.Prelude.{ℕ, List, [], ◌∷◌, ◌++◌, Option, Some, None, IfSome}
-use Rattle.repl_types.specs.declared.record.SetId.{SetId}
 use Rattle.repl_records.specs.declared.tree.Predicate.{Predicate}
 use Rattle.repl_records.specs.declared.set.TargetKind.{TargetKind}
 use Rattle.repl_records.specs.declared.set.TargetKind.TheVariants.{UserCopy, PointInTime, BaseAggregate, ChangeAggregate, Ccd, Replica}
@@ -44,6 +43,7 @@ HasSourceSpelling (Sum place) = Is16 place
 HasSourceSpelling (Min place) = Is16 place
 HasSourceSpelling (Max place) = Is16 place
 
+-- the sources whose expression has values as literals, and whose place has two bytes
 abbrev pub IsSource : ColumnFrom → Type 0
 IsSource (Plain e) = IsExpr e
 IsSource Count = Unit {0}
@@ -60,6 +60,7 @@ target_column_spelling column = short_text column.name ++ source_spelling column
 abbrev pub HasTargetColumnSpelling : TargetColumn → Type 0
 HasTargetColumnSpelling column = HasSourceSpelling column.from
 
+-- the columns whose name is a name
 abbrev pub IsTargetColumn : TargetColumn → Type 0
 IsTargetColumn column = IsName column.name × IsSource column.from
 
@@ -72,6 +73,7 @@ filter_spelling (Some p) = 1 ∷ predicate_spelling p
 abbrev pub HasFilterSpelling : Option Predicate → Type 0
 HasFilterSpelling filter = IfSome filter HasPredicateSpelling
 
+-- the filters whose predicate has values as literals
 abbrev pub IsFilter : Option Predicate → Type 0
 IsFilter filter = IfSome filter IsPredicate
 
@@ -83,6 +85,7 @@ member_spelling m = short_text m.source ++ short_text m.target ++ target_kind_sp
 abbrev pub HasMemberSpelling : Member → Type 0
 HasMemberSpelling m = ListFits HasTargetColumnSpelling m.columns × HasFilterSpelling m.filter
 
+-- the members of names
 abbrev pub IsMember : Member → Type 0
 IsMember m = IsName m.source × IsName m.target × Any m.kind × ListFits IsTargetColumn m.columns × IsFilter m.filter
 
@@ -96,6 +99,7 @@ set_def_spelling s = set_spelling s.id ++ short_text s.source ++ short_text s.ta
 abbrev pub HasSetDefSpelling : SetDef → Type 0
 HasSetDefSpelling s = ListFits HasMemberSpelling s.members
 
+-- the sets of names, whose limits have four bytes
 abbrev pub IsSetDef : SetDef → Type 0
 IsSetDef s = IsSet s.id × IsName s.source × IsName s.target × Is32 s.commit_count × Is32 s.max_minutes × ListFits IsMember s.members
 
@@ -103,9 +107,11 @@ IsSetDef s = IsSet s.id × IsName s.source × IsName s.target × Is32 s.commit_c
 abbrev pub source_set_spelling : SourceSet → List ℕ
 source_set_spelling defined = b32 defined.number ++ set_def_spelling defined.def
 
+-- the numbered sets that have a spelling
 abbrev pub HasSourceSetSpelling : SourceSet → Type 0
 HasSourceSetSpelling defined = HasSetDefSpelling defined.def
 
+-- the numbered sets whose number has four bytes
 abbrev pub IsSourceSet : SourceSet → Type 0
 IsSourceSet defined = Is32 defined.number × IsSetDef defined.def
 
@@ -113,8 +119,10 @@ IsSourceSet defined = Is32 defined.number × IsSetDef defined.def
 abbrev pub target_set_spelling : TargetSet → List ℕ
 target_set_spelling defined = b32 defined.number ++ set_def_spelling defined.def
 
+-- the numbered sets that have a spelling
 abbrev pub HasTargetSetSpelling : TargetSet → Type 0
 HasTargetSetSpelling defined = HasSetDefSpelling defined.def
 
+-- the numbered sets whose number has four bytes
 abbrev pub IsTargetSet : TargetSet → Type 0
 IsTargetSet defined = Is32 defined.number × IsSetDef defined.def

@@ -14,29 +14,35 @@ Any x = Unit {0}
 
 -- ---- numbers and flags
 
--- a number of one, two, four or eight bytes, the highest first
+-- a number of one byte
 abbrev pub b8 : ℕ → List ℕ
 b8 n = n ∷ []
 
+-- a number of two bytes, the higher first
 unfoldable pub b16 : ℕ → List ℕ
 b16 n = to_be_bytes w16 n
 
+-- a number of four bytes, the highest first
 unfoldable pub b32 : ℕ → List ℕ
 b32 n = to_be_bytes w32 n
 
+-- a number of eight bytes, the highest first
 unfoldable pub b64 : ℕ → List ℕ
 b64 n = to_be_bytes w64 n
 
--- the numbers that have so many bytes
+-- the numbers of one byte
 abbrev pub Is8 : ℕ → Type 0
 Is8 n = n < 2 ^ 8
 
+-- the numbers of two bytes
 abbrev pub Is16 : ℕ → Type 0
 Is16 n = n < 2 ^ 16
 
+-- the numbers of four bytes
 abbrev pub Is32 : ℕ → Type 0
 Is32 n = n < 2 ^ 32
 
+-- the numbers of eight bytes
 abbrev pub Is64 : ℕ → Type 0
 Is64 n = n < 2 ^ 64
 
@@ -47,6 +53,7 @@ flag true = 1 ∷ []
 
 -- ---- names
 
+-- a name: 1 to 32 letters, digits and _, the first a letter
 abbrev pub IsName : List ℕ → Type 0
 IsName name = IsTrue (is_name name)
 
@@ -58,6 +65,7 @@ short_text text = length text ∷ text
 abbrev pub set_spelling : SetId → List ℕ
 set_spelling set = short_text set.qual ++ short_text set.name
 
+-- a set of two names
 abbrev pub IsSet : SetId → Type 0
 IsSet set = IsName set.qual × IsName set.name
 
@@ -66,6 +74,7 @@ abbrev pub origin : Option SetId → List ℕ
 origin None = 0 ∷ []
 origin (Some set) = 1 ∷ set_spelling set
 
+-- no set, or a set of two names
 abbrev pub IsOrigin : Option SetId → Type 0
 IsOrigin set = IfSome set IsSet
 
@@ -109,9 +118,11 @@ IsCounted xs = length xs < 2 ^ 16
 abbrev pub ListFits : {X : Type 0} → (X → Type 0) → List X → Type 0
 ListFits fits xs = IsCounted xs × AllByRecursion fits xs
 
+-- a row: two bytes of count, and its values
 abbrev pub row_spelling : List Value → List ℕ
 row_spelling = list_spelling value_spelling
 
+-- the rows of values, whose count has two bytes
 abbrev pub IsRow : List Value → Type 0
 IsRow = ListFits IsValue
 
@@ -119,5 +130,6 @@ IsRow = ListFits IsValue
 abbrev pub key_spelling : List Value → List ℕ
 key_spelling = flat_map value_spelling
 
+-- the keys of values
 abbrev pub IsKey : List Value → Type 0
 IsKey = AllByRecursion IsValue

@@ -1,6 +1,6 @@
 -- Proofs that values, rows and keys have one spelling each, in their order. There is nothing to believe
 -- here.
-use Rattle.std.proofs.Common.{◌≡◌, ◌≢◌, ℕ, ◌+◌, ◌-◌, ◌^◌, ◌<◌, ◌≤◌, Bool, true, false, cond, List, [], ◌∷◌, ◌++◌, length, drop, refl, sym, ap, subst, ◌∙◌, append_assoc, arith, inl, inr}
+use Rattle.std.proofs.Common.{◌≡◌, ◌≢◌, ℕ, Bool, false, cond, List, [], ◌∷◌, ◌++◌, length, refl, sym, ap, subst, ◌∙◌, append_assoc, arith, inl, inr}
 use Rattle.std.specs.Prelude.{ℤ, pos, negsuc, ◌==◌}
 use Rattle.std.specs.List.{flat_map, AllByRecursion}
 use Rattle.std.specs.Ordering.{nat_cmp, int_cmp, ordering_then}
@@ -12,6 +12,7 @@ use Rattle.std.proofs.lemmas.Bool.{cases_eq}
 use Rattle.std.proofs.lemmas.Bool.Decides.{nat_tests}
 use Rattle.std.proofs.lemmas.Int.{ints}
 use Rattle.std.proofs.lemmas.Map.Lookups.{exact_bytes}
+use Rattle.repl_types.specs.Bytes.{bytes_cmp}
 use Rattle.repl_types.proofs.Order.{exact_value, exact_key}
 use Rattle.repl_types.specs.Value.{value_cmp, key_cmp}
 use Rattle.repl_types.specs.ValueText.{IsValue}
@@ -19,8 +20,8 @@ use Rattle.repl_types.specs.declared.value.Value.{Value}
 use Rattle.repl_types.specs.declared.value.Value.TheVariants.{Null, Int, Text}
 use Rattle.row_codec.specs.Takes.{One}
 use Rattle.row_codec.specs.Numbers.{one16}
-use Rattle.row_codec.specs.Spelling.{Is64, b16, b64, zeros_marked, shifted, value_spelling, list_spelling, key_spelling, ListFits, IsKey}
-use Rattle.row_codec.specs.Order.{bytes_cmp, Ordered, order64, then_assoc}
+use Rattle.row_codec.specs.Spelling.{Is64, b16, zeros_marked, shifted, value_spelling, list_spelling, row_spelling, key_spelling, ListFits, IsRow, IsKey}
+use Rattle.row_codec.specs.Order.{Ordered, order64, then_assoc}
 
 -- ---- texts
 
@@ -164,3 +165,7 @@ pub one_list : {X : Type 0} (fits : X → Type 0) (spelling : X → List ℕ) �
 one_list fits spelling one x y a b fx fy e =
     let count = one16 (length x) (length y) (flat_map spelling x ++ a) (flat_map spelling y ++ b) fx.0 fy.0 (sym (append_assoc (b16 (length x)) (flat_map spelling x) a) ∙ e ∙ append_assoc (b16 (length y)) (flat_map spelling y) b) in
     one_items fits spelling one x y a b fx.1 fy.1 count.0 count.1
+
+-- rows
+pub one_row : One IsRow row_spelling
+one_row = one_list IsValue value_spelling one_value

@@ -2,6 +2,7 @@
 
 ghost use Rattle.std.specs.Prelude.{◌≡◌, ◌++◌, ◌∷◌, [], ℕ, List, length, pos};
 ghost use Rattle.std.specs.List.{sum_by};
+ghost use Rattle.repl_types.specs.Bytes.{bytes_cmp};
 ghost use Rattle.repl_types.specs.ValueText.{IsValue};
 ghost use Rattle.repl_types.specs.Value.{Values, value_cmp, key_cmp};
 ghost use Rattle.repl_types.specs.declared.value.Value.{Value};
@@ -9,7 +10,6 @@ ghost use Rattle.repl_types.specs.declared.value.Value.TheVariants.{Null, Int, T
 ghost use Rattle.repl_model.specs.Tables.{images};
 ghost use Rattle.repl_model.specs.Applicable.{spelled_len};
 ghost use Rattle.row_codec.specs.Spelling.{IsKey, IsRow, value_spelling, row_spelling, key_spelling};
-ghost use Rattle.row_codec.specs.Order.{bytes_cmp};
 
 /// Byte order of spelled keys is the order of keys: column by column, NULL first, then the integers by
 /// number, then the texts by bytes. So a map that is kept by bytes is one that is kept by keys in order.

@@ -1,8 +1,8 @@
 //! Predicates.
 
 ghost use Rattle.row_codec.specs.Spelling.{Any};
-ghost use Rattle.row_codec.specs.Predicates.{op_spelling, operand_spelling, IsOperand, HasOperandSpelling, predicate_node_spelling, IsPredicateNode, HasPredicateNodeSpelling, predicate_top, predicate_nodes, predicate_spelling, IsPredicate, HasPredicateSpelling};
-ghost use Rattle.row_codec.specs.PredicateLaws.{one_op, one_operand, one_predicate_node, filled_predicate_node, predicate_forest, predicate_first, one_predicate};
+ghost use Rattle.row_codec.specs.Predicates.{compare_op_spelling, operand_spelling, IsOperand, HasOperandSpelling, predicate_node_spelling, IsPredicateNode, HasPredicateNodeSpelling, predicate_top, predicate_nodes, predicate_spelling, IsPredicate, HasPredicateSpelling};
+ghost use Rattle.row_codec.specs.PredicateLaws.{one_compare_op, one_operand, one_predicate_node, filled_predicate_node, predicate_forest, predicate_first, one_predicate};
 
 use crate::nested::{Nested, Root, put_nested, take_nested};
 use crate::part::Part;
@@ -17,9 +17,9 @@ impl Part for CompareOp {
 
     ghost has_spelling = { Any };
 
-    ghost spelling = { op_spelling };
+    ghost spelling = { compare_op_spelling };
 
-    ghost one = { one_op };
+    ghost one = { one_compare_op };
 
     fn put_part(&self, out: &mut Vec<u8>) -> Result<(), AllocError> {
         let number = match self {

@@ -2,8 +2,8 @@
 
 ghost use Rattle.repl_types.specs.declared.status.Area.TheVariants as areas;
 ghost use Rattle.row_codec.specs.Spelling.{Any, IsCounted};
-ghost use Rattle.row_codec.specs.Records.{IsSourceRow, source_row_spelling, in_flight_spelling, IsHead, head_spelling, IsChange, change_spelling, IsUow, IsCode, uow_spelling, IsCapture, capture_spelling, IsRegistrationState, registration_spelling, IsMark, mark_spelling, IsDecided, decided_spelling, IsRejected, rejected_spelling};
-ghost use Rattle.row_codec.specs.RecordLaws.{one_source_row, one_in_flight, one_head, one_change, one_uow, one_capture, one_registration, one_mark, one_decided, one_rejected};
+ghost use Rattle.row_codec.specs.Records.{IsSourceRow, source_row_spelling, in_flight_spelling, IsHead, head_spelling, IsChangeRow, change_row_spelling, IsUow, IsCode, uow_spelling, IsCapture, capture_spelling, IsRegistrationState, registration_state_spelling, IsMark, mark_spelling, IsDecided, decided_spelling, IsRejected, rejected_spelling};
+ghost use Rattle.row_codec.specs.RecordLaws.{one_source_row, one_in_flight, one_head, one_change_row, one_uow, one_capture, one_registration_state, one_mark, one_decided, one_rejected};
 
 use crate::code::Code;
 use crate::part::Part;
@@ -103,13 +103,13 @@ impl Stored for Head {
 }
 
 impl Part for ChangeRow {
-    ghost fits = { IsChange };
+    ghost fits = { IsChangeRow };
 
     ghost has_spelling = { λ r. IsCounted r.after × IsCounted r.before };
 
-    ghost spelling = { change_spelling };
+    ghost spelling = { change_row_spelling };
 
-    ghost one = { one_change };
+    ghost one = { one_change_row };
 
     fn put_part(&self, out: &mut Vec<u8>) -> Result<(), AllocError> {
         self.op.put_part(out)?;
@@ -210,9 +210,9 @@ impl Part for RegState {
 
     ghost has_spelling = { Any };
 
-    ghost spelling = { registration_spelling };
+    ghost spelling = { registration_state_spelling };
 
-    ghost one = { one_registration };
+    ghost one = { one_registration_state };
 
     fn put_part(&self, out: &mut Vec<u8>) -> Result<(), AllocError> {
         self.active.put_part(out)?;

@@ -1,6 +1,9 @@
 //! Rows and keys by hand.
 
-use crate::{Key, TakeError, put_key, put_row, take_row};
+use crate::{
+    Key, TakeError, keys_in_byte_order, length_of_a_key, one_spelling_of_a_row, put_key, put_row,
+    take_row, worked_row,
+};
 use repl_types::{List, Row, Text, Value};
 use std::alloc::Global;
 use std::test::Fail;
@@ -128,4 +131,12 @@ fn a_key_has_its_columns_in_the_order_of_the_key(rt: HostRuntime) -> Result<(), 
     let wanted = [1, 0x80, 0, 0, 0, 0, 0, 0, 20, 2, b'p', b'e', b'n', 0, 0];
     assert_eq!(rt; out.as_slice(), wanted.as_slice());
     Ok(())
+}
+
+#[test]
+fn laws_are_called(_: HostRuntime) {
+    keys_in_byte_order();
+    length_of_a_key();
+    one_spelling_of_a_row();
+    worked_row();
 }

@@ -14,10 +14,10 @@ use Rattle.keep_core.specs.Kept.{Kept, seen_of, seen, opened, closed, committed,
 use Rattle.keep_core.specs.Told.{Rises}
 use Rattle.site_store.specs.declared.site.Site.{Site}
 use Rattle.site_store.specs.declared.sites.Sites.{Sites}
-use Rattle.site_store.specs.Records.{Cause, CauseFor, Halts, MayHalt}
+use Rattle.site_store.specs.Records.{Fails, FailsFor, Cause, CauseFor, Halts, MayHalt}
 use Rattle.site_store.specs.Servers.{AreServers, names_of, work_of, faults_of, reads_of, writes_of}
 use Rattle.site_store.specs.Views.{names, work, fault_counts, reads_in, writes_in, sees}
-use Rattle.site_store.specs.Calls.{Once, AtMostOnce, Grows, Keeps, Goes, Stops, Begins, Puts, Closes, Commits, InDoubt, CauseAt, Blames}
+use Rattle.site_store.specs.Calls.{Once, AtMostOnce, Grows, Keeps, Goes, Stops, Begins, Puts, Closes, Commits, InDoubt, FailsAt, CauseAt, Blames}
 use Rattle.site_store.proofs.Replaced.{swapped, names_stay, stays, becomes, had, has, none_fell, none_back}
 use Rattle.site_store.specs.Works.{Works, Sets}
 use Rattle.site_store.proofs.Worked.{works_set}
@@ -26,6 +26,13 @@ use Rattle.site_store.proofs.Counting.{counted_here, counted_grows, halts_grows}
 -- the servers with a new keeper at one
 abbrev pub with_keeper : {K : Type 0} → (sites : Sites K) (s : ℕ) (site : Site K) (new : K) → AreServers (names_of (swapped sites.list.items s site new)) → Sites K
 with_keeper sites s site new servers = record { list = with_item sites.list s (record { name = site.name; keeper = new }); servers = servers }
+
+-- a fault of a call that reads no record blames that server
+fails_blame : {K : Type 0} (kept : K → Kept) (old new : Sites K) (s : ℕ) (e : Fault) → FailsAt kept old new s e → Blames kept old new e
+fails_blame kept old new s faults.Memory h = tt
+fails_blame kept old new s (faults.Keeper q) h = subst (λ (k : ℕ). Rises (get_or (fault_counts kept old) k 0) (get_or (fault_counts kept new) k 0)) (sym h.0) h.1
+fails_blame kept old new s (faults.Damaged q b cause) h = absurd h
+fails_blame kept old new s (faults.Refused r) h = absurd h
 
 -- a fault with a cause at its server blames that server
 blames_at : {K : Type 0} (kept : K → Kept) (old new : Sites K) (s : ℕ) (a : Area) (damage : List ℕ → Option Contents → Type 0) (e : Fault) → CauseAt kept old new s a damage e → Blames kept old new e
@@ -97,6 +104,17 @@ module _ {K : Type 0} (kept : K → Kept) (sites : Sites K) (s : ℕ) (site : Si
     | inl e ↦ inl (same ∙ writes_stay a (ap (λ (f : Area → ℕ). f a) e))
     | inr e ↦ inr (same ∙ writes_once a e)
   ]
+
+  -- the cause of a fault where no record is read
+  pub fails : (e : Fault) (end : Sites K) → fault_counts kept end ≡ faults_of kept (swapped sites.list.items s site new) → FailsFor s (kept site.keeper) (kept new) e → FailsAt kept sites end s e
+  fails e end same h =
+      let failed = sym (had kept sites.list.items s site lt is new (λ k. k.faults) 0) in
+      let fails_now = sym (ap (λ (l : List ℕ). get_or l s 0) same ∙ has kept sites.list.items s site lt is new (λ k. k.faults) 0) in
+      subst (λ (p : ℕ × ℕ). Fails s p.0 p.1 e) (λ i. (failed i, fails_now i)) h
+
+  -- and whom it blames
+  pub blames_failed : (e : Fault) (end : Sites K) → fault_counts kept end ≡ faults_of kept (swapped sites.list.items s site new) → FailsFor s (kept site.keeper) (kept new) e → Blames kept sites end e
+  blames_failed e end same h = fails_blame kept sites end s e (fails e end same h)
 
   -- the cause of a fault
   pub cause : (a : Area) (damage : List ℕ → Option Contents → Type 0) (e : Fault) (end : Sites K) → fault_counts kept end ≡ faults_of kept (swapped sites.list.items s site new) → reads_in kept a end ≡ reads_of kept a (swapped sites.list.items s site new) → CauseFor s a (kept site.keeper) (kept new) damage e → CauseAt kept sites end s a damage e

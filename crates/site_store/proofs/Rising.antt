@@ -8,7 +8,8 @@ use Rattle.std.proofs.lemmas.Cmp.{tied_itself}
 use Rattle.std.proofs.lemmas.List.{append-nil}
 use Rattle.std.proofs.lemmas.List.Elements.{filter-append}
 use Rattle.std.proofs.lemmas.Map.Lookups.{exact_bytes}
-use Rattle.keep_core.specs.Contents.{Table, IsNext, IsLast, bytes_cmp, same_key, set_key}
+use Rattle.repl_types.specs.Bytes.{bytes_cmp}
+use Rattle.keep_core.specs.Contents.{Table, IsNext, IsLast, same_key, set_key}
 use Rattle.site_store.specs.Rows.{is_before, IsUpTo, table_of, AllBefore, AllAfter, NoneAfter, IsRising, between, HasRow, NextRow}
 use Rattle.site_store.proofs.Before.{order, is_less, is_equal, not_both, not_back, upto_itself, upto_before, upto_trans}
 use Rattle.site_store.proofs.Filtered.{all_weaker, all_filter, filter_none, filter_all, filter_alike}

@@ -9,7 +9,7 @@ use Rattle.repl_records.specs.declared.fault.Fault.TheVariants as faults
 use Rattle.keep_core.specs.Contents.{Contents, put_at}
 use Rattle.keep_core.specs.Kept.{Kept}
 use Rattle.keep_core.specs.Told.{Rises}
-use Rattle.site_store.specs.Records.{Cause}
+use Rattle.site_store.specs.Records.{Fails, Cause}
 use Rattle.site_store.specs.Servers.{AllClosed}
 use Rattle.site_store.specs.Views.{names, held, work, fault_counts, reads_in, sees}
 use Rattle.site_store.specs.declared.sites.Sites.{Sites}
@@ -86,6 +86,10 @@ pub record InDoubt {K : Type 0} (kept : K → Kept) (old new : Sites K) (s : ℕ
   pub grows : Grows kept old new
 
 -- ---- why
+
+-- the cause of a fault of a call at one server, which reads no record
+abbrev pub FailsAt : {K : Type 0} → (K → Kept) → Sites K → Sites K → ℕ → Fault → Type 0
+FailsAt kept old new s e = Fails s (slice_index_or (fault_counts kept old) s 0) (slice_index_or (fault_counts kept new) s 0) e
 
 -- the cause of a fault of a call at one server, which reads records of one area
 abbrev pub CauseAt : {K : Type 0} → (K → Kept) → Sites K → Sites K → ℕ → Area → (List ℕ → Option Contents → Type 0) → Fault → Type 0

@@ -2,11 +2,12 @@
 use Rattle.std.specs.Prelude.{◌≡◌, ◌⊎◌, ℕ, ◌<◌, ◌≤◌, false, List, [], length, Option, Some, None, IfSome}
 use Rattle.std.specs.Option.{option_map}
 use Rattle.std.specs.declared.cmp.Ordering.TheVariants.{Less}
+use Rattle.repl_types.specs.Bytes.{bytes_cmp}
 use Rattle.repl_types.specs.declared.status.Area.{Area}
 use Rattle.repl_types.specs.declared.status.DamageCause.TheVariants as causes
 use Rattle.repl_records.specs.declared.fault.Fault.{Fault}
 use Rattle.repl_records.specs.declared.fault.Fault.TheVariants as faults
-use Rattle.keep_core.specs.Contents.{Contents, same_area, bytes_cmp, IsNext, IsLast}
+use Rattle.keep_core.specs.Contents.{Contents, same_area, IsNext, IsLast}
 use Rattle.keep_core.specs.Kept.{Kept, seen}
 use Rattle.keep_core.specs.Told.{Rises}
 use Rattle.keep_core.specs.declared.keeper.KeepError.{KeepError}
@@ -54,11 +55,15 @@ MisspeltNext key_fits key_spelling fits spelling a t after bytes saw =
     (NoSpelling key_fits key_spelling bytes × IfSome saw (λ c. (value : List ℕ) × IsNext (c a t) after bytes value))
     ⊎ (NoSpelling fits spelling bytes × IfSome saw (λ c. (key : List ℕ) × IsNext (c a t) after key bytes))
 
--- the call reads no record
-abbrev pub NoDamage : List ℕ → Option Contents → Type 0
-NoDamage bytes saw = ⊥
-
 -- ---- why a call at one server was given up
+
+-- The causes of a call that reads no record: out of memory, or a failure of the server's keeper, whose
+-- count of faults stood so before and stands so now.
+abbrev pub Fails : ℕ → ℕ → ℕ → Fault → Type 0
+Fails server failed fails faults.Memory = Unit {0}
+Fails server failed fails (faults.Keeper s) = (s ≡ server) × Rises failed fails
+Fails server failed fails (faults.Damaged s a cause) = ⊥
+Fails server failed fails (faults.Refused refusal) = ⊥
 
 -- The causes of a call that reads one area: the counts of faults and of that area's reads before and
 -- now, what the call saw, and which bytes show damage.
@@ -71,7 +76,11 @@ Cause server a failed fails read reads saw damage (faults.Damaged s b (causes.Un
 Cause server a failed fails read reads saw damage (faults.Damaged s b (causes.NoRest steps)) = ⊥
 Cause server a failed fails read reads saw damage (faults.Refused refusal) = ⊥
 
--- the cause of a fault of one keeper's call
+-- the cause of a fault of one keeper's call that reads no record
+abbrev pub FailsFor : ℕ → Kept → Kept → Fault → Type 0
+FailsFor server old new e = Fails server old.faults new.faults e
+
+-- the cause of a fault of one keeper's call that reads records of an area
 abbrev pub CauseFor : ℕ → Area → Kept → Kept → (List ℕ → Option Contents → Type 0) → Fault → Type 0
 CauseFor server a old new damage e = Cause server a old.faults new.faults (old.reads a) (new.reads a) (seen old) damage e
 

@@ -3,7 +3,8 @@ use Rattle.std.specs.Prelude.{◌≡◌, ℕ, Bool, false, not, ◌&&◌, if◌t
 use Rattle.std.specs.List.{AllByRecursion}
 use Rattle.std.specs.Ordering.{is_lt}
 use Rattle.std.specs.declared.cmp.Ordering.TheVariants.{Less}
-use Rattle.keep_core.specs.Contents.{Table, bytes_cmp, same_key}
+use Rattle.repl_types.specs.Bytes.{bytes_cmp}
+use Rattle.keep_core.specs.Contents.{Table, same_key}
 
 -- the one key is before the other
 abbrev pub is_before : List ℕ → List ℕ → Bool

@@ -3,7 +3,8 @@
 ghost use Rattle.std.specs.Prelude.{◌≡◌, ◌≢◌, ◌<◌, length, ℕ, List, [], ◌∷◌, ◌++◌, Some, None};
 ghost use Rattle.std.specs.List.{AllByRecursion};
 ghost use Rattle.std.specs.declared.cmp.Ordering.TheVariants.{Less};
-ghost use Rattle.keep_core.specs.Contents.{IsNext, IsLast, bytes_cmp, set_key};
+ghost use Rattle.repl_types.specs.Bytes.{bytes_cmp};
+ghost use Rattle.keep_core.specs.Contents.{IsNext, IsLast, set_key};
 ghost use Rattle.site_store.specs.Rows.{IsUpTo, table_of, AllBefore, AllAfter, NoneAfter, IsRising, between, HasRow, NextRow};
 
 /// The order of keys. A search from no key begins before all of them.

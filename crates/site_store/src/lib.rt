@@ -11,6 +11,8 @@
 #![tactic(auto)]
 
 mod laws;
+#[cfg(test)]
+mod order_tests;
 mod records;
 mod site;
 mod sites;

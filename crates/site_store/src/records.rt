@@ -4,15 +4,18 @@
 
 ghost use Rattle.std.specs.Prelude.{◌≡◌, ◌<◌, ◌≤◌, length, OnOk, IfOk, IfErr, OnErr, IfSome};
 ghost use Rattle.std.specs.Option.{option_copied};
-ghost use Rattle.repl_types.specs.declared.status.Area.TheVariants.{Spill, Log};
+ghost use Rattle.repl_types.specs.declared.status.Area.TheVariants.{Spill};
 ghost use Rattle.keep_core.specs.Kept.{Kept, IsOpen, IsClosed, opened, committed, after_read, after_write, after_put, after_remove, seen, WasThere, NextIs, GivesNext};
-ghost use Rattle.site_store.specs.Records.{RowIs, IsRow, after_key, NextRowIs, Follows, Misspelt, MisspeltNext, NoDamage, CauseFor, fault_from, Halts, MayHalt};
+ghost use Rattle.site_store.specs.Records.{RowIs, IsRow, after_key, NextRowIs, Follows, Misspelt, MisspeltNext, FailsFor, CauseFor, fault_from, Halts, MayHalt};
 
 use keep_core::{KeepError, Keeper};
 use repl_records::Fault;
 use repl_types::{Area, DamageCause, List};
 use row_codec::{Stored, TakeError};
 use std::alloc::{AllocError, Global};
+
+/// How many bytes there is room for at once, which most keys and records of numbers need at most.
+const ROOM: usize = 64;
 
 fn fault_of(server: u32, e: KeepError) -> Fault
     ensures { result ≡ fault_from server e }
@@ -48,7 +51,7 @@ pub(crate) fn get_record<K: Keeper, R: Stored>(
     ensures err { OnErr result (Halts (K.kept keeper.old) (after_read (K.kept keeper.old) R.AREA) (K.kept keeper.new)) }
     ensures cause { IfErr result (CauseFor server R.AREA (K.kept keeper.old) (K.kept keeper.new) (Misspelt R.fits R.spelling R.AREA table (R.Key.spelling key.now))) }
 {
-    let mut spelled = Vec::new(alloc);
+    let mut spelled = Vec::with_capacity(alloc, ROOM)?;
     R::put_key(key, &mut spelled)?;
     let mut out = Vec::new(alloc);
     match keeper.get(R::AREA, table, &spelled, &mut out) {
@@ -121,11 +124,11 @@ pub(crate) fn put_record<K: Keeper, R: Stored>(
     requires value { length (R.spelling value.now) ≤ 262144 }
     ensures ok { OnOk result (K.kept keeper.new ≡ after_put (K.kept keeper.old) R.AREA table (R.Key.spelling key.now) (R.spelling value.now)) }
     ensures err { OnErr result (Halts (K.kept keeper.old) (after_write (K.kept keeper.old) R.AREA) (K.kept keeper.new)) }
-    ensures cause { IfErr result (CauseFor server R.AREA (K.kept keeper.old) (K.kept keeper.new) NoDamage) }
+    ensures cause { IfErr result (FailsFor server (K.kept keeper.old) (K.kept keeper.new)) }
 {
-    let mut spelled = Vec::new(alloc);
+    let mut spelled = Vec::with_capacity(alloc, ROOM)?;
     R::put_key(key, &mut spelled)?;
-    let mut out = Vec::new(alloc);
+    let mut out = Vec::with_capacity(alloc, ROOM)?;
     value.put(&mut out)?;
     match keeper.put(R::AREA, table, &spelled, &out) {
         Ok(()) => Ok(()),
@@ -145,9 +148,9 @@ pub(crate) fn remove_record<K: Keeper, R: Stored>(
     ensures ok { OnOk result (K.kept keeper.new ≡ after_remove (K.kept keeper.old) R.AREA table (R.Key.spelling key.now)) }
     ensures found { IfOk result (λ found. IfSome (seen (K.kept keeper.old)) (WasThere R.AREA table (R.Key.spelling key.now) found)) }
     ensures err { OnErr result (Halts (K.kept keeper.old) (after_write (K.kept keeper.old) R.AREA) (K.kept keeper.new)) }
-    ensures cause { IfErr result (CauseFor server R.AREA (K.kept keeper.old) (K.kept keeper.new) NoDamage) }
+    ensures cause { IfErr result (FailsFor server (K.kept keeper.old) (K.kept keeper.new)) }
 {
-    let mut spelled = Vec::new(alloc);
+    let mut spelled = Vec::with_capacity(alloc, ROOM)?;
     R::put_key(key, &mut spelled)?;
     match keeper.remove(R::AREA, table, &spelled) {
         Ok(found) => Ok(found),
@@ -160,8 +163,7 @@ pub(crate) fn begin_at<K: Keeper>(server: u32, keeper: &mut K) -> Result<(), Fau
     requires { IsClosed (K.kept keeper.old) }
     ensures ok { OnOk result (K.kept keeper.new ≡ opened (K.kept keeper.old)) }
     ensures err { OnErr result (Halts (K.kept keeper.old) (K.kept keeper.old) (K.kept keeper.new)) }
-    // It reads no area, so the one that is named doesn't matter.
-    ensures cause { IfErr result (CauseFor server Log (K.kept keeper.old) (K.kept keeper.new) NoDamage) }
+    ensures cause { IfErr result (FailsFor server (K.kept keeper.old) (K.kept keeper.new)) }
 {
     match keeper.begin() {
         Ok(()) => Ok(()),
@@ -174,8 +176,7 @@ pub(crate) fn commit_at<K: Keeper>(server: u32, keeper: &mut K) -> Result<(), Fa
     requires { IsOpen (K.kept keeper.old) }
     ensures ok { OnOk result (K.kept keeper.new ≡ committed (K.kept keeper.old)) }
     ensures err { IfErr result (MayHalt server (K.kept keeper.old) (K.kept keeper.new)) }
-    // It reads no area, so the one that is named doesn't matter.
-    ensures cause { IfErr result (CauseFor server Log (K.kept keeper.old) (K.kept keeper.new) NoDamage) }
+    ensures cause { IfErr result (FailsFor server (K.kept keeper.old) (K.kept keeper.new)) }
 {
     match keeper.commit() {
         Ok(()) => Ok(()),
@@ -196,7 +197,7 @@ pub(crate) fn put_spill_at<K: Keeper>(
     requires value { length value.now ≤ 262144 }
     ensures ok { OnOk result (K.kept keeper.new ≡ after_put (K.kept keeper.old) Spill 0 key.now value.now) }
     ensures err { OnErr result (Halts (K.kept keeper.old) (after_write (K.kept keeper.old) Spill) (K.kept keeper.new)) }
-    ensures cause { IfErr result (CauseFor server Spill (K.kept keeper.old) (K.kept keeper.new) NoDamage) }
+    ensures cause { IfErr result (FailsFor server (K.kept keeper.old) (K.kept keeper.new)) }
 {
     match keeper.put(Area::Spill, 0, key, value) {
         Ok(()) => Ok(()),
@@ -216,7 +217,7 @@ pub(crate) fn next_spill_at<K: Keeper>(
     ensures found { IfOk result (λ found. IfSome (seen (K.kept keeper.old)) (NextIs Spill 0 after.now found key.new.items out.new.items)) }
     ensures gives { IfOk result (λ found. GivesNext after.now found key.new.items out.new.items) }
     ensures err { OnErr result (Halts (K.kept keeper.old) (after_read (K.kept keeper.old) Spill) (K.kept keeper.new)) }
-    ensures cause { IfErr result (CauseFor server Spill (K.kept keeper.old) (K.kept keeper.new) NoDamage) }
+    ensures cause { IfErr result (FailsFor server (K.kept keeper.old) (K.kept keeper.new)) }
 {
     match keeper.next(Area::Spill, 0, after, key, out) {
         Ok(found) => Ok(found),
@@ -235,7 +236,7 @@ pub(crate) fn remove_spill_at<K: Keeper>(
     ensures ok { OnOk result (K.kept keeper.new ≡ after_remove (K.kept keeper.old) Spill 0 key.now) }
     ensures found { IfOk result (λ found. IfSome (seen (K.kept keeper.old)) (WasThere Spill 0 key.now found)) }
     ensures err { OnErr result (Halts (K.kept keeper.old) (after_write (K.kept keeper.old) Spill) (K.kept keeper.new)) }
-    ensures cause { IfErr result (CauseFor server Spill (K.kept keeper.old) (K.kept keeper.new) NoDamage) }
+    ensures cause { IfErr result (FailsFor server (K.kept keeper.old) (K.kept keeper.new)) }
 {
     match keeper.remove(Area::Spill, 0, key) {
         Ok(found) => Ok(found),

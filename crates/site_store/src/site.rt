@@ -3,7 +3,6 @@
 ghost use Rattle.std.specs.Prelude.{◌≡◌, ◌<◌, ◌≤◌, length, OnOk, IfOk, IfErr, OnErr, IfSome};
 ghost use Rattle.std.specs.Option.{option_copied};
 ghost use Rattle.keep_core.specs.Kept.{IsOpen, IsClosed, opened, closed, committed, after_read, after_write, after_put, after_remove, seen, WasThere};
-ghost use Rattle.repl_types.specs.declared.status.Area.TheVariants.{Log};
 
 use crate::records::{begin_at, commit_at, get_record, next_record, put_record, remove_record};
 use keep_core::Keeper;
@@ -20,7 +19,7 @@ pub struct Site<K> {
 }
 
 impl<K: Keeper> Site<K> {
-    ghost use Rattle.site_store.specs.Records.{RowIs, IsRow, after_key, NextRowIs, Follows, Misspelt, MisspeltNext, NoDamage, CauseFor, Halts, MayHalt};
+    ghost use Rattle.site_store.specs.Records.{RowIs, IsRow, after_key, NextRowIs, Follows, Misspelt, MisspeltNext, FailsFor, CauseFor, Halts, MayHalt};
     ghost use Rattle.site_store.specs.Servers.{name_of, keeper_of, state};
 
     /// It takes no memory.
@@ -38,8 +37,7 @@ impl<K: Keeper> Site<K> {
         ensures ok { OnOk result (state K.kept self.new ≡ opened (state K.kept self.old)) }
         ensures err { OnErr result (Halts (state K.kept self.old) (state K.kept self.old) (state K.kept self.new)) }
         ensures closed { OnErr result (IsClosed (state K.kept self.new)) }
-        // It reads no area, so the one that is named doesn't matter.
-        ensures cause { IfErr result (CauseFor 0 Log (state K.kept self.old) (state K.kept self.new) NoDamage) }
+        ensures cause { IfErr result (FailsFor 0 (state K.kept self.old) (state K.kept self.new)) }
         ensures name { name_of self.new ≡ name_of self.old }
     {
         match begin_at(0, &mut self.keeper) {
@@ -58,8 +56,7 @@ impl<K: Keeper> Site<K> {
         ensures ok { OnOk result (state K.kept self.new ≡ committed (state K.kept self.old)) }
         ensures err { IfErr result (MayHalt 0 (state K.kept self.old) (state K.kept self.new)) }
         ensures closed { OnErr result (IsClosed (state K.kept self.new)) }
-        // It reads no area, so the one that is named doesn't matter.
-        ensures cause { IfErr result (CauseFor 0 Log (state K.kept self.old) (state K.kept self.new) NoDamage) }
+        ensures cause { IfErr result (FailsFor 0 (state K.kept self.old) (state K.kept self.new)) }
         ensures name { name_of self.new ≡ name_of self.old }
     {
         match commit_at(0, &mut self.keeper) {
@@ -144,7 +141,7 @@ impl<K: Keeper> Site<K> {
         ensures ok { OnOk result (state K.kept self.new ≡ after_put (state K.kept self.old) R.AREA table (R.Key.spelling key.now) (R.spelling value.now)) }
         ensures err { OnErr result (Halts (state K.kept self.old) (after_write (state K.kept self.old) R.AREA) (state K.kept self.new)) }
         ensures closed { OnErr result (IsClosed (state K.kept self.new)) }
-        ensures cause { IfErr result (CauseFor 0 R.AREA (state K.kept self.old) (state K.kept self.new) NoDamage) }
+        ensures cause { IfErr result (FailsFor 0 (state K.kept self.old) (state K.kept self.new)) }
         ensures name { name_of self.new ≡ name_of self.old }
     {
         match put_record(alloc, 0, &mut self.keeper, table, key, value) {
@@ -169,7 +166,7 @@ impl<K: Keeper> Site<K> {
         ensures found { IfOk result (λ found. IfSome (seen (state K.kept self.old)) (WasThere R.AREA table (R.Key.spelling key.now) found)) }
         ensures err { OnErr result (Halts (state K.kept self.old) (after_write (state K.kept self.old) R.AREA) (state K.kept self.new)) }
         ensures closed { OnErr result (IsClosed (state K.kept self.new)) }
-        ensures cause { IfErr result (CauseFor 0 R.AREA (state K.kept self.old) (state K.kept self.new) NoDamage) }
+        ensures cause { IfErr result (FailsFor 0 (state K.kept self.old) (state K.kept self.new)) }
         ensures name { name_of self.new ≡ name_of self.old }
     {
         match remove_record::<K, R>(alloc, 0, &mut self.keeper, table, key) {

@@ -3,7 +3,6 @@
 ghost use Rattle.std.specs.Prelude.{◌≡◌, ◌<◌, ◌≤◌, Some, None, length, OnOk, OnErr, IfOk, IfErr, IfSome};
 ghost use Rattle.std.specs.Option.{option_copied};
 ghost use Rattle.repl_types.specs.declared.status.Area.{Area};
-ghost use Rattle.repl_types.specs.declared.status.Area.TheVariants.{Log};
 ghost use Rattle.keep_core.specs.Kept.{WasThere};
 
 use crate::records::{begin_at, commit_at, get_record, next_record, put_record, remove_record};
@@ -16,9 +15,9 @@ use std::alloc::Global;
 /// Calls at one server. After a fault no transaction is open at any server, and each server holds what
 /// it held; but after a fault of a keeper at a commit the commit may have taken place.
 impl<K: Keeper> Sites<K> {
-    ghost use Rattle.site_store.specs.Records.{Other, RowIs, IsRow, after_key, NextRowIs, Follows, Misspelt, MisspeltNext, NoDamage};
+    ghost use Rattle.site_store.specs.Records.{Other, RowIs, IsRow, after_key, NextRowIs, Follows, Misspelt, MisspeltNext};
     ghost use Rattle.site_store.specs.Views.{names, work, reads_in, writes_in, sees, IsOpenAt, IsClosedAt};
-    ghost use Rattle.site_store.specs.Calls.{Once, AtMostOnce, Goes, Stops, Begins, Puts, Commits, InDoubt, CauseAt, Blames};
+    ghost use Rattle.site_store.specs.Calls.{Once, AtMostOnce, Goes, Stops, Begins, Puts, Commits, InDoubt, FailsAt, CauseAt, Blames};
     ghost use Rattle.site_store.specs.Works.{Works, Sets};
 
     /// Opens a transaction at the server, which sees what is held there.
@@ -27,8 +26,7 @@ impl<K: Keeper> Sites<K> {
         requires closed { IsClosedAt (work K.kept self.old) server }
         ensures ok { OnOk result (Begins K.kept self.old self.new server) }
         ensures err { OnErr result (Stops K.kept self.old self.new) }
-        // It reads no area, so the one that is named doesn't matter.
-        ensures cause { IfErr result (CauseAt K.kept self.old self.new server Log NoDamage) }
+        ensures cause { IfErr result (FailsAt K.kept self.old self.new server) }
         ensures blames { IfErr result (Blames K.kept self.old self.new) }
         ensures reads { (a : Area) → reads_in K.kept a self.new ≡ reads_in K.kept a self.old }
         ensures writes { (a : Area) → writes_in K.kept a self.new ≡ writes_in K.kept a self.old }
@@ -49,8 +47,7 @@ impl<K: Keeper> Sites<K> {
         requires open { IsOpenAt (work K.kept self.old) server }
         ensures ok { OnOk result (Commits K.kept self.old self.new server) }
         ensures err { IfErr result (InDoubt K.kept self.old self.new server) }
-        // It reads no area, so the one that is named doesn't matter.
-        ensures cause { IfErr result (CauseAt K.kept self.old self.new server Log NoDamage) }
+        ensures cause { IfErr result (FailsAt K.kept self.old self.new server) }
         ensures blames { IfErr result (Blames K.kept self.old self.new) }
         ensures reads { (a : Area) → reads_in K.kept a self.new ≡ reads_in K.kept a self.old }
         ensures writes { (a : Area) → writes_in K.kept a self.new ≡ writes_in K.kept a self.old }
@@ -145,7 +142,7 @@ impl<K: Keeper> Sites<K> {
         ensures ok { OnOk result (Puts K.kept self.old self.new server R.AREA table (R.Key.spelling key.now) (Some (R.spelling value.now))) }
         ensures works { OnOk result (Works (work K.kept self.old) (work K.kept self.new) server (Sets R.AREA table (R.Key.spelling key.now) (Some (R.spelling value.now)))) }
         ensures err { OnErr result (Stops K.kept self.old self.new) }
-        ensures cause { IfErr result (CauseAt K.kept self.old self.new server R.AREA NoDamage) }
+        ensures cause { IfErr result (FailsAt K.kept self.old self.new server) }
         ensures blames { IfErr result (Blames K.kept self.old self.new) }
         ensures reads { (a : Area) → reads_in K.kept a self.new ≡ reads_in K.kept a self.old }
         ensures writes { (a : Area) → Other R.AREA a → writes_in K.kept a self.new ≡ writes_in K.kept a self.old }
@@ -176,7 +173,7 @@ impl<K: Keeper> Sites<K> {
         ensures works { OnOk result (Works (work K.kept self.old) (work K.kept self.new) server (Sets R.AREA table (R.Key.spelling key.now) None)) }
         ensures found { IfOk result (λ found. IfSome (sees K.kept self.old server) (WasThere R.AREA table (R.Key.spelling key.now) found)) }
         ensures err { OnErr result (Stops K.kept self.old self.new) }
-        ensures cause { IfErr result (CauseAt K.kept self.old self.new server R.AREA NoDamage) }
+        ensures cause { IfErr result (FailsAt K.kept self.old self.new server) }
         ensures blames { IfErr result (Blames K.kept self.old self.new) }
         ensures reads { (a : Area) → reads_in K.kept a self.new ≡ reads_in K.kept a self.old }
         ensures writes { (a : Area) → Other R.AREA a → writes_in K.kept a self.new ≡ writes_in K.kept a self.old }

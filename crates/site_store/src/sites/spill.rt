@@ -13,9 +13,9 @@ use repl_records::Fault;
 
 /// After a fault no transaction is open at any server, and each server holds what it held.
 impl<K: Keeper> Sites<K> {
-    ghost use Rattle.site_store.specs.Records.{Other, NoDamage};
+    ghost use Rattle.site_store.specs.Records.{Other};
     ghost use Rattle.site_store.specs.Views.{names, work, reads_in, writes_in, sees, IsOpenAt};
-    ghost use Rattle.site_store.specs.Calls.{Once, AtMostOnce, Goes, Stops, Puts, CauseAt, Blames};
+    ghost use Rattle.site_store.specs.Calls.{Once, AtMostOnce, Goes, Stops, Puts, FailsAt, Blames};
     ghost use Rattle.site_store.specs.Works.{Works, Sets};
 
     /// The server's open transaction sees these bytes at the key.
@@ -28,7 +28,7 @@ impl<K: Keeper> Sites<K> {
         ensures ok { OnOk result (Puts K.kept self.old self.new server Spill 0 key.now (Some value.now)) }
         ensures works { OnOk result (Works (work K.kept self.old) (work K.kept self.new) server (Sets Spill 0 key.now (Some value.now))) }
         ensures err { OnErr result (Stops K.kept self.old self.new) }
-        ensures cause { IfErr result (CauseAt K.kept self.old self.new server Spill NoDamage) }
+        ensures cause { IfErr result (FailsAt K.kept self.old self.new server) }
         ensures blames { IfErr result (Blames K.kept self.old self.new) }
         ensures reads { (a : Area) → reads_in K.kept a self.new ≡ reads_in K.kept a self.old }
         ensures writes { (a : Area) → Other Spill a → writes_in K.kept a self.new ≡ writes_in K.kept a self.old }
@@ -58,7 +58,7 @@ impl<K: Keeper> Sites<K> {
         ensures found { IfOk result (λ found. IfSome (sees K.kept self.old server) (NextIs Spill 0 after.now found key.new.items out.new.items)) }
         ensures gives { IfOk result (λ found. GivesNext after.now found key.new.items out.new.items) }
         ensures err { OnErr result (Stops K.kept self.old self.new) }
-        ensures cause { IfErr result (CauseAt K.kept self.old self.new server Spill NoDamage) }
+        ensures cause { IfErr result (FailsAt K.kept self.old self.new server) }
         ensures blames { IfErr result (Blames K.kept self.old self.new) }
         ensures reads { (a : Area) → Other Spill a → reads_in K.kept a self.new ≡ reads_in K.kept a self.old }
         ensures once { OnOk result (Once (reads_in K.kept Spill self.old) (reads_in K.kept Spill self.new) server) }
@@ -83,7 +83,7 @@ impl<K: Keeper> Sites<K> {
         ensures works { OnOk result (Works (work K.kept self.old) (work K.kept self.new) server (Sets Spill 0 key.now None)) }
         ensures found { IfOk result (λ found. IfSome (sees K.kept self.old server) (WasThere Spill 0 key.now found)) }
         ensures err { OnErr result (Stops K.kept self.old self.new) }
-        ensures cause { IfErr result (CauseAt K.kept self.old self.new server Spill NoDamage) }
+        ensures cause { IfErr result (FailsAt K.kept self.old self.new server) }
         ensures blames { IfErr result (Blames K.kept self.old self.new) }
         ensures reads { (a : Area) → reads_in K.kept a self.new ≡ reads_in K.kept a self.old }
         ensures writes { (a : Area) → Other Spill a → writes_in K.kept a self.new ≡ writes_in K.kept a self.old }

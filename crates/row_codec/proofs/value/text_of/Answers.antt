@@ -1,4 +1,4 @@
-use Rattle.std.proofs.Common.{◌≡◌, ℕ, Vec, Global, refl, ap, subst, sym, string_bytes, arith}
+use Rattle.std.proofs.Common.{◌≡◌, ℕ, Vec, Global, refl, ap, subst, string_bytes, arith}
 use Rattle.std.specs.Str.{IsUtf8}
 use Rattle.std.proofs.lemmas.Str.{IsUtf8-string_bytes}
 use Rattle.row_codec.proofs.value.text_of.Goals as goal

@@ -1,8 +1,9 @@
-use Rattle.std.proofs.Common.{◌∙◌, refl, ap, lit<, lit≤, List, get_or, inl, inr, Some, None}
+use Rattle.std.proofs.Common.{◌∙◌, refl, ap, arith, List, get_or, inl, inr, Some, None}
 use Rattle.std.specs.Prelude.{Option}
 use Rattle.std.proofs.lemmas.Result.{err_from_is_err_and}
 use Rattle.repl_types.specs.declared.status.Area.TheVariants as areas
 use Rattle.keep_core.specs.Contents.{Contents}
+use Rattle.row_codec.specs.Numbers.{length64}
 use Rattle.row_codec.specs.Spelling.{b64}
 use Rattle.site_store.specs.Views.{held, work}
 use Rattle.site_store.specs.Works.{Sets}
@@ -15,12 +16,10 @@ pub returns-in_default-clause-ok : goal.returns-in_default-clause-ok
 returns-in_default-clause-ok g c = λ w at. no_more g.K.Keeper.kept c.args.sites.now c.taken_of.new.sites c.next.new.self c.args.server c.in_ok-place.place (c.requires.closed c.args.server) c.in_ok-place.ensures.ok c.in_ok-next.ensures.ok w at (c.in_ok-place.ensures.taken w at) (rw c.in_default.is at c.in_ok-next.ensures.row)
 
 pub put-requires-clause-some : goal.put-requires-clause-some
-unfolding b64
-put-requires-clause-some g c = lit< tt
+put-requires-clause-some g c = omega (arith, length64 0)
 
 pub put-requires-clause-short : goal.put-requires-clause-short
-unfolding b64
-put-requires-clause-short g c = lit≤ tt
+put-requires-clause-short g c = omega (arith, length64 0)
 
 pub returns-clause-ok : goal.returns-clause-ok
 returns-clause-ok g c = λ w at. one_more g.K.Keeper.kept c.args.sites.now c.taken_of.new.sites c.next.new.self c.begin.new.self c.put.new.self c.args.server c.in_ok-place.place c.in-Some.next.place c.in-Some.field-0-1.number c.requires.server (c.requires.closed c.args.server) c.in_ok-place.ensures.ok c.in_ok-next.ensures.ok c.in_ok-begin.ensures.ok c.in_ok-put.ensures.works c.in_ok-put.ensures.ok.keeps.held (rw c.in-Some.is at c.in_ok-next.ensures.rises).key (held g.K.Keeper.kept c.commit.new.self) c.in_ok-commit.ensures.ok.held w at (c.in_ok-place.ensures.taken w at) (rw c.in-Some.is at c.in_ok-next.ensures.row)

@@ -1,54 +1,49 @@
-use Rattle.std.proofs.Common.{◌≡◌, Ok, Err, Some, Bool, sym, ap, subst, ◌∙◌}
-use Rattle.std.specs.Prelude.{Option, Result, OnErr, is_some, not, ◌&&◌}
+use Rattle.std.proofs.Common.{◌≡◌, Bool, true, false, List, [], ◌∷◌, ◌++◌, length, take, Some, None, refl, sym, ap, subst, ◌∙◌, arith}
+use Rattle.std.specs.Prelude.{Option, IsSome, is_some, not, ◌&&◌}
+use Rattle.std.specs.Option.{option_to_list}
+use Rattle.std.specs.List.{each_same}
+use Rattle.std.proofs.Math.Seq.{take-append_seam}
+use Rattle.std.proofs.lemmas.List.{length-append}
 use Rattle.keep_map.specs.declared.row.Row.{Row}
-use Rattle.keep_map.specs.Stored.{Place, place_of, row_at, is_settled, changed, Sets}
-use Rattle.keep_map.proofs.Places.{written_through, same_rows}
+use Rattle.keep_map.specs.declared.row.StoredValue.{StoredValue}
+use Rattle.keep_map.specs.declared.slot.Slot.{Slot}
+use Rattle.keep_map.specs.Stored.{Place, IsKey, is_changed, is_settled, place_of, row_at, changed, Sets}
 use Rattle.keep_map.proofs.Sound.{sound_named, sound_again}
 use Rattle.keep_map.proofs.rows.Rows.change.Goals as goal
-use Rattle.keep_map.proofs.rows.Rows.change.Goals.{then-is_none+in_ok-push, else-is_none}
 
-pub invariant_of-self : goal.invariant_of-self
-invariant_of-self c =
+-- a row that the transaction changed isn't settled
+unsettled : (r : Option Row) (value : Option StoredValue) → is_settled (Some (changed r value)) ≡ false
+unsettled None value = refl
+unsettled (Some row) value = refl
+
+-- nor is one that it changed before
+changed_before : (r : Option Row) → is_changed r ≡ true → is_settled r ≡ false
+changed_before None e = absurd cc
+changed_before (Some row) e = ap (λ (b : Bool). not b && is_some row.now) e
+
+-- lists that differ in their last elements alone are equal before these
+before_last : (xs ys : List Slot) (x : Slot) (r : Option Slot) → IsSome r → xs ++ x ∷ [] ≡ ys ++ option_to_list r → ys ≡ xs
+before_last xs ys x None some e = absurd cc
+before_last xs ys x (Some y) some e =
+    let same : length ys ≡ length xs = omega (arith, length-append xs (x ∷ []), length-append ys (y ∷ []), ap length e) in
+    sym (take-append_seam ys (y ∷ [])) ∙ ap (λ n. take n (ys ++ y ∷ [])) same ∙ ap (take (length xs)) (sym e) ∙ take-append_seam xs (x ∷ [])
+
+pub invariant_of-self-then-was_named : goal.invariant_of-self-then-was_named
+invariant_of-self-then-was_named c =
     let m = c.args.self.now.map in
     let s = c.args.slot in
-    let row = c.in-Some.row.now in
-    let n = c.get_mut.follows.lender row in
-    let sets = written_through m n s row row c.in-Some.ensures.value (c.get_mut.follows.holds row).3 in
-    record { sound = sound_again m n s (Some row) c.args.self.now.touched.items c.push.new.self.items c.requires c.in_err-push.ensures.items (ap is_settled c.in-Some.ensures.value) sets c.args.self.now.sound }
-
--- a fact that holds whatever came holds at an error
-on_err : {A E : Type 0} (P : Type 0) (r : Result A E) → P → OnErr r P
-on_err P (Ok x) h = tt
-on_err P (Err e) h = h
-
-pub returns-in_err-push-clause-err : goal.returns-in_err-push-clause-err
-returns-in_err-push-clause-err c =
-    let m = c.args.self.now.map in
-    let s = c.args.slot in
-    let row = c.in-Some.row.now in
-    let n = c.get_mut.follows.lender row in
-    let sets = written_through m n s row row c.in-Some.ensures.value (c.get_mut.follows.holds row).3 in
-    on_err ((p : Place) → row_at n p ≡ row_at m p) c.from_residual.result (same_rows m n (place_of s) (Some row) c.in-Some.ensures.value sets)
-
-pub invariant_of-self-in-Some : goal.invariant_of-self-in-Some
-invariant_of-self-in-Some c =
-    let m = c.args.self.now.map in
-    let s = c.args.slot in
-    let old = c.in-Some.row.now in
-    let new = c.change.new.self in
-    let n = c.get_mut.follows.lender new in
+    let before = row_at m (place_of s) in
     let xs = c.args.self.now.touched.items in
-    let sets = written_through m n s old new c.in-Some.ensures.value (c.get_mut.follows.holds new).3 in
-    elim c.if-is_none.branch [
-      | then-is_none+in_ok-push w ↦ record { sound = sound_named m n s (Some new) xs c.if-is_none.self.1.1.0.items c.requires (ap (λ x. x.1.1.0.items) w.self-is ∙ w.in_ok-push.ensures.items) sets c.args.self.now.sound }
-      | else-is_none w ↦ record { sound = sound_again m n s (Some new) xs c.if-is_none.self.1.1.0.items c.requires (ap (λ x. x.1.1.0.items) w.self-is) (ap (λ (r : Row). is_settled (Some r)) c.change.ensures ∙ ap (λ (b : Bool). not b && is_some old.now) (sym w.if-is_none.ensures) ∙ ap is_settled c.in-Some.ensures.value) sets c.args.self.now.sound }
-    ]
+    let some = c.pop.ensures.variant.1 (omega (arith, c.in_ok-push.ensures.len)) in
+    let back = before_last xs c.pop.new.self.items c.in_ok-clone.field-0 c.pop.result some (sym c.in_ok-push.ensures.items ∙ c.pop.ensures.items) in
+    record { sound = sound_again m c.change_row.new.map s (Some (changed before c.args.value)) xs c.pop.new.self.items c.requires back (unsettled before c.args.value ∙ sym (changed_before before (sym c.in_ok-was_named.ensures.changed ∙ c.if-was_named.true))) c.in_ok-was_named.ensures.ok c.args.self.now.sound }
 
-pub returns-in-Some-clause-ok : goal.returns-in-Some-clause-ok
-returns-in-Some-clause-ok c =
+pub invariant_of-self-else-was_named : goal.invariant_of-self-else-was_named
+invariant_of-self-else-was_named c =
     let m = c.args.self.now.map in
     let s = c.args.slot in
-    let new = c.change.new.self in
-    let n = c.get_mut.follows.lender new in
-    let sets = written_through m n s c.in-Some.row.now new c.in-Some.ensures.value (c.get_mut.follows.holds new).3 in
-    subst (λ (r : Row). Sets (place_of s) (Some r) m n) (c.change.ensures ∙ ap (λ (r : Option Row). changed r c.args.value) c.in-Some.ensures.value) sets
+    let copy = c.in_ok-clone.field-0 in
+    let w = Some (changed (row_at m (place_of s)) c.args.value) in
+    let h = c.in_ok-clone.ensures.cases in
+    let same : place_of s ≡ place_of copy = λ i. (sym h.0 i, sym h.1.0 i, sym (each_same s.key.items copy.key.items h.1.1.0) i) in
+    record { sound = sound_named m c.change_row.new.map copy w c.args.self.now.touched.items c.push.new.self.items (subst (λ (p : Place). IsKey p.2) same c.requires) c.in_ok-push.ensures.items (subst (λ (p : Place). Sets p w m c.change_row.new.map) same c.in_ok-was_named.ensures.ok) c.args.self.now.sound }

@@ -1,6 +1,6 @@
 use Rattle.std.proofs.Common.{◌++◌, ap, ◌∙◌}
 use Rattle.row_codec.specs.Spelling.{b16}
-use Rattle.row_codec.specs.Predicates.{op_spelling, operand_spelling, predicate_node_spelling, predicate_top}
+use Rattle.row_codec.specs.Predicates.{compare_op_spelling, operand_spelling, predicate_node_spelling, predicate_top}
 use Rattle.row_codec.specs.PredicateLaws.{top_compare, top_null, top_not_null}
 use Rattle.row_codec.proofs.Tagged.{tagged, three_written}
 use Rattle.row_codec.proofs.predicate.PredicateNested.put_root.Goals as goal
@@ -8,8 +8,8 @@ use Rattle.row_codec.proofs.predicate.PredicateNested.put_root.Goals as goal
 pub returns-in_ok-put_part-in-Compare-3-clause-ok : goal.returns-in_ok-put_part-in-Compare-3-clause-ok
 returns-in_ok-put_part-in-Compare-3-clause-ok c =
     let top = ap predicate_node_spelling (ap predicate_top c.in-Compare.is ∙ top_compare c.in-Compare.left c.in-Compare.op c.in-Compare.right) in
-    let written = three_written _ _ _ _ (operand_spelling c.in-Compare.left) (op_spelling c.in-Compare.op) (operand_spelling c.in-Compare.right) c.in_ok-put_part-in-Compare.ensures.ok c.in_ok-put_part-in-Compare-2.ensures.ok c.in_ok-put_part-in-Compare-3.ensures.ok in
-    tagged _ _ _ (operand_spelling c.in-Compare.left ++ op_spelling c.in-Compare.op ++ operand_spelling c.in-Compare.right) _ 32 c.in_ok-push-in-Compare.ensures.items written top
+    let written = three_written _ _ _ _ (operand_spelling c.in-Compare.left) (compare_op_spelling c.in-Compare.op) (operand_spelling c.in-Compare.right) c.in_ok-put_part-in-Compare.ensures.ok c.in_ok-put_part-in-Compare-2.ensures.ok c.in_ok-put_part-in-Compare-3.ensures.ok in
+    tagged _ _ _ (operand_spelling c.in-Compare.left ++ compare_op_spelling c.in-Compare.op ++ operand_spelling c.in-Compare.right) _ 32 c.in_ok-push-in-Compare.ensures.items written top
 
 pub returns-in_ok-put_part-in-IsNull-clause-ok : goal.returns-in_ok-put_part-in-IsNull-clause-ok
 returns-in_ok-put_part-in-IsNull-clause-ok c =

@@ -1,9 +1,7 @@
 use Rattle.std.proofs.Common.{◌∙◌, ℕ, ap}
 use Rattle.repl_types.specs.declared.status.Area.{Area}
-use Rattle.repl_types.specs.declared.status.Area.TheVariants as areas
 use Rattle.keep_core.specs.Kept.{Kept}
-use Rattle.site_store.specs.Records.{NoDamage}
-use Rattle.site_store.proofs.Called.{servers_stay, commits, in_doubt, cause, blames, reads_stay, writes_stay}
+use Rattle.site_store.proofs.Called.{servers_stay, commits, in_doubt, fails, blames_failed, reads_stay, writes_stay}
 use Rattle.site_store.proofs.sites.Sites.commit.Goals as goal
 
 pub invariant_of-self : goal.invariant_of-self
@@ -16,10 +14,10 @@ pub returns-in-Err-clause-err : goal.returns-in-Err-clause-err
 returns-in-Err-clause-err g c = in_doubt g.K.Keeper.kept c.args.self.now c.args.server c.index_mut-site.result.now c.requires.server c.index_mut-site.ensures.value c.commit_at.new.keeper _ c.in-Err.e c.rollback_all.new.self c.in-Err.ensures.err c.rollback_all.ensures.stops
 
 pub returns-in-Err-clause-cause : goal.returns-in-Err-clause-cause
-returns-in-Err-clause-cause g c = cause g.K.Keeper.kept c.args.self.now c.args.server c.index_mut-site.result.now c.requires.server c.index_mut-site.ensures.value c.commit_at.new.keeper areas.Log NoDamage c.in-Err.e c.rollback_all.new.self c.rollback_all.ensures.faults (c.rollback_all.ensures.reads areas.Log) c.in-Err.ensures.cause
+returns-in-Err-clause-cause g c = fails g.K.Keeper.kept c.args.self.now c.args.server c.index_mut-site.result.now c.requires.server c.index_mut-site.ensures.value c.commit_at.new.keeper c.in-Err.e c.rollback_all.new.self c.rollback_all.ensures.faults c.in-Err.ensures.cause
 
 pub returns-in-Err-clause-blames : goal.returns-in-Err-clause-blames
-returns-in-Err-clause-blames g c = blames g.K.Keeper.kept c.args.self.now c.args.server c.index_mut-site.result.now c.requires.server c.index_mut-site.ensures.value c.commit_at.new.keeper areas.Log NoDamage c.in-Err.e c.rollback_all.new.self c.rollback_all.ensures.faults (c.rollback_all.ensures.reads areas.Log) c.in-Err.ensures.cause
+returns-in-Err-clause-blames g c = blames_failed g.K.Keeper.kept c.args.self.now c.args.server c.index_mut-site.result.now c.requires.server c.index_mut-site.ensures.value c.commit_at.new.keeper c.in-Err.e c.rollback_all.new.self c.rollback_all.ensures.faults c.in-Err.ensures.cause
 
 pub returns-in-Ok-clause-reads : goal.returns-in-Ok-clause-reads
 returns-in-Ok-clause-reads g c = λ a. reads_stay g.K.Keeper.kept c.args.self.now c.args.server c.index_mut-site.result.now c.requires.server c.index_mut-site.ensures.value c.commit_at.new.keeper a (ap (λ (k : Kept). k.reads a) c.in-Ok.ensures.ok)

@@ -2,8 +2,7 @@ use Rattle.std.proofs.Common.{◌∙◌, ap, refl, arith}
 use Rattle.std.specs.Prelude.{None}
 use Rattle.repl_types.specs.declared.status.Area.TheVariants as areas
 use Rattle.keep_core.specs.Kept.{Kept}
-use Rattle.site_store.specs.Records.{NoDamage}
-use Rattle.site_store.proofs.Called.{servers_stay, puts, stops, cause, blames, works, reads_stay, writes_stay, writes_once, writes_at_most}
+use Rattle.site_store.proofs.Called.{servers_stay, puts, stops, fails, blames_failed, works, reads_stay, writes_stay, writes_once, writes_at_most}
 use Rattle.site_store.proofs.Counting.{counted_other, halts_reads, halts_writes}
 use Rattle.site_store.proofs.sites.Sites.remove_spill.Goals as goal
 
@@ -20,10 +19,10 @@ pub returns-in-Err-clause-err : goal.returns-in-Err-clause-err
 returns-in-Err-clause-err g c = stops g.K.Keeper.kept c.args.self.now c.args.server c.index_mut-site.result.now c.requires.server c.index_mut-site.ensures.value c.remove_spill_at.new.keeper _ _ c.rollback_all.new.self c.in-Err.ensures.err (λ b lt. omega arith) c.rollback_all.ensures.stops
 
 pub returns-in-Err-clause-cause : goal.returns-in-Err-clause-cause
-returns-in-Err-clause-cause g c = cause g.K.Keeper.kept c.args.self.now c.args.server c.index_mut-site.result.now c.requires.server c.index_mut-site.ensures.value c.remove_spill_at.new.keeper areas.Spill NoDamage c.in-Err.e c.rollback_all.new.self c.rollback_all.ensures.faults (c.rollback_all.ensures.reads areas.Spill) c.in-Err.ensures.cause
+returns-in-Err-clause-cause g c = fails g.K.Keeper.kept c.args.self.now c.args.server c.index_mut-site.result.now c.requires.server c.index_mut-site.ensures.value c.remove_spill_at.new.keeper c.in-Err.e c.rollback_all.new.self c.rollback_all.ensures.faults c.in-Err.ensures.cause
 
 pub returns-in-Err-clause-blames : goal.returns-in-Err-clause-blames
-returns-in-Err-clause-blames g c = blames g.K.Keeper.kept c.args.self.now c.args.server c.index_mut-site.result.now c.requires.server c.index_mut-site.ensures.value c.remove_spill_at.new.keeper areas.Spill NoDamage c.in-Err.e c.rollback_all.new.self c.rollback_all.ensures.faults (c.rollback_all.ensures.reads areas.Spill) c.in-Err.ensures.cause
+returns-in-Err-clause-blames g c = blames_failed g.K.Keeper.kept c.args.self.now c.args.server c.index_mut-site.result.now c.requires.server c.index_mut-site.ensures.value c.remove_spill_at.new.keeper c.in-Err.e c.rollback_all.new.self c.rollback_all.ensures.faults c.in-Err.ensures.cause
 
 pub returns-in-Ok-clause-reads : goal.returns-in-Ok-clause-reads
 returns-in-Ok-clause-reads g c = λ a. reads_stay g.K.Keeper.kept c.args.self.now c.args.server c.index_mut-site.result.now c.requires.server c.index_mut-site.ensures.value c.remove_spill_at.new.keeper a (ap (λ (k : Kept). k.reads a) c.in-Ok.ensures.ok)
