@@ -6,6 +6,7 @@ ghost use Rattle.row_codec.specs.ExprLaws.{one_expr_node, filled_expr_node, expr
 use crate::nested::{Nested, Root, put_nested, take_nested};
 use crate::part::Part;
 use crate::take_error::TakeError;
+use crate::value::put_text;
 use repl_records::{Boxed, Expr};
 use repl_types::{Text, Value};
 use std::alloc::{AllocError, Global};
@@ -90,7 +91,7 @@ impl Nested for Expr {
             }
             Expr::Text(text) => {
                 out.push(0x11)?;
-                Value::Text(text.clone()?).put_part(out)?;
+                put_text(text, out)?;
                 Ok(None)
             }
             Expr::Add(left, right) => {

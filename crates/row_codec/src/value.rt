@@ -33,7 +33,8 @@ fn put_byte(byte: u8, out: &mut Vec<u8>) -> Result<(), AllocError>
     Ok(())
 }
 
-fn put_text(text: &Text, out: &mut Vec<u8>) -> Result<(), AllocError>
+/// Appends the spelling of the value that is this text.
+pub(crate) fn put_text(text: &Text, out: &mut Vec<u8>) -> Result<(), AllocError>
     ensures ok { OnOk result (out.new.items ≡ out.old.items ++ 2 ∷ zeros_marked text.now ++ 0 ∷ 0 ∷ []) }
     ensures fits { OnOk result (IsText text.now) }
 {

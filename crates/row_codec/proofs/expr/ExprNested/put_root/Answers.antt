@@ -1,7 +1,7 @@
-use Rattle.std.proofs.Common.{◌++◌, SFits, w64, rules, ap, ◌∙◌}
+use Rattle.std.proofs.Common.{[], ◌∷◌, ◌++◌, SFits, w64, rules, ap, ◌∙◌, append_assoc}
 use Rattle.std.proofs.lemmas.Int.{to_z-of_z}
 use Rattle.repl_types.specs.declared.value.Value.TheVariants as values
-use Rattle.row_codec.specs.Spelling.{b16, value_spelling}
+use Rattle.row_codec.specs.Spelling.{b16, zeros_marked, value_spelling}
 use Rattle.row_codec.specs.Exprs.{expr_node_spelling, expr_top}
 use Rattle.row_codec.specs.ExprLaws.{top_column, top_int, top_text}
 use Rattle.row_codec.proofs.Tagged.{tagged}
@@ -19,8 +19,7 @@ returns-in_ok-put_part-in-Int-clause-ok c =
     let same = ap (λ n. c.push-in-Int.new.self.items ++ value_spelling (values.Int n)) (to_z-of_z w64 c.in-Int.number fits) in
     tagged _ _ _ (value_spelling (values.Int c.in-Int.number)) _ 17 c.in_ok-push-in-Int.ensures.items (c.in_ok-put_part-in-Int.ensures.ok ∙ same) top
 
-pub returns-in_ok-put_part-in-Text-clause-ok : goal.returns-in_ok-put_part-in-Text-clause-ok
-returns-in_ok-put_part-in-Text-clause-ok c =
+pub returns-in_ok-put_text-in-Text-clause-ok : goal.returns-in_ok-put_text-in-Text-clause-ok
+returns-in_ok-put_text-in-Text-clause-ok c =
     let top = ap expr_node_spelling (ap expr_top c.in-Text.is ∙ top_text c.in-Text.text) in
-    let copy = ap (λ t. c.push-in-Text.new.self.items ++ value_spelling (values.Text t)) c.in_ok-clone-in-Text.ensures.cases in
-    tagged _ _ _ (value_spelling (values.Text c.in-Text.text)) _ 17 c.in_ok-push-in-Text.ensures.items (c.in_ok-put_part-in-Text.ensures.ok ∙ copy) top
+    tagged _ _ _ (value_spelling (values.Text c.in-Text.text)) _ 17 c.in_ok-push-in-Text.ensures.items (c.in_ok-put_text-in-Text.ensures.ok ∙ append_assoc c.push-in-Text.new.self.items (2 ∷ zeros_marked c.in-Text.text) (0 ∷ 0 ∷ [])) top
