@@ -25,6 +25,7 @@ left_open (records.Change tx change) = Some tx
 left_open (records.Commit tx time authid origin) = None
 left_open (records.Abort tx) = None
 
+-- the transaction that a log leaves open
 abbrev pub open_tx : List LogRecord → Option ℕ
 open_tx log = fold (λ before r. left_open r) None log
 
@@ -51,10 +52,12 @@ pub data Outcome : Type 0 where
   taken : LogRecord → Outcome
   refused : Cause → Outcome
 
+-- a record is refused where it has a cause, else taken
 abbrev pub outcome_of_record : List LogRecord → LogRecord → Option Cause → Outcome
 outcome_of_record log r None = taken r
 outcome_of_record log r (Some cause) = refused cause
 
+-- a text that spells no record is refused, and one that does comes to what its record comes to
 abbrev pub outcome_of_text : List LogRecord → Option LogRecord → Outcome
 outcome_of_text log None = refused BadLog
 outcome_of_text log (Some r) = outcome_of_record log r (record_cause log r)
@@ -63,6 +66,7 @@ outcome_of_text log (Some r) = outcome_of_record log r (record_cause log r)
 abbrev pub short_outcome : List LogRecord → List ℕ → Outcome
 short_outcome log line = if is_blank line then skipped else outcome_of_text log (record_of line)
 
+-- of any line: one over the limit is refused, whatever it has
 unfoldable pub outcome : List LogRecord → List ℕ → Outcome
 outcome log line = if nat_lt line_limit (length line) then refused LineTooLong else short_outcome log line
 

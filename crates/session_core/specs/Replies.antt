@@ -28,9 +28,11 @@ cause_text LineTooLong = codes "3 LineTooLong"
 cause_text BadLog = codes "9 BadLog"
 cause_text NotApplicable = codes "10 NotApplicable"
 
+-- a refusal, with its line counted from 1
 abbrev pub refused_line : Refused → List ℕ
 refused_line r = codes "refused " ++ cause_text r.cause ++ codes " line " ++ decimal r.line ++ 10 ∷ []
 
+-- no line where nothing was refused
 abbrev pub refusal_lines : Option Refused → List (List ℕ)
 refusal_lines None = []
 refusal_lines (Some r) = refused_line r ∷ []

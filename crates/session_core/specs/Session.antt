@@ -52,6 +52,7 @@ early_input inputs.Memory = earlies.Memory
 early_input inputs.Failed = earlies.InputFailed
 early_input inputs.TooLong = earlies.InputTooLong
 
+-- the same of an error of its output
 abbrev pub early_output : ReadError → Early
 early_output reads.Memory = earlies.Memory
 early_output reads.Failed = earlies.OutputFailed
