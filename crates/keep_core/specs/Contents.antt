@@ -3,8 +3,8 @@ use Rattle.std.specs.Prelude.{◌≡◌, ℕ, Bool, List, Option, Some, None, if
 use Rattle.std.specs.Ordering.{is_eq}
 use Rattle.std.specs.declared.cmp.Ordering.TheVariants.{Less}
 use Rattle.repl_types.specs.Bytes.{bytes_cmp}
-use Rattle.repl_types.specs.declared.status.Area.{Area}
-use Rattle.repl_types.specs.declared.status.Area.TheVariants as areas
+use Rattle.repl_types.specs.Area.{same_area}
+use Rattle.repl_types.specs.declared.area.Area.{Area}
 
 -- the value that a table has at each key
 abbrev pub Table : Type 0
@@ -17,26 +17,6 @@ Contents = Area → ℕ → Table
 -- two keys are one
 abbrev pub same_key : List ℕ → List ℕ → Bool
 same_key k q = is_eq (bytes_cmp k q)
-
--- areas by number
-abbrev pub area_number : Area → ℕ
-area_number areas.Log = 1
-area_number areas.Source = 2
-area_number areas.Inflight = 3
-area_number areas.Head = 4
-area_number areas.Defs = 5
-area_number areas.Cd = 6
-area_number areas.Uow = 7
-area_number areas.Capture = 8
-area_number areas.Prune = 9
-area_number areas.Spill = 10
-area_number areas.Target = 11
-area_number areas.SetState = 12
-area_number areas.Trail = 13
-
--- two areas are one
-abbrev pub same_area : Area → Area → Bool
-same_area a b = area_number a == area_number b
 
 -- nothing stands anywhere
 abbrev pub nothing : Contents

@@ -1,12 +1,14 @@
 -- What clauses see of a keeper, and what each call makes of it.
-use Rattle.std.specs.Prelude.{◌≡◌, ◌⊎◌, ℕ, ◌+◌, ◌-◌, ◌^◌, ◌<◌, ◌≤◌, Bool, true, false, List, [], length, Option, Some, None, IsSome, is_some, if◌then◌else◌, min}
+use Rattle.std.specs.Prelude.{◌≡◌, ◌⊎◌, ℕ, ◌+◌, ◌-◌, ◌^◌, ◌<◌, ◌≤◌, Bool, true, false, List, [], Option, Some, None, IsSome, is_some, if◌then◌else◌, min}
 use Rattle.std.specs.declared.cmp.Ordering.TheVariants.{Less}
 use Rattle.std.specs.Option.{option_map}
 use Rattle.repl_types.specs.Bytes.{bytes_cmp}
-use Rattle.repl_types.specs.declared.status.Area.{Area}
+use Rattle.repl_types.specs.Sizes.{IsKeySize, IsValueSize}
+use Rattle.repl_types.specs.declared.area.Area.{Area}
 use Rattle.keep_core.specs.declared.keeper.KeepError.{KeepError}
 use Rattle.keep_core.specs.declared.keeper.KeepError.TheVariants.{Failed}
-use Rattle.keep_core.specs.Contents.{Contents, same_area, put_at, IsNext, IsLast}
+use Rattle.keep_core.specs.Contents.{Contents, put_at, IsNext, IsLast}
+use Rattle.repl_types.specs.Area.{same_area}
 use Rattle.keep_core.specs.Told.{Rises}
 
 pub record Kept : Type 0 where
@@ -89,6 +91,11 @@ pub record InDoubt (old new : Kept) (e : KeepError) : Type 0 where
   pub now : (new ≡ closed old new.faults) ⊎ ((e ≡ Failed) × (new ≡ closed (committed old) new.faults))
   pub cause : HasCause old.faults new.faults e
 
+-- a rollback: no transaction is open, and what is held stays
+pub record Closes (old new : Kept) : Type 0 where
+  pub now : new ≡ closed old new.faults
+  pub later : old.faults ≤ new.faults
+
 -- ---- what a read gives
 
 -- the contents have this value at the key, or none
@@ -104,17 +111,16 @@ abbrev pub NextIs : Area → ℕ → List ℕ → Bool → List ℕ → List ℕ
 NextIs a t after true key out c = IsNext (c a t) after key out
 NextIs a t after false key out c = IsLast (c a t) after
 
--- a value has at most 262,144 bytes; where there is none, nothing is given
+-- what is given is a value by its size; where there is none, nothing is given
 abbrev pub GivesValue : Bool → List ℕ → Type 0
-GivesValue true out = length out ≤ 262144
+GivesValue true out = IsValueSize out
 GivesValue false out = out ≡ []
 
--- a key that is given is above and has 1 to 1,024 bytes, and its value is one
+-- a key that is given is above, and is one by its size, and so is its value
 pub record GivesKey (after key out : List ℕ) : Type 0 where
   pub above : bytes_cmp after key ≡ Less
-  pub some : 0 < length key
-  pub short : length key ≤ 1024
-  pub value : length out ≤ 262144
+  pub size : IsKeySize key
+  pub value : IsValueSize out
 
 abbrev pub GivesNext : List ℕ → Bool → List ℕ → List ℕ → Type 0
 GivesNext after true key out = GivesKey after key out

@@ -1,16 +1,11 @@
 //! What keeps a server's contents.
 
-ghost use Rattle.std.specs.Prelude.{◌≡◌, ◌<◌, ◌≤◌, length, IfOk, OnOk, IfErr, IfSome};
-ghost use Rattle.keep_core.specs.Kept.{Kept, IsOpen, IsClosed, opened, closed, committed, after_read, after_write, after_put, after_remove, seen, Refuses, InDoubt, Found, NextIs, WasThere, GivesValue, GivesNext};
+ghost use Rattle.std.specs.Prelude.{◌≡◌, IfOk, OnOk, IfErr, IfSome};
+ghost use Rattle.repl_types.specs.Sizes.{IsKeySize, IsValueSize};
+ghost use Rattle.keep_core.specs.Kept.{Kept, IsOpen, IsClosed, opened, committed, after_read, after_write, after_put, after_remove, seen, Refuses, InDoubt, Closes, Found, NextIs, WasThere, GivesValue, GivesNext};
 
 use repl_types::Area;
 use thiserror::Error;
-
-/// The most bytes that a key may have. No key is empty.
-pub const KEY_LIMIT: usize = 1024;
-
-/// The most bytes that a value may have.
-pub const VALUE_LIMIT: usize = 262_144;
 
 /// Why a call of a keeper was given up.
 #[derive(Clone, Copy, Debug, PartialEq, Eq, Error)]
@@ -71,9 +66,8 @@ pub trait Keeper {
     /// The transaction sees this value at the key.
     fn put(&mut self, area: Area, table: u32, key: &[u8], value: &[u8]) -> Result<(), KeepError>
         requires open { IsOpen (kept self.old) }
-        requires some { 0 < length key.now }
-        requires short { length key.now ≤ 1024 }
-        requires value { length value.now ≤ 262144 }
+        requires key { IsKeySize key.now }
+        requires value { IsValueSize value.now }
         ensures ok { OnOk result (kept self.new ≡ after_put (kept self.old) area table key.now value.now) }
         ensures err { IfErr result (Refuses (after_write (kept self.old) area) (kept self.new)) };
 
@@ -90,7 +84,8 @@ pub trait Keeper {
         ensures ok { OnOk result (kept self.new ≡ committed (kept self.old)) }
         ensures err { IfErr result (InDoubt (kept self.old) (kept self.new)) };
 
-    /// No transaction is open, and what is held stays.
+    /// No transaction is open, and what is held stays. Where the keeper can't take the work back, that
+    /// counts as a fault, and each later call fails.
     fn rollback(&mut self)
-        ensures { kept self.new ≡ closed (kept self.old) (kept self.old).faults };
+        ensures { Closes (kept self.old) (kept self.new) };
 }

@@ -9,7 +9,7 @@
 mod keeper;
 mod streams;
 
-pub use keeper::{KEY_LIMIT, KeepError, Keeper, VALUE_LIMIT};
+pub use keeper::{KeepError, Keeper};
 pub use streams::{ReadError, Sink, Source, write_line};
 
 #[cfg(test)]

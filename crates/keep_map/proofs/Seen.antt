@@ -7,8 +7,9 @@ use Rattle.std.specs.Cmp.{tied_then}
 use Rattle.std.proofs.lemmas.Bool.{eqb-true}
 use Rattle.std.proofs.lemmas.Bool.Decides.{nat_tests}
 use Rattle.repl_types.specs.Bytes.{bytes_cmp}
-use Rattle.repl_types.specs.declared.status.Area.{Area}
-use Rattle.keep_core.specs.Contents.{Contents, Table, area_number, same_key, set_key, put_at}
+use Rattle.repl_types.specs.declared.area.Area.{Area}
+use Rattle.keep_core.specs.Contents.{Contents, Table, same_key, set_key, put_at}
+use Rattle.repl_types.specs.Area.{area_number}
 use Rattle.keep_map.specs.declared.slot.Slot.{Slot}
 use Rattle.keep_map.specs.declared.row.Row.{Row}
 use Rattle.keep_map.specs.declared.row.StoredValue.{StoredValue}

@@ -1,7 +1,8 @@
 -- What clauses see of a keeper in memory.
 use Rattle.std.specs.Prelude.{◌≡◌, ℕ, if◌then◌else◌, [], Some, None, slice_index}
-use Rattle.repl_types.specs.declared.status.Area.{Area}
-use Rattle.keep_core.specs.Contents.{area_number, nothing}
+use Rattle.repl_types.specs.declared.area.Area.{Area}
+use Rattle.keep_core.specs.Contents.{nothing}
+use Rattle.repl_types.specs.Area.{area_number}
 use Rattle.keep_core.specs.Kept.{Kept}
 use Rattle.keep_map.specs.declared.counts.Counts.{Counts}
 use Rattle.keep_map.specs.declared.map_keeper.MapKeeper.{MapKeeper}

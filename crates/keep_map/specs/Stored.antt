@@ -8,7 +8,8 @@ use Rattle.std.specs.BTreeMap.{BTreeMap, get_by}
 use Rattle.std.specs.BTreeMap.Range.{entries_between}
 use Rattle.std.specs.declared.ops.Bound.TheVariants.{Excluded, Unbounded}
 use Rattle.repl_types.specs.Bytes.{bytes_cmp}
-use Rattle.keep_core.specs.Contents.{Contents, Table, area_number}
+use Rattle.keep_core.specs.Contents.{Contents, Table}
+use Rattle.repl_types.specs.Area.{area_number}
 use Rattle.keep_map.specs.declared.slot.Slot.{Slot}
 use Rattle.keep_map.specs.declared.row.StoredValue.{StoredValue}
 use Rattle.keep_map.specs.declared.row.Row.{Row}

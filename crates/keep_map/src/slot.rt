@@ -1,7 +1,7 @@
 //! Where a row stands.
 
 ghost use Rattle.std.specs.Prelude.{◌≡◌, ◌<◌, IfOk};
-ghost use Rattle.keep_core.specs.Contents.{area_number};
+ghost use Rattle.repl_types.specs.Area.{area_number};
 ghost use Rattle.keep_map.specs.Stored.{place_of};
 
 use repl_types::Area;

@@ -4,7 +4,7 @@ use Rattle.std.specs.Prelude.{◌==◌, nat_le, sum_by, slice_index_or}
 use Rattle.std.specs.List.{list_all, list_any}
 use Rattle.std.specs.Str.{bytes_eq}
 use Rattle.std.proofs.lemmas.Bool.{and_parts, or_cases, eqb-true}
-use Rattle.repl_types.specs.Value.{Values}
+use Rattle.repl_types.specs.Value.{Values, images, spelled_len}
 use Rattle.repl_types.specs.declared.value.Value.{Value}
 use Rattle.repl_types.specs.declared.value.Value.TheVariants.{Null}
 use Rattle.repl_types.specs.declared.table.TableDef.{TableDef}
@@ -13,8 +13,8 @@ use Rattle.repl_types.specs.declared.record.Change.{Change}
 use Rattle.repl_types.specs.declared.record.Change.TheVariants.{Insert, Update, Delete, Start, Stop}
 use Rattle.repl_types.specs.declared.record.LogRecord.{LogRecord}
 use Rattle.repl_types.specs.declared.record.LogRecord.TheVariants as records
-use Rattle.repl_model.specs.Tables.{images, key_of, same_values, table_of}
-use Rattle.repl_model.specs.Applicable.{fits_column, fits_columns, spelled_len, fits, change_fits, is_change_applicable, is_applicable}
+use Rattle.repl_model.specs.Tables.{key_of, same_values, table_of}
+use Rattle.repl_model.specs.Applicable.{fits_column, fits_columns, fits, change_fits, is_change_applicable, is_applicable}
 use Rattle.repl_model.specs.Copies.{IsWhole, LeavesKey, RecordLeavesKey, LeavesKeys, is_key_fixed}
 use Rattle.repl_model.proofs.Lists.{each_push}
 use Rattle.repl_model.proofs.Rows.{same_values_exact}

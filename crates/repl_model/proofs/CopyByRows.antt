@@ -7,7 +7,7 @@ use Rattle.std.specs.Str.{bytes_eq}
 use Rattle.std.specs.FinMap.{empty, insert, remove}
 use Rattle.std.proofs.lemmas.Bool.{cond-false}
 use Rattle.std.proofs.lemmas.List.FromFn.{fill_by_all}
-use Rattle.repl_types.specs.Value.{Values}
+use Rattle.repl_types.specs.Value.{Values, images}
 use Rattle.repl_types.specs.declared.value.Value.TheVariants.{Null}
 use Rattle.repl_types.specs.declared.table.TableDef.{TableDef}
 use Rattle.repl_types.specs.declared.record.Change.{Change}
@@ -18,7 +18,7 @@ use Rattle.repl_types.specs.declared.unit.Placed.{Placed}
 use Rattle.repl_types.specs.declared.unit.Unit.{Unit}
 use Rattle.repl_types.specs.declared.change_row.Registration.{Registration}
 use Rattle.repl_types.specs.declared.change_row.CdRow.{CdRow}
-use Rattle.repl_model.specs.Tables.{Rows, images, key_of, same_values, table_of, effect, after_change, after_changes}
+use Rattle.repl_model.specs.Tables.{Rows, key_of, same_values, table_of, effect, after_change, after_changes}
 use Rattle.repl_model.specs.Units.{At, positions, change_of, changes_up_to, last_end, unit_at, units, last_commit}
 use Rattle.repl_model.specs.SourceAt.{unplaced, after_units, units_between}
 use Rattle.repl_model.specs.ChangeRows.{rows_of, rows_of_placed, shows_nothing, change_rows, changes_between, after_change_row, after_change_rows}

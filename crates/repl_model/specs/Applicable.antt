@@ -1,7 +1,7 @@
 -- Which log records are applicable after a log.
 use Rattle.std.specs.Prelude.{ℕ, ◌+◌, Bool, true, false, ◌&&◌, ◌==◌, nat_le, List, [], ◌∷◌, length, count_by, sum_by}
 use Rattle.std.specs.Str.{bytes_eq}
-use Rattle.repl_types.specs.Value.{Values}
+use Rattle.repl_types.specs.Value.{Values, images}
 use Rattle.repl_types.specs.declared.value.Value.{Value}
 use Rattle.repl_types.specs.declared.value.Value.TheVariants.{Null, Int, Text}
 use Rattle.repl_types.specs.declared.table.Kind.{Kind}
@@ -12,7 +12,7 @@ use Rattle.repl_types.specs.declared.record.Change.{Change}
 use Rattle.repl_types.specs.declared.record.Change.TheVariants.{Insert, Update, Delete, Start, Stop}
 use Rattle.repl_types.specs.declared.record.LogRecord.{LogRecord}
 use Rattle.repl_types.specs.declared.record.LogRecord.TheVariants as records
-use Rattle.repl_model.specs.Tables.{images, key_of, same_values, table_of, all_apply}
+use Rattle.repl_model.specs.Tables.{key_of, same_values, table_of, all_apply}
 use Rattle.repl_model.specs.Units.{units, last_commit, last_time, open_changes}
 use Rattle.repl_model.specs.SourceAt.{unplaced, source_at}
 
@@ -36,13 +36,6 @@ fits_columns [] [] = true
 fits_columns [] (v ∷ row) = false
 fits_columns (column ∷ columns) [] = false
 fits_columns (column ∷ columns) (v ∷ row) = fits_column column v && fits_columns columns row
-
--- the bytes that a value takes in a stored key: a mark, and for an integer 8, for a text its bytes, each
--- zero doubled, and two more
-abbrev pub spelled_len : Value → ℕ
-spelled_len Null = 1
-spelled_len (Int n) = 9
-spelled_len (Text t) = 3 + length t + count_by (λ b. b == 0) t
 
 -- a row fits its table: its values fit the columns, and its key has at most 1,024 bytes
 abbrev pub fits : TableDef → Values → Bool

@@ -3,7 +3,7 @@ use Rattle.std.specs.Prelude.{ℕ, Bool, ◌&&◌, if◌then◌else◌, List, []
 use Rattle.std.specs.List.{flat_map}
 use Rattle.std.specs.Str.{bytes_eq}
 use Rattle.std.specs.FinMap.{insert, remove}
-use Rattle.repl_types.specs.Value.{Values}
+use Rattle.repl_types.specs.Value.{Values, images}
 use Rattle.repl_types.specs.declared.value.Value.TheVariants.{Null}
 use Rattle.repl_types.specs.declared.table.TableDef.{TableDef}
 use Rattle.repl_types.specs.declared.record.Change.{Change}
@@ -15,7 +15,7 @@ use Rattle.repl_types.specs.declared.change_row.Registration.{Registration}
 use Rattle.repl_types.specs.declared.change_row.CdRow.{CdRow}
 use Rattle.repl_types.specs.declared.change_row.Op.{Op}
 use Rattle.repl_types.specs.declared.change_row.Op.TheVariants.{I, U, D}
-use Rattle.repl_model.specs.Tables.{Rows, images, key_of, same_values, table_of}
+use Rattle.repl_model.specs.Tables.{Rows, key_of, same_values, table_of}
 use Rattle.repl_model.specs.SourceAt.{units_between}
 
 -- the before-images of a row
@@ -32,15 +32,15 @@ shows_nothing reg before after = reg.changes_only && same_values (images reg.aft
 
 -- the change row of an insert, or of the insert that an update is taken apart into
 abbrev pub insert_row : Registration → ℕ → ℕ → ℕ → Values → CdRow
-insert_row reg seq pos sub row = record { commitseq = seq; intentseq = pos; sub = sub; op = I; after = images reg.after row; before = no_befores reg }
+insert_row reg seq pos sub row = record { commitseq = seq; intentseq = record { position = pos; sub = sub }; op = I; after = images reg.after row; before = no_befores reg }
 
 -- the change row of a delete
 abbrev pub delete_row : Registration → ℕ → ℕ → Values → CdRow
-delete_row reg seq pos row = record { commitseq = seq; intentseq = pos; sub = 0; op = D; after = images reg.after row; before = befores reg row }
+delete_row reg seq pos row = record { commitseq = seq; intentseq = record { position = pos; sub = 0 }; op = D; after = images reg.after row; before = befores reg row }
 
 -- the change row of an update
 abbrev pub update_row : Registration → ℕ → ℕ → Values → Values → CdRow
-update_row reg seq pos before after = record { commitseq = seq; intentseq = pos; sub = 0; op = U; after = images reg.after after; before = befores reg before }
+update_row reg seq pos before after = record { commitseq = seq; intentseq = record { position = pos; sub = 0 }; op = U; after = images reg.after after; before = befores reg before }
 
 -- the change rows of a change of the registered table, in a unit with this seq
 abbrev pub rows_of : Registration → ℕ → ℕ → Change → List CdRow

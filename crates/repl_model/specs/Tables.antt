@@ -13,10 +13,6 @@ use Rattle.repl_types.specs.declared.record.Change.TheVariants.{Insert, Update, 
 abbrev pub Rows : Type 0
 Rows = FinMap key_cmp Values
 
--- the values of a row at these places
-abbrev pub images : List ℕ → Values → Values
-images places row = map (λ place. slice_index_or row place Null) places
-
 -- the key of a row of a table
 abbrev pub key_of : TableDef → Values → Values
 key_of def row = images def.key row

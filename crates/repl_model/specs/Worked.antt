@@ -80,4 +80,4 @@ taken_apart = record { table = codes "items"; after = 0 ∷ 1 ∷ []; before = 1
 
 -- a change row of a registration that keeps one before-image
 abbrev pub change_row : ℕ → ℕ → ℕ → Op → Values → Values → CdRow
-change_row seq at sub op after before = record { commitseq = seq; intentseq = at; sub = sub; op = op; after = after; before = before }
+change_row seq at sub op after before = record { commitseq = seq; intentseq = record { position = at; sub = sub }; op = op; after = after; before = before }

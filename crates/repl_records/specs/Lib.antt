@@ -1,4 +1,3 @@
 pub mod FirstStates
-pub mod Sequence
 pub mod formers
 pub mod Weights

@@ -1,8 +1,7 @@
 //! The types of what a server stores beside plain values: definitions of sets with their trees, the
 //! records of each area with their keys, and what calls over them answer.
 //!
-//! It stands on `repl_types` alone, and holds no code but derived comparisons and copies, the text of a
-//! sequence, and the drop of trees, which may be deep: the records' spellings are `row_codec`'s, and what
+//! It stands on `repl_types` alone, and holds no code but derived comparisons and copies, and the drop of trees, which may be deep: the records' spellings are `row_codec`'s, and what
 //! they mean for a log is `repl_model`'s. Each record has the values of its line of the table of areas
 //! (`docs/FORMATS.md`) as fields, in their order. What a missing record stands for is in
 //! `specs/FirstStates.antt`. What would be a `Box` in plain Rust is a `Boxed` here, which a clause sees as
@@ -13,7 +12,6 @@ mod boxed;
 mod defined;
 mod fault;
 mod progress;
-mod sequence;
 mod set;
 mod source_side;
 mod target_side;
@@ -23,7 +21,6 @@ pub use boxed::Boxed;
 pub use defined::{DefinedRegistration, DefinedTable, SourceSet, TargetSet};
 pub use fault::{Counts, Fault, Stepped};
 pub use progress::{LastNumber, MemberKey, SetState, TrailEntry};
-pub use sequence::{Sequence, sequence_order, write_sequence};
 pub use set::{ColumnFrom, Member, SetDef, TargetColumn, TargetKind};
 pub use source_side::{
     CaptureState, CdKey, ChangeRow, Decided, Head, InFlight, InFlightKey, RegState, RejectedUnit,

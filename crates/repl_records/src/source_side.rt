@@ -1,7 +1,6 @@
 //! Records of a source: its tables, its log's state, and what capture and pruning keep.
 
-use crate::sequence::Sequence;
-use repl_types::{Name, Op, Row, SetId};
+use repl_types::{Name, Op, Row, Sequence, SetId};
 
 /// The key of a table that has one record.
 #[derive(Clone, Copy, Debug, PartialEq, Eq)]

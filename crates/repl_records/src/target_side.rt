@@ -1,7 +1,6 @@
 //! Rows of targets.
 
-use crate::sequence::Sequence;
-use repl_types::{Op, Row};
+use repl_types::{Op, Row, Sequence};
 
 /// A row of a user copy, kept under its key.
 #[derive(Clone, Debug, Drop, PartialEq, Eq)]

@@ -1,6 +1,9 @@
+pub mod Area
 pub mod Bytes
 pub mod Codes
 pub mod Name
 pub mod Numbers
+pub mod Sequence
+pub mod Sizes
 pub mod Value
 pub mod ValueText

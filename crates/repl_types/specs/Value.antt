@@ -1,5 +1,5 @@
 -- The order of values.
-use Rattle.std.specs.Prelude.{List}
+use Rattle.std.specs.Prelude.{ℕ, ◌+◌, ◌==◌, List, length, map, count_by, slice_index_or}
 use Rattle.std.specs.Ordering.{nat_cmp, int_cmp}
 use Rattle.std.specs.Cmp.Lexicographic.{slice_cmp}
 use Rattle.std.specs.declared.cmp.Ordering.{Ordering}
@@ -26,3 +26,14 @@ key_cmp = slice_cmp value_cmp
 -- the values of a row, or of a key
 abbrev pub Values : Type 0
 Values = List Value
+
+-- the values of a row at these places
+abbrev pub images : List ℕ → Values → Values
+images places row = map (λ place. slice_index_or row place Null) places
+
+-- the bytes that a value takes in a stored key: a mark, and for an integer 8, for a text its bytes, each
+-- zero doubled, and two more
+abbrev pub spelled_len : Value → ℕ
+spelled_len Null = 1
+spelled_len (Int n) = 9
+spelled_len (Text t) = 3 + length t + count_by (λ b. b == 0) t

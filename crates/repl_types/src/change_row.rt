@@ -2,6 +2,7 @@
 
 use crate::list::List;
 use crate::name::Name;
+use crate::sequence::Sequence;
 use crate::value::Row;
 
 /// Which changes of a table are captured, and how. `after` and `before` are places of the table's
@@ -27,14 +28,12 @@ pub enum Op {
     D,
 }
 
-/// A change row. `commitseq` is its unit's seq, `intentseq` the position of the change, `sub` 1 for the
-/// insert of a delete and insert and else 0. `after` and `before` are the images of the registered
-/// columns.
+/// A change row. `commitseq` is its unit's seq, `intentseq` the place of the change in the log. `after`
+/// and `before` are the images of the registered columns.
 #[derive(Clone, Debug, Drop, PartialEq, Eq)]
 pub struct CdRow {
     pub commitseq: u64,
-    pub intentseq: u64,
-    pub sub: u16,
+    pub intentseq: Sequence,
     pub op: Op,
     pub after: Row,
     pub before: Row,

@@ -1,24 +1,7 @@
 //! How a run ends.
 
+use crate::area::Area;
 use crate::list::Bytes;
-
-/// What a server stores, by kind.
-#[derive(Clone, Copy, Debug, PartialEq, Eq)]
-pub enum Area {
-    Log,
-    Source,
-    Inflight,
-    Head,
-    Defs,
-    Cd,
-    Uow,
-    Capture,
-    Prune,
-    Spill,
-    Target,
-    SetState,
-    Trail,
-}
 
 /// What shows that stored contents are damaged: bytes that are no spelling, the key of a record that
 /// should be there, the bytes of a record that doesn't fit, or the number of steps that were made

@@ -7,7 +7,7 @@ use Rattle.std.proofs.lemmas.List.{take_more, get_or-map, length-map, length-app
 use Rattle.repl_types.specs.ValueText.{IsValue}
 use Rattle.repl_types.specs.declared.value.Value.{Value}
 use Rattle.repl_types.specs.declared.value.Value.TheVariants.{Null, Int, Text}
-use Rattle.repl_model.specs.Tables.{images}
+use Rattle.repl_types.specs.Value.{images}
 use Rattle.row_codec.specs.Values.{one_value}
 use Rattle.row_codec.specs.Takes.{One, NoFront}
 use Rattle.row_codec.specs.Spelling.{b16, list_spelling, ListFits, value_spelling, key_spelling}

@@ -2,8 +2,8 @@
 -- is nothing to believe here.
 use Rattle.std.proofs.Common.{ℕ, refl, ap}
 use Rattle.std.specs.Ordering.{nat_cmp}
-use Rattle.repl_records.specs.declared.sequence.Sequence.{Sequence}
-use Rattle.repl_records.specs.Sequence.{sequence_cmp}
+use Rattle.repl_types.specs.declared.sequence.Sequence.{Sequence}
+use Rattle.repl_types.specs.Sequence.{sequence_cmp}
 use Rattle.row_codec.specs.Takes.{One, PairFits, pair_spelling, one_by}
 use Rattle.row_codec.specs.Ones.{one_pair}
 use Rattle.row_codec.specs.Numbers.{one16, one32, one64}

@@ -3,13 +3,13 @@ use Rattle.std.specs.Prelude.{ℕ, List, [], ◌∷◌, ◌++◌}
 use Rattle.std.specs.Ordering.{nat_cmp, ordering_then}
 use Rattle.std.specs.declared.cmp.Ordering.{Ordering}
 use Rattle.std.specs.declared.cmp.Ordering.TheVariants.{Equal}
-use Rattle.repl_records.specs.declared.sequence.Sequence.{Sequence}
+use Rattle.repl_types.specs.declared.sequence.Sequence.{Sequence}
 use Rattle.repl_records.specs.declared.source_side.Single.{Single}
 use Rattle.repl_records.specs.declared.source_side.InFlightKey.{InFlightKey}
 use Rattle.repl_records.specs.declared.source_side.CdKey.{CdKey}
 use Rattle.repl_records.specs.declared.source_side.UnitKey.{UnitKey}
 use Rattle.repl_records.specs.declared.progress.MemberKey.{MemberKey}
-use Rattle.repl_records.specs.Sequence.{sequence_cmp}
+use Rattle.repl_types.specs.Sequence.{sequence_cmp}
 use Rattle.row_codec.specs.Spelling.{Is16, Is32, Is64, b16, b32, b64}
 
 -- the key of a table that has one record is one byte, which says nothing

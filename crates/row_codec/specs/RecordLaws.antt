@@ -4,7 +4,7 @@ use Rattle.repl_types.specs.declared.value.Value.{Value}
 use Rattle.repl_types.specs.declared.record.SetId.{SetId}
 use Rattle.repl_types.specs.declared.change_row.Op.{Op}
 use Rattle.repl_types.specs.declared.change_row.Op.TheVariants.{I, U, D}
-use Rattle.repl_records.specs.declared.sequence.Sequence.{Sequence}
+use Rattle.repl_types.specs.declared.sequence.Sequence.{Sequence}
 use Rattle.row_codec.specs.Takes.{One, PairFits, pair_spelling, one_by}
 use Rattle.row_codec.specs.Ones.{one_pair}
 use Rattle.row_codec.specs.Numbers.{first_is, one64, one_flag}

@@ -1,6 +1,6 @@
 //! Definitions as a server keeps them, each with its number there.
 
-ghost use Rattle.repl_types.specs.declared.status.Area.TheVariants as areas;
+ghost use Rattle.repl_types.specs.declared.area.Area.TheVariants as areas;
 ghost use Rattle.row_codec.specs.Definitions.{defined_table_spelling, IsDefinedTable, HasDefinedTableSpelling, defined_registration_spelling, IsDefinedRegistration, HasDefinedRegistrationSpelling};
 ghost use Rattle.row_codec.specs.DefinitionLaws.{one_defined_table, one_defined_registration};
 

@@ -4,11 +4,9 @@ ghost use Rattle.std.specs.Prelude.{◌≡◌, ◌++◌, ◌∷◌, [], ℕ, Lis
 ghost use Rattle.std.specs.List.{sum_by};
 ghost use Rattle.repl_types.specs.Bytes.{bytes_cmp};
 ghost use Rattle.repl_types.specs.ValueText.{IsValue};
-ghost use Rattle.repl_types.specs.Value.{Values, value_cmp, key_cmp};
+ghost use Rattle.repl_types.specs.Value.{Values, value_cmp, key_cmp, images, spelled_len};
 ghost use Rattle.repl_types.specs.declared.value.Value.{Value};
 ghost use Rattle.repl_types.specs.declared.value.Value.TheVariants.{Null, Int, Text};
-ghost use Rattle.repl_model.specs.Tables.{images};
-ghost use Rattle.repl_model.specs.Applicable.{spelled_len};
 ghost use Rattle.row_codec.specs.Spelling.{IsKey, IsRow, value_spelling, row_spelling, key_spelling};
 
 /// Byte order of spelled keys is the order of keys: column by column, NULL first, then the integers by

@@ -1,6 +1,6 @@
 //! Records of a log.
 
-ghost use Rattle.repl_types.specs.declared.status.Area.TheVariants as areas;
+ghost use Rattle.repl_types.specs.declared.area.Area.TheVariants as areas;
 ghost use Rattle.std.specs.Prelude.{◌≡◌, ◌++◌, OnOk};
 ghost use Rattle.row_codec.specs.LogRecords.{change_spelling, IsChange, HasChangeSpelling, log_spelling, IsLogRecord, HasLogSpelling};
 ghost use Rattle.row_codec.specs.LogRecordLaws.{one_log_record};

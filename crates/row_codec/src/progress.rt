@@ -1,7 +1,7 @@
 //! How far sets are.
 
 ghost use Rattle.std.specs.Prelude.{◌≡◌, ◌++◌, ◌↔◌, IsTrue, IfOk};
-ghost use Rattle.repl_types.specs.declared.status.Area.TheVariants as areas;
+ghost use Rattle.repl_types.specs.declared.area.Area.TheVariants as areas;
 ghost use Rattle.row_codec.specs.Spelling.{Any};
 ghost use Rattle.row_codec.specs.Records.{HasNumbers, IsState, ZeroWhereAbsent, state_spelling, IsLastNumber, last_number_spelling, IsBase, base_spelling, IsEntry, entry_spelling};
 ghost use Rattle.row_codec.specs.Takes.{NoFront};

@@ -2,8 +2,7 @@
 
 ghost use Rattle.std.specs.Prelude.{◌≡◌, ◌++◌, ◌<◌, length, OnOk, IfOk};
 ghost use Rattle.std.specs.List.{All};
-ghost use Rattle.repl_types.specs.Value.{key_cmp};
-ghost use Rattle.repl_model.specs.Tables.{images};
+ghost use Rattle.repl_types.specs.Value.{key_cmp, images};
 ghost use Rattle.row_codec.specs.Takes.{NoSpelling};
 ghost use Rattle.row_codec.specs.Spelling.{IsCounted, IsRow, IsKey, row_spelling, key_spelling};
 ghost use Rattle.row_codec.specs.Values.{one_key, order_key};

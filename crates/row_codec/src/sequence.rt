@@ -7,7 +7,7 @@ ghost use Rattle.row_codec.specs.KeyOrder.{one_sequence};
 use crate::part::Part;
 use crate::parts::take_two;
 use crate::take_error::TakeError;
-use repl_records::Sequence;
+use repl_types::Sequence;
 use std::alloc::{AllocError, Global};
 
 impl Part for Sequence {

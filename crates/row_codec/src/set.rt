@@ -1,7 +1,7 @@
 //! Members, and sets as a server keeps them.
 
 ghost use Rattle.std.specs.Prelude.{◌≡◌, ◌∷◌, ◌++◌, OnOk};
-ghost use Rattle.repl_types.specs.declared.status.Area.TheVariants as areas;
+ghost use Rattle.repl_types.specs.declared.area.Area.TheVariants as areas;
 ghost use Rattle.row_codec.specs.Spelling.{Any, b16, Is16};
 ghost use Rattle.row_codec.specs.Sets.{target_kind_spelling, source_spelling, IsSource, HasSourceSpelling, target_column_spelling, IsTargetColumn, HasTargetColumnSpelling, filter_spelling, IsFilter, HasFilterSpelling, member_spelling, IsMember, HasMemberSpelling, set_def_spelling, IsSetDef, HasSetDefSpelling, source_set_spelling, IsSourceSet, HasSourceSetSpelling, target_set_spelling, IsTargetSet, HasTargetSetSpelling};
 ghost use Rattle.row_codec.specs.SetLaws.{one_target_kind, one_source, one_target_column, one_filter, one_member, one_set_def, one_source_set, one_target_set};

@@ -1,6 +1,6 @@
 //! Records of a source.
 
-ghost use Rattle.repl_types.specs.declared.status.Area.TheVariants as areas;
+ghost use Rattle.repl_types.specs.declared.area.Area.TheVariants as areas;
 ghost use Rattle.row_codec.specs.Spelling.{Any, IsCounted};
 ghost use Rattle.row_codec.specs.Records.{IsSourceRow, source_row_spelling, in_flight_spelling, IsHead, head_spelling, IsChangeRow, change_row_spelling, IsUow, IsCode, uow_spelling, IsCapture, capture_spelling, IsRegistrationState, registration_state_spelling, IsMark, mark_spelling, IsDecided, decided_spelling, IsRejected, rejected_spelling};
 ghost use Rattle.row_codec.specs.RecordLaws.{one_source_row, one_in_flight, one_head, one_change_row, one_uow, one_capture, one_registration_state, one_mark, one_decided, one_rejected};

@@ -4,7 +4,7 @@ ghost use Rattle.std.specs.Prelude.{◌≡◌, ◌++◌, ℕ, List, OnOk, IfOk};
 ghost use Rattle.std.specs.Ordering.{nat_cmp};
 ghost use Rattle.std.specs.Cmp.Lexicographic.{slice_cmp};
 ghost use Rattle.std.specs.declared.cmp.Ordering.{Ordering};
-ghost use Rattle.repl_types.specs.declared.status.Area.{Area};
+ghost use Rattle.repl_types.specs.declared.area.Area.{Area};
 ghost use Rattle.row_codec.specs.Takes.{NoSpelling};
 
 use crate::part::{Part, take_whole};

@@ -1,6 +1,6 @@
 //! Rows of targets.
 
-ghost use Rattle.repl_types.specs.declared.status.Area.TheVariants as areas;
+ghost use Rattle.repl_types.specs.declared.area.Area.TheVariants as areas;
 ghost use Rattle.row_codec.specs.Spelling.{IsCounted};
 ghost use Rattle.row_codec.specs.Records.{IsCopy, copy_spelling, IsPoint, point_spelling, IsAggregate, aggregate_spelling, IsHistory, history_spelling, IsLatest, latest_spelling};
 ghost use Rattle.row_codec.specs.RecordLaws.{one_copy, one_point, one_aggregate, one_history, one_latest};

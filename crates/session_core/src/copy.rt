@@ -6,7 +6,7 @@ ghost use Rattle.repl_model.specs.ChangeRows.{no_befores as no_befores_lem, show
 
 use crate::changes::{images, key_of, same_values, table_of};
 use crate::rows::Rows;
-use repl_types::{CdRow, Change, List, Op, Placed, Registration, Row, TableDef, Unit, Value};
+use repl_types::{CdRow, Change, List, Op, Placed, Registration, Row, Sequence, TableDef, Unit, Value};
 use std::alloc::{AllocError, Global};
 
 /// Before-images that are all NULL.
@@ -53,8 +53,7 @@ fn insert_row(
 {
     Ok(CdRow {
         commitseq: seq,
-        intentseq: pos,
-        sub,
+        intentseq: Sequence { position: pos, sub },
         op: Op::I,
         after: images(alloc, reg.after.as_slice(), row)?,
         before: no_befores(alloc, reg)?,
@@ -73,8 +72,10 @@ fn delete_row(
 {
     Ok(CdRow {
         commitseq: seq,
-        intentseq: pos,
-        sub: 0,
+        intentseq: Sequence {
+            position: pos,
+            sub: 0,
+        },
         op: Op::D,
         after: images(alloc, reg.after.as_slice(), row)?,
         before: images(alloc, reg.before.as_slice(), row)?,
@@ -94,8 +95,10 @@ fn update_row(
 {
     Ok(CdRow {
         commitseq: seq,
-        intentseq: pos,
-        sub: 0,
+        intentseq: Sequence {
+            position: pos,
+            sub: 0,
+        },
         op: Op::U,
         after: images(alloc, reg.after.as_slice(), after)?,
         before: images(alloc, reg.before.as_slice(), before)?,

@@ -5,7 +5,7 @@ use Rattle.std.specs.Option.{option_map}
 use Rattle.std.proofs.Math.ListN.{set}
 use Rattle.std.specs.Vec.{with_item}
 use Rattle.std.proofs.lemmas.List.{length-map}
-use Rattle.repl_types.specs.declared.status.Area.{Area}
+use Rattle.repl_types.specs.declared.area.Area.{Area}
 use Rattle.repl_types.specs.declared.status.DamageCause.TheVariants as causes
 use Rattle.repl_records.specs.declared.fault.Fault.{Fault}
 use Rattle.repl_records.specs.declared.fault.Fault.TheVariants as faults

@@ -3,11 +3,12 @@ use Rattle.std.specs.Prelude.{◌≡◌, ◌⊎◌, ℕ, ◌<◌, ◌≤◌, fal
 use Rattle.std.specs.Option.{option_map}
 use Rattle.std.specs.declared.cmp.Ordering.TheVariants.{Less}
 use Rattle.repl_types.specs.Bytes.{bytes_cmp}
-use Rattle.repl_types.specs.declared.status.Area.{Area}
+use Rattle.repl_types.specs.declared.area.Area.{Area}
 use Rattle.repl_types.specs.declared.status.DamageCause.TheVariants as causes
 use Rattle.repl_records.specs.declared.fault.Fault.{Fault}
 use Rattle.repl_records.specs.declared.fault.Fault.TheVariants as faults
-use Rattle.keep_core.specs.Contents.{Contents, same_area, IsNext, IsLast}
+use Rattle.keep_core.specs.Contents.{Contents, IsNext, IsLast}
+use Rattle.repl_types.specs.Area.{same_area}
 use Rattle.keep_core.specs.Kept.{Kept, seen}
 use Rattle.keep_core.specs.Told.{Rises}
 use Rattle.keep_core.specs.declared.keeper.KeepError.{KeepError}

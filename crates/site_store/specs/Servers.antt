@@ -1,6 +1,6 @@
 -- The servers as a list, and what a clause sees of each.
 use Rattle.std.specs.Prelude.{◌≡◌, ◌≢◌, ℕ, ◌<◌, ◌≤◌, List, [], length, map, Option, None, slice_index_or}
-use Rattle.repl_types.specs.declared.status.Area.{Area}
+use Rattle.repl_types.specs.declared.area.Area.{Area}
 use Rattle.keep_core.specs.Contents.{Contents}
 use Rattle.keep_core.specs.Kept.{Kept}
 use Rattle.site_store.specs.declared.site.Site.{Site}

@@ -1,6 +1,6 @@
 -- What a clause sees of all servers: a list for each thing.
 use Rattle.std.specs.Prelude.{◌≡◌, ℕ, List, Option, None, IsSome, slice_index_or}
-use Rattle.repl_types.specs.declared.status.Area.{Area}
+use Rattle.repl_types.specs.declared.area.Area.{Area}
 use Rattle.keep_core.specs.Contents.{Contents}
 use Rattle.keep_core.specs.Kept.{Kept, seen_of}
 use Rattle.site_store.specs.declared.site.Site.{Site}

@@ -1,6 +1,6 @@
 -- What a transaction makes of what it sees.
 use Rattle.std.specs.Prelude.{◌≡◌, ℕ, List, Option, Some, None, slice_index_or, slice_set}
-use Rattle.repl_types.specs.declared.status.Area.{Area}
+use Rattle.repl_types.specs.declared.area.Area.{Area}
 use Rattle.keep_core.specs.Contents.{Contents, put_at}
 
 -- One server's transaction went on by this step from what it saw. Those of the others see the same.

@@ -1,7 +1,7 @@
 //! All servers, each at its number.
 
 ghost use Rattle.std.specs.Prelude.{◌≡◌, ◌<◌, ℕ, ◌^◌, ◌↔◌, IsTrue, [], slice_index_or, length, IfOk, IfErr, MatchOption, take};
-ghost use Rattle.repl_types.specs.declared.status.Area.{Area};
+ghost use Rattle.repl_types.specs.declared.area.Area.{Area};
 ghost use Rattle.site_store.specs.Servers.{names_of, held_of, work_of, faults_of, reads_of, writes_of, AllClosed, AreApart, AreServers, IsPlace, HasNone};
 
 use crate::site::Site;

@@ -3,7 +3,7 @@
 ghost use Rattle.std.specs.Prelude.{Some, None, ◌^◌, ◌-◌, if◌then◌else◌, [], ◌∷◌, refl};
 ghost use Rattle.std.proofs.Common.{ap};
 ghost use Rattle.std.specs.declared.cmp.Ordering.TheVariants.{Equal};
-ghost use Rattle.repl_types.specs.declared.status.Area.TheVariants.{Capture};
+ghost use Rattle.repl_types.specs.declared.area.Area.TheVariants.{Capture};
 ghost use Rattle.row_codec.specs.Spelling.{b64, Is64, Any};
 ghost use Rattle.row_codec.specs.Numbers.{one64};
 ghost use Rattle.row_codec.specs.Takes.{one_by};
@@ -12,9 +12,9 @@ use crate::{
     Site, Sites, SitesError, key_bytes_in_order, next_of_rows, row_after_all, row_at_key,
     row_before_all, rows_between,
 };
-use keep_core::{KeepError, Keeper, VALUE_LIMIT};
+use keep_core::{KeepError, Keeper};
 use repl_records::Fault;
-use repl_types::{Area, DamageCause, List, Name};
+use repl_types::{Area, DamageCause, List, Name, VALUE_LIMIT};
 use row_codec::{Key, Part, Stored, TakeError};
 use std::alloc::{AllocError, Global};
 use std::test::Fail;

@@ -10,8 +10,8 @@ use Rattle.std.proofs.lemmas.Bool.{cases_eq, cases_lt}
 use Rattle.std.proofs.lemmas.Bool.Decides.{nat_tests}
 use Rattle.std.proofs.lemmas.List.{get_or-set_same, length-map}
 use Rattle.repl_types.specs.Bytes.{bytes_cmp}
-use Rattle.repl_types.specs.declared.status.Area.{Area}
-use Rattle.repl_types.specs.declared.status.Area.TheVariants as areas
+use Rattle.repl_types.specs.declared.area.Area.{Area}
+use Rattle.repl_types.specs.declared.area.Area.TheVariants as areas
 use Rattle.keep_core.specs.Contents.{Contents, Table, IsNext, IsLast, same_key, set_key, put_at}
 use Rattle.row_codec.specs.Spelling.{b64, Is64}
 use Rattle.row_codec.specs.Numbers.{one64}

@@ -1,7 +1,7 @@
 -- The world: numbers, and how many of them were taken; and when a server stands for it.
 use Rattle.std.specs.Prelude.{◌≡◌, ◌⊎◌, ℕ, zero, ◌+◌, ◌^◌, ◌<◌, ◌≤◌, ◌==◌, if◌then◌else◌, min, List, [], ◌∷◌, length, Option, Some, None, slice_index_or}
-use Rattle.repl_types.specs.declared.status.Area.{Area}
-use Rattle.repl_types.specs.declared.status.Area.TheVariants as areas
+use Rattle.repl_types.specs.declared.area.Area.{Area}
+use Rattle.repl_types.specs.declared.area.Area.TheVariants as areas
 use Rattle.repl_records.specs.declared.fault.Fault.{Fault}
 use Rattle.repl_records.specs.declared.fault.Fault.TheVariants as faults
 use Rattle.keep_core.specs.Contents.{Contents, Table, nothing}

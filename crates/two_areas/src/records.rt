@@ -2,7 +2,7 @@
 
 ghost use Rattle.std.specs.Ordering.{nat_cmp};
 ghost use Rattle.std.proofs.Common.{ap};
-ghost use Rattle.repl_types.specs.declared.status.Area.TheVariants.{Log, Capture};
+ghost use Rattle.repl_types.specs.declared.area.Area.TheVariants.{Log, Capture};
 ghost use Rattle.row_codec.specs.Spelling.{b64, Is64, Any};
 ghost use Rattle.row_codec.specs.Numbers.{one64};
 ghost use Rattle.row_codec.specs.Order.{order64, whole_order};

@@ -2,7 +2,7 @@
 
 ghost use Rattle.std.specs.Prelude.{◌≡◌, ◌<◌, ◌≤◌, Some, None, length, OnOk, OnErr, IfOk, IfErr, IfSome};
 ghost use Rattle.std.specs.Option.{option_copied};
-ghost use Rattle.repl_types.specs.declared.status.Area.{Area};
+ghost use Rattle.repl_types.specs.declared.area.Area.{Area};
 ghost use Rattle.keep_core.specs.Kept.{WasThere};
 
 use crate::records::{begin_at, commit_at, get_record, next_record, put_record, remove_record};

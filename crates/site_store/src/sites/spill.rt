@@ -2,8 +2,8 @@
 //! memory of its own.
 
 ghost use Rattle.std.specs.Prelude.{◌≡◌, ◌<◌, ◌≤◌, Some, None, length, OnOk, OnErr, IfOk, IfErr, IfSome};
-ghost use Rattle.repl_types.specs.declared.status.Area.{Area};
-ghost use Rattle.repl_types.specs.declared.status.Area.TheVariants.{Spill};
+ghost use Rattle.repl_types.specs.declared.area.Area.{Area};
+ghost use Rattle.repl_types.specs.declared.area.Area.TheVariants.{Spill};
 ghost use Rattle.keep_core.specs.Kept.{WasThere, NextIs, GivesNext};
 
 use crate::records::{next_spill_at, put_spill_at, remove_spill_at};

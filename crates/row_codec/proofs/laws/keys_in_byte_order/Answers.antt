@@ -1,4 +1,4 @@
-use Rattle.repl_model.specs.Tables.{images}
+use Rattle.repl_types.specs.Value.{images}
 use Rattle.row_codec.specs.Values.{one_key, order_key}
 use Rattle.row_codec.proofs.laws.keys_in_byte_order.Goals as goal
 

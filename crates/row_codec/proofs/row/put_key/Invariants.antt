@@ -1,7 +1,7 @@
 use Rattle.std.proofs.Common.{◌≡◌, ◌++◌, take}
 use Rattle.std.specs.List.{flat_map, AllByRecursion}
 use Rattle.repl_types.specs.ValueText.{IsValue}
-use Rattle.repl_model.specs.Tables.{images}
+use Rattle.repl_types.specs.Value.{images}
 use Rattle.row_codec.specs.Spelling.{value_spelling}
 use Rattle.row_codec.proofs.row.put_key.Given as goal
 

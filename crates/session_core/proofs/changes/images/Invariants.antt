@@ -1,5 +1,5 @@
 use Rattle.std.proofs.Common.{◌≡◌, take}
-use Rattle.repl_model.specs.Tables.{images}
+use Rattle.repl_types.specs.Value.{images}
 use Rattle.session_core.proofs.changes.images.Given as goal
 
 abbrev pub invariant-loop-place : goal.invariant-loop-place

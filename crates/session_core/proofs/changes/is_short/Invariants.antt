@@ -1,5 +1,5 @@
 use Rattle.std.proofs.Common.{◌≡◌, ◌≤◌, sum_by, take}
-use Rattle.repl_model.specs.Applicable.{spelled_len}
+use Rattle.repl_types.specs.Value.{spelled_len}
 use Rattle.session_core.proofs.changes.is_short.Given as goal
 
 abbrev pub invariant-loop-value : goal.invariant-loop-value

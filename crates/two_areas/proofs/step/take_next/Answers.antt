@@ -1,7 +1,7 @@
 use Rattle.std.proofs.Common.{◌∙◌, refl, ap, arith, List, get_or, inl, inr, Some, None}
 use Rattle.std.specs.Prelude.{Option}
 use Rattle.std.proofs.lemmas.Result.{err_from_is_err_and}
-use Rattle.repl_types.specs.declared.status.Area.TheVariants as areas
+use Rattle.repl_types.specs.declared.area.Area.TheVariants as areas
 use Rattle.keep_core.specs.Contents.{Contents}
 use Rattle.row_codec.specs.Numbers.{length64}
 use Rattle.row_codec.specs.Spelling.{b64}

@@ -4,7 +4,7 @@ use Rattle.std.proofs.lemmas.Bool.{eqb-false}
 use Rattle.std.proofs.Math.ListN.{set}
 use Rattle.std.proofs.lemmas.List.{get_or-set_other}
 use Rattle.std.proofs.lemmas.Grind.{get_or-set_at}
-use Rattle.keep_core.specs.Contents.{area_number}
+use Rattle.repl_types.specs.Area.{area_number}
 use Rattle.keep_map.proofs.counts.Counts.bump.Goals as goal
 
 -- the counts at numbers, once one was raised

@@ -1,5 +1,5 @@
 use Rattle.std.proofs.Common.{◌∙◌, ℕ, ap}
-use Rattle.repl_types.specs.declared.status.Area.{Area}
+use Rattle.repl_types.specs.declared.area.Area.{Area}
 use Rattle.keep_core.specs.Kept.{Kept}
 use Rattle.site_store.proofs.Called.{servers_stay, commits, in_doubt, fails, blames_failed, reads_stay, writes_stay}
 use Rattle.site_store.proofs.sites.Sites.commit.Goals as goal

@@ -1,5 +1,5 @@
 use Rattle.std.proofs.Common.{◌∙◌, ap, refl}
-use Rattle.repl_types.specs.declared.status.Area.TheVariants as areas
+use Rattle.repl_types.specs.declared.area.Area.TheVariants as areas
 use Rattle.keep_core.specs.Kept.{Kept}
 use Rattle.site_store.proofs.Called.{servers_stay, goes, stops, fails, blames_failed, reads_stay, writes_stay, reads_once, reads_at_most}
 use Rattle.site_store.proofs.Counting.{counted_other, counted_grows, halts_reads, halts_writes}

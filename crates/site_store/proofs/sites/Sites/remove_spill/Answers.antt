@@ -1,6 +1,6 @@
 use Rattle.std.proofs.Common.{◌∙◌, ap, refl, arith}
 use Rattle.std.specs.Prelude.{None}
-use Rattle.repl_types.specs.declared.status.Area.TheVariants as areas
+use Rattle.repl_types.specs.declared.area.Area.TheVariants as areas
 use Rattle.keep_core.specs.Kept.{Kept}
 use Rattle.site_store.proofs.Called.{servers_stay, puts, stops, fails, blames_failed, works, reads_stay, writes_stay, writes_once, writes_at_most}
 use Rattle.site_store.proofs.Counting.{counted_other, halts_reads, halts_writes}

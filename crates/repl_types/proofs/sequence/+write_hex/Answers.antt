@@ -1,7 +1,7 @@
 use Rattle.std.proofs.Common.{ℕ, List, [], ◌∷◌, ◌++◌, ◌-◌, ◌/◌, ◌%◌, sym, ap, ◌∙◌, append-nil, append_assoc, arith}
-use Rattle.repl_records.specs.Sequence.{hex_digit, hex_digits}
-use Rattle.repl_records.proofs.Digits.{last_apart, no_digits}
-use Rattle.repl_records.proofs.sequence.+write_hex.Goals as goal
+use Rattle.repl_types.specs.Sequence.{hex_digit, hex_digits}
+use Rattle.repl_types.proofs.Digits.{last_apart, no_digits}
+use Rattle.repl_types.proofs.sequence.+write_hex.Goals as goal
 
 pub returns-then-count-eq0 : goal.returns-then-count-eq0
 returns-then-count-eq0 t c =

@@ -1,4 +1,4 @@
-use Rattle.repl_records.proofs.sequence.+write_hex.Given as goal
+use Rattle.repl_types.proofs.sequence.+write_hex.Given as goal
 
 abbrev pub decreases-write_hex : goal.decreases-write_hex
 decreases-write_hex l = l.count

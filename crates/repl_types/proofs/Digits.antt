@@ -1,6 +1,6 @@
 -- Digits of numbers.
 use Rattle.std.proofs.Common.{◌≡◌, ℕ, zero, suc, ◌-◌, ◌<◌, ◌/◌, ◌%◌, [], ◌∷◌, ◌++◌, refl, ap, arith}
-use Rattle.repl_records.specs.Sequence.{hex_digit, hex_digits}
+use Rattle.repl_types.specs.Sequence.{hex_digit, hex_digits}
 
 -- some digits of a number are those of its sixteenth and then its last digit
 pub last_apart : (count n : ℕ) → 0 < count → hex_digits count n ≡ hex_digits (count - 1) (n / 16) ++ hex_digit (n % 16) ∷ []

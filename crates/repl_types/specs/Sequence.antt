@@ -2,7 +2,7 @@
 use Rattle.std.specs.Prelude.{ℕ, zero, suc, ◌/◌, ◌%◌, codes, slice_index, List, [], ◌∷◌, ◌++◌}
 use Rattle.std.specs.Ordering.{nat_cmp, ordering_then}
 use Rattle.std.specs.declared.cmp.Ordering.{Ordering}
-use Rattle.repl_records.specs.declared.sequence.Sequence.{Sequence}
+use Rattle.repl_types.specs.declared.sequence.Sequence.{Sequence}
 
 -- by positions, and then by sub-numbers
 abbrev pub sequence_cmp : Sequence → Sequence → Ordering

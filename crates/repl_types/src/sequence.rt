@@ -1,7 +1,7 @@
 //! Sequences: places in a log.
 
 ghost use Rattle.std.specs.Prelude.{◌≡◌, ◌++◌, OnOk};
-ghost use Rattle.repl_records.specs.Sequence.{sequence_cmp, hex_digits, sequence_text};
+ghost use Rattle.repl_types.specs.Sequence.{sequence_cmp, hex_digits, sequence_text};
 
 use std::alloc::AllocError;
 use std::cmp::Ordering;
