@@ -4,10 +4,11 @@ use Rattle.std.specs.Prelude.{Option, Some, None, is_some, ◌||◌}
 use Rattle.std.specs.Option.{unwrap_or}
 use Rattle.std.specs.BTreeMap.{BTreeMap}
 use Rattle.std.proofs.lemmas.List.Folds.{list_any-append}
+use Rattle.repl_types.specs.Sizes.{IsKeySize}
 use Rattle.keep_map.specs.declared.slot.Slot.{Slot}
 use Rattle.keep_map.specs.declared.row.Row.{Row}
 use Rattle.keep_map.specs.declared.row.StoredValue.{StoredValue}
-use Rattle.keep_map.specs.Stored.{Place, IsKey, same_place, place_of, row_at, seen_in, held_in, kept_in, is_settled, names, AreRows, Sets, row_of, settled, bytes_of}
+use Rattle.keep_map.specs.Stored.{Place, same_place, place_of, row_at, seen_in, held_in, kept_in, is_settled, names, AreRows, Sets, row_of, settled, bytes_of}
 use Rattle.keep_map.proofs.Places.{place_is}
 
 -- a longer list names no place that neither the list nor the new slot names
@@ -30,7 +31,7 @@ unnamed xs ys s is p none = neither (names xs p) (same_place (place_of s) p) (sy
 
 -- rows stay sound where one is set
 sound_set : (m n : BTreeMap Slot Row) (s : Slot) (w : Option Row) (old now : List Slot)
-    → (is_some w ≡ true → IsKey s.key.items)
+    → (is_some w ≡ true → IsKeySize s.key.items)
     → Sets (place_of s) w m n
     → ((p : Place) → names now p ≡ false → same_place (place_of s) p ≡ true → is_settled w ≡ true)
     → ((p : Place) → names now p ≡ false → same_place (place_of s) p ≡ false → names old p ≡ false)
@@ -40,16 +41,16 @@ sound_set m n s w old now key sets here other sound = record {
   others = λ p none. ap is_settled (sets p) ∙ other_at p none (same_place (place_of s) p) refl;
 }
   where
-    key_at : (p : Place) (b : Bool) → same_place (place_of s) p ≡ b → is_some (cond b w (row_at m p)) ≡ true → IsKey p.2
+    key_at : (p : Place) (b : Bool) → same_place (place_of s) p ≡ b → is_some (cond b w (row_at m p)) ≡ true → IsKeySize p.2
     key_at p false e is = sound.keys p is
-    key_at p true e is = subst (λ (q : Place). IsKey q.2) (place_is (place_of s) p e) (key is)
+    key_at p true e is = subst (λ (q : Place). IsKeySize q.2) (place_is (place_of s) p e) (key is)
 
     other_at : (p : Place) → names now p ≡ false → (b : Bool) → same_place (place_of s) p ≡ b → is_settled (cond b w (row_at m p)) ≡ true
     other_at p none false e = sound.others p (other p none e)
     other_at p none true e = here p none e
 
 -- rows stay sound where one is set and its slot is named
-pub sound_named : (m n : BTreeMap Slot Row) (s : Slot) (w : Option Row) (old now : List Slot) → IsKey s.key.items → now ≡ old ++ s ∷ [] → Sets (place_of s) w m n → AreRows m old → AreRows n now
+pub sound_named : (m n : BTreeMap Slot Row) (s : Slot) (w : Option Row) (old now : List Slot) → IsKeySize s.key.items → now ≡ old ++ s ∷ [] → Sets (place_of s) w m n → AreRows m old → AreRows n now
 sound_named m n s w old now key longer sets sound =
     let apart = unnamed old now s longer in
     sound_set m n s w old now (λ _. key) sets (λ p none here. absurd (clash here (apart p none).1)) (λ p none _. (apart p none).0) sound
@@ -58,7 +59,7 @@ sound_named m n s w old now key longer sets sound =
     clash e f = cc
 
 -- rows stay sound where one is set that is settled just where it was before
-pub sound_again : (m n : BTreeMap Slot Row) (s : Slot) (w : Option Row) (old now : List Slot) → IsKey s.key.items → now ≡ old → is_settled w ≡ is_settled (row_at m (place_of s)) → Sets (place_of s) w m n → AreRows m old → AreRows n now
+pub sound_again : (m n : BTreeMap Slot Row) (s : Slot) (w : Option Row) (old now : List Slot) → IsKeySize s.key.items → now ≡ old → is_settled w ≡ is_settled (row_at m (place_of s)) → Sets (place_of s) w m n → AreRows m old → AreRows n now
 sound_again m n s w old now key same as_before sets sound =
     let none_old : (p : Place) → names now p ≡ false → names old p ≡ false = λ p none. ap (λ (l : List Slot). names l p) (sym same) ∙ none in
     sound_set m n s w old now (λ _. key) sets (λ p none here. as_before ∙ ap (λ (q : Place). is_settled (row_at m q)) (place_is (place_of s) p here) ∙ sound.others p (none_old p none)) (λ p none _. none_old p none) sound

@@ -1,5 +1,5 @@
 -- The rows of a keeper in memory, and the contents that they stand for.
-use Rattle.std.specs.Prelude.{◌≡◌, ℕ, ◌<◌, ◌≤◌, Bool, true, false, cond, List, length, Option, Some, None, is_some, not, ◌&&◌, ◌||◌, ◌==◌}
+use Rattle.std.specs.Prelude.{◌≡◌, ℕ, Bool, true, false, cond, List, Option, Some, None, is_some, not, ◌&&◌, ◌||◌, ◌==◌}
 use Rattle.std.specs.Option.{option_map, unwrap_or}
 use Rattle.std.specs.List.{list_any}
 use Rattle.std.specs.Ordering.{is_eq, nat_cmp, ordering_then}
@@ -10,6 +10,7 @@ use Rattle.std.specs.declared.ops.Bound.TheVariants.{Excluded, Unbounded}
 use Rattle.repl_types.specs.Bytes.{bytes_cmp}
 use Rattle.keep_core.specs.Contents.{Contents, Table}
 use Rattle.repl_types.specs.Area.{area_number}
+use Rattle.repl_types.specs.Sizes.{IsKeySize}
 use Rattle.keep_map.specs.declared.slot.Slot.{Slot}
 use Rattle.keep_map.specs.declared.row.StoredValue.{StoredValue}
 use Rattle.keep_map.specs.declared.row.Row.{Row}
@@ -33,10 +34,6 @@ place_of s = (s.area, s.table, s.key.items)
 -- slots are in the order of their places
 abbrev pub slot_cmp : Slot → Slot → Ordering
 slot_cmp r s = place_cmp (place_of r) (place_of s)
-
--- a key that a row may have
-abbrev pub IsKey : List ℕ → Type 0
-IsKey k = (0 < length k) × (length k ≤ 1024)
 
 -- the row at a place
 abbrev pub row_at : BTreeMap Slot Row → Place → Option Row
@@ -100,7 +97,7 @@ names slots p = list_any (λ s. same_place (place_of s) p) slots
 
 -- each row has a key that it may have, and each that isn't settled is named in the list
 pub record AreRows (m : BTreeMap Slot Row) (touched : List Slot) : Type 0 where
-  pub keys : (p : Place) → is_some (row_at m p) ≡ true → IsKey p.2
+  pub keys : (p : Place) → is_some (row_at m p) ≡ true → IsKeySize p.2
   pub others : (p : Place) → names touched p ≡ false → is_settled (row_at m p) ≡ true
 
 -- at one place the map has this row now, or none, and what it had everywhere else

@@ -1,12 +1,11 @@
 //! How often each area was read or written.
 
-use crate::slot::number;
 use repl_types::Area;
 
 /// A count of each area, at the area's number. A count that stands at the last `u64` stays there.
 #[derive(Debug, Drop)]
 pub struct Counts {
-    each: [u64; 14],
+    each: [u64; Area::NUMBERS],
 }
 
 impl Counts {
@@ -18,21 +17,23 @@ impl Counts {
     pub fn new() -> Counts
         ensures { count_of result ≡ (λ _. 0) }
     {
-        Counts { each: [0; 14] }
+        Counts {
+            each: [0; Area::NUMBERS],
+        }
     }
 
     /// The count of an area.
     pub fn get(&self, area: Area) -> u64
         ensures { result ≡ count_of self.now area }
     {
-        self.each[number(area) as usize]
+        self.each[area.number() as usize]
     }
 
     /// One more of an area.
     pub fn bump(&mut self, area: Area)
         ensures { count_of self.new ≡ counted (count_of self.old) area }
     {
-        let at = number(area) as usize;
+        let at = area.number() as usize;
         self.each[at] = self.each[at].saturating_add(1);
     }
 }

@@ -98,8 +98,9 @@ impl MapKeeper {
 }
 
 impl Keeper for MapKeeper {
-    ghost use Rattle.std.specs.Prelude.{◌≡◌, ◌≢◌, ◌↔◌, ◌<◌, ◌≤◌, length, IsTrue, IfOk, OnOk, IfErr, IfSome, if◌then◌else◌};
-    ghost use Rattle.keep_core.specs.Kept.{IsOpen, IsClosed, opened, closed, committed, after_read, after_write, after_put, after_remove, seen, Refuses, InDoubt, Found, NextIs, WasThere, GivesValue, GivesNext};
+    ghost use Rattle.std.specs.Prelude.{◌≡◌, ◌≢◌, ◌↔◌, IsTrue, IfOk, OnOk, IfErr, IfSome, if◌then◌else◌};
+    ghost use Rattle.repl_types.specs.Sizes.{IsKeySize, IsValueSize};
+    ghost use Rattle.keep_core.specs.Kept.{IsOpen, IsClosed, opened, closed, committed, after_read, after_write, after_put, after_remove, seen, Refuses, InDoubt, Closes, Found, NextIs, WasThere, GivesValue, GivesNext};
     ghost use Rattle.keep_map.specs.Planned.{fails_next};
     ghost use Rattle.keep_map.specs.Keepers.{kept_of, IsCounted};
 
@@ -141,13 +142,13 @@ impl Keeper for MapKeeper {
     {
         self.reads.bump(area);
         if call_fails(&mut self.plan) {
-            self.close(false);
+            self.rollback();
             return Err(KeepError::Failed);
         }
         match self.rows.get(self.alloc, area, table, key, out) {
             Ok(found) => Ok(found),
             Err(_) => {
-                self.close(false);
+                self.rollback();
                 Err(KeepError::Memory)
             }
         }
@@ -172,13 +173,13 @@ impl Keeper for MapKeeper {
     {
         self.reads.bump(area);
         if call_fails(&mut self.plan) {
-            self.close(false);
+            self.rollback();
             return Err(KeepError::Failed);
         }
         match self.rows.next(self.alloc, area, table, after, key, out) {
             Ok(found) => Ok(found),
             Err(_) => {
-                self.close(false);
+                self.rollback();
                 Err(KeepError::Memory)
             }
         }
@@ -186,9 +187,8 @@ impl Keeper for MapKeeper {
 
     fn put(&mut self, area: Area, table: u32, key: &[u8], value: &[u8]) -> Result<(), KeepError>
         requires open { IsOpen (kept_of self.old) }
-        requires some { 0 < length key.now }
-        requires short { length key.now ≤ 1024 }
-        requires value { length value.now ≤ 262144 }
+        requires key { IsKeySize key.now }
+        requires value { IsValueSize value.now }
         ensures planned { (result ≡ Err KeepError.Failed) ↔ IsTrue (fails_next self.old.plan) }
         ensures counted { IsCounted self.old self.new }
 
@@ -198,13 +198,13 @@ impl Keeper for MapKeeper {
     {
         self.writes.bump(area);
         if call_fails(&mut self.plan) {
-            self.close(false);
+            self.rollback();
             return Err(KeepError::Failed);
         }
         match self.rows.put(self.alloc, area, table, key, value) {
             Ok(()) => Ok(()),
             Err(_) => {
-                self.close(false);
+                self.rollback();
                 Err(KeepError::Memory)
             }
         }
@@ -222,13 +222,13 @@ impl Keeper for MapKeeper {
     {
         self.writes.bump(area);
         if call_fails(&mut self.plan) {
-            self.close(false);
+            self.rollback();
             return Err(KeepError::Failed);
         }
         match self.rows.remove(self.alloc, area, table, key) {
             Ok(found) => Ok(found),
             Err(_) => {
-                self.close(false);
+                self.rollback();
                 Err(KeepError::Memory)
             }
         }
@@ -255,13 +255,14 @@ impl Keeper for MapKeeper {
         Ok(())
     }
 
-    /// It takes no memory, and its time goes by what the transaction changed.
+    /// It takes no memory, and its time goes by what the transaction changed. It never fails.
     fn rollback(&mut self)
-        ensures same { self.new.plan ≡ self.old.plan }
+        ensures kept { kept_of self.new ≡ closed (kept_of self.old) (kept_of self.old).faults }
+        ensures plan { self.new.plan ≡ self.old.plan }
         ensures doubt { self.new.doubt_takes ≡ self.old.doubt_takes }
 
         // What every keeper ensures.
-        ensures kept { kept_of self.new ≡ closed (kept_of self.old) (kept_of self.old).faults }
+        ensures closes { Closes (kept_of self.old) (kept_of self.new) }
     {
         self.close(false);
     }

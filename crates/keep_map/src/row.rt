@@ -1,21 +1,22 @@
 //! What stands at one key.
 
-ghost use Rattle.std.specs.Prelude.{◌≡◌, ◌≤◌, length, None, Some, IfOk, if◌then◌else◌};
+ghost use Rattle.std.specs.Prelude.{◌≡◌, None, Some, IfOk, if◌then◌else◌};
 ghost use Rattle.std.specs.Option.{unwrap_or};
+ghost use Rattle.repl_types.specs.Sizes.{IsValueSize};
 
 use std::alloc::{AllocError, Global};
 
-/// The bytes of a value, at most 262,144.
+/// The bytes of a value.
 #[derive(Debug, Drop)]
 pub struct StoredValue {
     bytes: Vec<u8>,
-    ghost short: { length bytes.items ≤ 262144 },
+    ghost size: { IsValueSize bytes.items },
 }
 
 impl StoredValue {
     /// A copy of the bytes.
     pub fn new(alloc: Global, bytes: &[u8]) -> Result<StoredValue, AllocError>
-        requires { length bytes.now ≤ 262144 }
+        requires { IsValueSize bytes.now }
         ensures { IfOk result (λ v. v.bytes.items ≡ bytes.now) }
     {
         Ok(StoredValue {
@@ -26,7 +27,7 @@ impl StoredValue {
     /// The bytes.
     pub fn bytes(&self) -> &[u8]
         ensures bytes { result.now ≡ self.now.bytes.items }
-        ensures short { length result.now ≤ 262144 }
+        ensures size { IsValueSize result.now }
     {
         self.bytes.as_slice()
     }

@@ -6,9 +6,10 @@ ghost use Rattle.std.specs.List.{find};
 ghost use Rattle.std.specs.Map.Iter.{deref_pair};
 ghost use Rattle.std.specs.BTreeMap.{IsOrdered, IsUnchanged};
 ghost use Rattle.repl_types.specs.Bytes.{bytes_cmp};
+ghost use Rattle.repl_types.specs.Sizes.{IsKeySize, IsValueSize};
 ghost use Rattle.keep_core.specs.Contents.{nothing, put_at, IsNext, IsLast};
 ghost use Rattle.keep_core.specs.Kept.{Found, NextIs, WasThere, GivesValue, GivesNext};
-ghost use Rattle.keep_map.specs.Stored.{Place, IsKey, place_of, same_place, bytes_of, row_at, seen_in, table_of, seen_of, held_of, slot_cmp, entries_above, stops, is_changed, AreRows, Sets, changed, settled};
+ghost use Rattle.keep_map.specs.Stored.{Place, place_of, same_place, bytes_of, row_at, seen_in, table_of, seen_of, held_of, slot_cmp, entries_above, stops, is_changed, AreRows, Sets, changed, settled};
 
 use crate::row::{Row, StoredValue};
 use crate::slot::Slot;
@@ -100,7 +101,7 @@ impl Rows {
     fn above(&self, after: Slot) -> Option<(&Slot, &StoredValue)>
         ensures none { IfNone result (IsLast (table_of self.now.map after.area after.table) after.key.items) }
         ensures next { IfSome result (λ p. IsNext (table_of self.now.map after.area after.table) after.key.items p.0.now.key.items p.1.now.bytes.items) }
-        ensures key { IfSome result (λ p. IsKey p.0.now.key.items) }
+        ensures key { IfSome result (λ p. IsKeySize p.0.now.key.items) }
     {
         let (area, table) = (after.area, after.table);
         let (slot, row) = self.first(after)?;
@@ -131,8 +132,8 @@ impl Rows {
         key: &[u8],
         value: &[u8],
     ) -> Result<(), AllocError>
-        requires key { IsKey key.now }
-        requires value { length value.now ≤ 262144 }
+        requires key { IsKeySize key.now }
+        requires value { IsValueSize value.now }
         ensures ok { OnOk result (seen_of self.new.map ≡ put_at (seen_of self.old.map) area table key.now (Some value.now)) }
         ensures held { held_of self.new.map ≡ held_of self.old.map }
     {
@@ -164,7 +165,7 @@ impl Rows {
 
     /// The transaction sees this value at the slot, or none.
     fn change(&mut self, slot: Slot, value: Option<StoredValue>) -> Result<(), AllocError>
-        requires { IsKey slot.key.items }
+        requires { IsKeySize slot.key.items }
         ensures ok { OnOk result (Sets (place_of slot) (Some (changed (row_at self.old.map (place_of slot)) value)) self.old.map self.new.map) }
         ensures err { OnErr result ((p : Place) → row_at self.new.map p ≡ row_at self.old.map p) }
     {

@@ -1,6 +1,6 @@
 //! Where a row stands.
 
-ghost use Rattle.std.specs.Prelude.{◌≡◌, ◌<◌, IfOk};
+ghost use Rattle.std.specs.Prelude.{◌≡◌, IfOk};
 ghost use Rattle.repl_types.specs.Area.{area_number};
 ghost use Rattle.keep_map.specs.Stored.{place_of};
 
@@ -21,31 +21,9 @@ impl Slot {
         ensures { IfOk result (λ s. place_of s ≡ (area_number area, table, key.now)) }
     {
         Ok(Slot {
-            area: number(area),
+            area: area.number(),
             table,
             key: Vec::from_slice(alloc, key)?,
         })
-    }
-}
-
-/// The number of an area, from 1 to 13.
-pub fn number(area: Area) -> u8
-    ensures number { result ≡ area_number area }
-    ensures small { result < 14 }
-{
-    match area {
-        Area::Log => 1,
-        Area::Source => 2,
-        Area::Inflight => 3,
-        Area::Head => 4,
-        Area::Defs => 5,
-        Area::Cd => 6,
-        Area::Uow => 7,
-        Area::Capture => 8,
-        Area::Prune => 9,
-        Area::Spill => 10,
-        Area::Target => 11,
-        Area::SetState => 12,
-        Area::Trail => 13,
     }
 }

@@ -1,7 +1,8 @@
 //! A keeper in memory that commits, rolls back, hands out keys and fails as it is asked to. What isn't
 //! its own is called through the bound.
 
-ghost use Rattle.std.specs.Prelude.{◌≤◌, length, OnOk};
+ghost use Rattle.std.specs.Prelude.{OnOk};
+ghost use Rattle.repl_types.specs.Sizes.{IsValueSize};
 ghost use Rattle.keep_core.specs.Kept.{IsOpen, IsClosed};
 
 use super::MapKeeper;
@@ -53,7 +54,7 @@ fn put<K: Keeper>(
     value: &[u8],
 ) -> Result<(), KeepError>
     requires open { IsOpen (K.kept keeper.old) }
-    requires short { length value.now ≤ 262144 }
+    requires size { IsValueSize value.now }
     ensures { OnOk result (IsOpen (K.kept keeper.new)) }
 {
     keeper.put(area, table, [key].as_slice(), value)

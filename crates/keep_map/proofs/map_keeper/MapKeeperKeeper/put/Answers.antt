@@ -8,5 +8,5 @@ pub returns-then-call_fails-clause-err : goal.returns-then-call_fails-clause-err
 returns-then-call_fails-clause-err c =
     let old : Kept = after_write (kept_of c.args.self.now) c.args.area in
     let plan = c.call_fails.new.plan in
-    refused old (kept_of c.close.new.self) plan.faults _ (c.close.ensures.kept ∙ (λ i. closed (record old { writes = c.bump.ensures i }) plan.faults))
+    refused old (kept_of c.rollback.new.self) plan.faults _ (c.rollback.ensures.kept ∙ (λ i. closed (record old { writes = c.bump.ensures i }) plan.faults))
     (caused c.args.self.now.plan plan (sym c.if-call_fails.ensures.fails) c.call_fails.ensures.counted c.call_fails.ensures.later)

@@ -6,8 +6,9 @@ use Rattle.std.proofs.Math.Seq.{take-append_seam}
 use Rattle.std.proofs.lemmas.List.{length-append}
 use Rattle.keep_map.specs.declared.row.Row.{Row}
 use Rattle.keep_map.specs.declared.row.StoredValue.{StoredValue}
+use Rattle.repl_types.specs.Sizes.{IsKeySize}
 use Rattle.keep_map.specs.declared.slot.Slot.{Slot}
-use Rattle.keep_map.specs.Stored.{Place, IsKey, is_changed, is_settled, place_of, row_at, changed, Sets}
+use Rattle.keep_map.specs.Stored.{Place, is_changed, is_settled, place_of, row_at, changed, Sets}
 use Rattle.keep_map.proofs.Sound.{sound_named, sound_again}
 use Rattle.keep_map.proofs.rows.Rows.change.Goals as goal
 
@@ -46,4 +47,4 @@ invariant_of-self-else-was_named c =
     let w = Some (changed (row_at m (place_of s)) c.args.value) in
     let h = c.in_ok-clone.ensures.cases in
     let same : place_of s ≡ place_of copy = λ i. (sym h.0 i, sym h.1.0 i, sym (each_same s.key.items copy.key.items h.1.1.0) i) in
-    record { sound = sound_named m c.change_row.new.map copy w c.args.self.now.touched.items c.push.new.self.items (subst (λ (p : Place). IsKey p.2) same c.requires) c.in_ok-push.ensures.items (subst (λ (p : Place). Sets p w m c.change_row.new.map) same c.in_ok-was_named.ensures.ok) c.args.self.now.sound }
+    record { sound = sound_named m c.change_row.new.map copy w c.args.self.now.touched.items c.push.new.self.items (subst (λ (p : Place). IsKeySize p.2) same c.requires) c.in_ok-push.ensures.items (subst (λ (p : Place). Sets p w m c.change_row.new.map) same c.in_ok-was_named.ensures.ok) c.args.self.now.sound }
