@@ -1,6 +1,5 @@
 pub mod Calls
 pub mod Records
-pub mod Rows
 pub mod Servers
 pub mod Views
 pub mod Works

@@ -6,11 +6,10 @@
 //! by `?` knows what stands: each server holds what it held.
 //!
 //! The crate's `specs/` have the words in which every layer above says what it changed: `Views` is what
-//! a clause sees of all servers, `Calls` is what a call leaves, `Works` what a transaction makes of what
-//! it sees, and `Rows` is a table whose rows are read in key order.
+//! a clause sees of all servers, `Calls` is what a call leaves, and `Works` what a transaction makes of
+//! what it sees.
 #![tactic(auto)]
 
-mod laws;
 #[cfg(test)]
 mod order_tests;
 mod records;
@@ -19,8 +18,5 @@ mod sites;
 #[cfg(test)]
 mod tests;
 
-pub use laws::{
-    key_bytes_in_order, next_of_rows, row_after_all, row_at_key, row_before_all, rows_between,
-};
 pub use site::Site;
 pub use sites::{Sites, SitesError};

@@ -19,7 +19,7 @@ use Rattle.row_codec.specs.Takes.{one_whole}
 use Rattle.keep_core.specs.Kept.{Kept, seen_of}
 use Rattle.site_store.specs.declared.sites.Sites.{Sites}
 use Rattle.site_store.specs.Records.{RowIs, IsRow}
-use Rattle.site_store.specs.Rows.{table_of}
+use Rattle.rows_in_order.specs.Rows.{table_of}
 use Rattle.site_store.specs.Views.{names, held, work, sees}
 use Rattle.site_store.specs.Calls.{Goes, Begins}
 use Rattle.site_store.specs.Works.{Works, Sets}

@@ -6,7 +6,7 @@ use Rattle.repl_records.specs.declared.fault.Fault.{Fault}
 use Rattle.repl_records.specs.declared.fault.Fault.TheVariants as faults
 use Rattle.keep_core.specs.Contents.{Contents, Table, nothing}
 use Rattle.row_codec.specs.Spelling.{b64}
-use Rattle.site_store.specs.Rows.{table_of}
+use Rattle.rows_in_order.specs.Rows.{table_of}
 
 -- the numbers, and how many of them were taken
 pub record World : Type 0 where

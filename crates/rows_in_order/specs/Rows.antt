@@ -1,6 +1,6 @@
 -- Tables that are made of rows, in the order of the rows' keys.
-use Rattle.std.specs.Prelude.{◌≡◌, ℕ, Bool, false, not, ◌&&◌, if◌then◌else◌, List, [], ◌∷◌, ◌++◌, filter, Some, None}
-use Rattle.std.specs.List.{AllByRecursion}
+use Rattle.std.specs.Prelude.{◌≡◌, ℕ, eqb, Bool, false, not, ◌&&◌, if◌then◌else◌, List, [], ◌∷◌, ◌++◌, filter, Some, None}
+use Rattle.std.specs.List.{AllByRecursion, starts_with}
 use Rattle.std.specs.Ordering.{is_lt}
 use Rattle.std.specs.declared.cmp.Ordering.TheVariants.{Less}
 use Rattle.repl_types.specs.Bytes.{bytes_cmp}
@@ -39,6 +39,26 @@ IsRising key (r ∷ rs) = AllAfter key (key r.0) rs × IsRising key rs
 -- the rows after one key, and up to another
 abbrev pub between : {A X : Type 0} → (A → List ℕ) → List ℕ → List ℕ → List (A × X) → List (A × X)
 between key low high rows = filter (λ r. is_before low (key r.0) && not (is_before high (key r.0))) rows
+
+-- the rows with this one: in the place of the row at its key, or between those before and after it
+abbrev pub with_row : {A X : Type 0} → (A → List ℕ) → A × X → List (A × X) → List (A × X)
+with_row key row rows = filter (λ r. is_before (key r.0) (key row.0)) rows ++ row ∷ filter (λ r. is_before (key row.0) (key r.0)) rows
+
+-- the rows, except the one at a key
+abbrev pub without_row : {A X : Type 0} → (A → List ℕ) → List ℕ → List (A × X) → List (A × X)
+without_row key k rows = filter (λ r. not (same_key (key r.0) k)) rows
+
+-- the key begins with these bytes
+abbrev pub begins_with : List ℕ → List ℕ → Bool
+begins_with bytes k = starts_with eqb k bytes
+
+-- the rows whose keys begin with these bytes
+abbrev pub with_prefix : {A X : Type 0} → (A → List ℕ) → List ℕ → List (A × X) → List (A × X)
+with_prefix key bytes rows = filter (λ r. begins_with bytes (key r.0)) rows
+
+-- a row of this key and value that is spelled as this one is this one
+abbrev pub IsToldApart : {A X : Type 0} → (A → List ℕ) → (X → List ℕ) → List (A × X) → A × X → Type 0
+IsToldApart key value rows row = AllByRecursion (λ r. key r.0 ≡ key row.0 → value r.1 ≡ value row.1 → r ≡ row) rows
 
 -- this is one of the rows
 pub record HasRow {A X : Type 0} (rows : List (A × X)) (row : A × X) : Type 0 where

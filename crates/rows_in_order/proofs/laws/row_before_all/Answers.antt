@@ -1,5 +1,5 @@
-use Rattle.site_store.proofs.Rising.{table_pop, table_rest}
-use Rattle.site_store.proofs.laws.row_before_all.Goals as goal
+use Rattle.rows_in_order.proofs.Rising.{table_pop, table_rest}
+use Rattle.rows_in_order.proofs.laws.row_before_all.Goals as goal
 
 pub returns-clause-table : goal.returns-clause-table
 returns-clause-table g c = table_pop

@@ -6,7 +6,7 @@ use Rattle.std.specs.declared.cmp.Ordering.TheVariants.{Less, Equal, Greater}
 use Rattle.std.specs.Cmp.{IsTotalOrder}
 use Rattle.std.proofs.lemmas.Cmp.{nat_list_cmp_total, tied_itself, alike_right}
 use Rattle.repl_types.specs.Bytes.{bytes_cmp}
-use Rattle.site_store.specs.Rows.{is_before, IsUpTo}
+use Rattle.rows_in_order.specs.Rows.{is_before, IsUpTo}
 
 -- keys are in a total order
 pub order : IsTotalOrder bytes_cmp

@@ -1,5 +1,5 @@
-use Rattle.site_store.proofs.Rising.{rises_push, table_push, table_next}
-use Rattle.site_store.proofs.laws.row_after_all.Goals as goal
+use Rattle.rows_in_order.proofs.Rising.{rises_push, table_push, table_next}
+use Rattle.rows_in_order.proofs.laws.row_after_all.Goals as goal
 
 pub returns-clause-rises : goal.returns-clause-rises
 returns-clause-rises g c = rises_push

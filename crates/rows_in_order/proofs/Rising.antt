@@ -10,22 +10,22 @@ use Rattle.std.proofs.lemmas.List.Elements.{filter-append}
 use Rattle.std.proofs.lemmas.Map.Lookups.{exact_bytes}
 use Rattle.repl_types.specs.Bytes.{bytes_cmp}
 use Rattle.keep_core.specs.Contents.{Table, IsNext, IsLast, same_key, set_key}
-use Rattle.site_store.specs.Rows.{is_before, IsUpTo, table_of, AllBefore, AllAfter, NoneAfter, IsRising, between, HasRow, NextRow}
-use Rattle.site_store.proofs.Before.{order, is_less, is_equal, not_both, not_back, upto_itself, upto_before, upto_trans}
-use Rattle.site_store.proofs.Filtered.{all_weaker, all_filter, filter_none, filter_all, filter_alike}
+use Rattle.rows_in_order.specs.Rows.{is_before, IsUpTo, table_of, AllBefore, AllAfter, NoneAfter, IsRising, between, HasRow, NextRow}
+use Rattle.rows_in_order.proofs.Before.{order, is_less, is_equal, not_both, not_back, upto_itself, upto_before, upto_trans}
+use Rattle.rows_in_order.proofs.Filtered.{all_weaker, all_filter, filter_none, filter_all, filter_alike}
 
 -- ---- tests of keys
 
 -- a key is itself
-same_itself : (k : List ℕ) → same_key k k ≡ true
+pub same_itself : (k : List ℕ) → same_key k k ≡ true
 same_itself k = ap is_eq (tied_itself order k)
 
 -- a key before another isn't that one
-differ : (k l : List ℕ) → bytes_cmp k l ≡ Less → same_key k l ≡ false
+pub differ : (k l : List ℕ) → bytes_cmp k l ≡ Less → same_key k l ≡ false
 differ k l lt = ap is_eq lt
 
 -- whether a key is after the one and up to the other
-abbrev part : List ℕ → List ℕ → List ℕ → Bool
+abbrev pub part : List ℕ → List ℕ → List ℕ → Bool
 part low high k = is_before low k && not (is_before high k)
 
 -- a key past the end is outside
@@ -53,18 +53,18 @@ part_from : (low mid high k : List ℕ) → bytes_cmp low k ≡ Less → bytes_c
 part_from low mid high k lt more = ap (λ (t : Bool). t && not (is_before high k)) (ap is_lt lt ∙ sym (ap is_lt more))
 
 -- both tests of a pair that passes
-both_true : (a b : Bool) → (a && b) ≡ true → (a ≡ true) × (b ≡ true)
+pub both_true : (a b : Bool) → (a && b) ≡ true → (a ≡ true) × (b ≡ true)
 both_true true b e = (refl, e)
 both_true false b e = absurd cc
 
 -- a test whose opposite passes fails
-not_true : (b : Bool) → not b ≡ true → b ≡ false
+pub not_true : (b : Bool) → not b ≡ true → b ≡ false
 not_true false e = refl
 not_true true e = absurd cc
 
 module _ {A X : Type 0} (key : A → List ℕ) where
   -- the rows at a filter's seam
-  at_seam : (p : A × X → Bool) (front back : List (A × X)) (r : A × X) (t : Bool) → p r ≡ t → filter p (front ++ r ∷ back) ≡ filter p front ++ cond t (r ∷ filter p back) (filter p back)
+  pub at_seam : (p : A × X → Bool) (front back : List (A × X)) (r : A × X) (t : Bool) → p r ≡ t → filter p (front ++ r ∷ back) ≡ filter p front ++ cond t (r ∷ filter p back) (filter p back)
   at_seam p front back r t e = filter-append p front (r ∷ back) ∙ ap (λ (u : Bool). filter p front ++ cond u (r ∷ filter p back) (filter p back)) e
 
   -- ---- between two keys
@@ -230,7 +230,7 @@ module _ {A X : Type 0} (key : A → List ℕ) (value : X → List ℕ) where
   table_next rows low after r next le = ap (table_of key value) (between_next key rows low after r next le) ∙ table_push (between key low after rows) r (between_before key rows low after (key r.0) next.above)
 
   -- what stands at the first row's key, and at each other
-  at_head : (r : A × X) (rs : List (A × X)) → table_of key value (r ∷ rs) (key r.0) ≡ Some (value r.1)
+  pub at_head : (r : A × X) (rs : List (A × X)) → table_of key value (r ∷ rs) (key r.0) ≡ Some (value r.1)
   at_head r rs = ap (λ (t : Bool). cond t (Some (value r.1)) (table_of key value rs (key r.0))) (same_itself (key r.0))
 
   -- what stands at another key stands in the rest
@@ -238,7 +238,7 @@ module _ {A X : Type 0} (key : A → List ℕ) (value : X → List ℕ) where
   past_head r rs k e = ap (λ (t : Bool). cond t (Some (value r.1)) (table_of key value rs k)) e
 
   -- a value isn't none
-  some_none : {v : List ℕ} → ◌≡◌ {A = Option (List ℕ)} (Some v) None → ⊥
+  pub some_none : {v : List ℕ} → ◌≡◌ {A = Option (List ℕ)} (Some v) None → ⊥
   some_none e = cc
 
   -- where no key is after this one, no row is
@@ -258,11 +258,11 @@ module _ {A X : Type 0} (key : A → List ℕ) (value : X → List ℕ) where
       rest k true e none = absurd (some_none (sym (ap (λ (t : Bool). cond t (Some (value r.1)) (table_of key value rs k)) e) ∙ none))
 
   -- one value is one
-  some_is : {v w : List ℕ} → ◌≡◌ {A = Option (List ℕ)} (Some v) (Some w) → v ≡ w
+  pub some_is : {v w : List ℕ} → ◌≡◌ {A = Option (List ℕ)} (Some v) (Some w) → v ≡ w
   some_is e = cc
 
   -- what is found among rows after a key is after it
-  found_after : (k l : List ℕ) (rows : List (A × X)) → AllAfter key k rows → (v : List ℕ) → table_of key value rows l ≡ Some v → bytes_cmp k l ≡ Less
+  pub found_after : (k l : List ℕ) (rows : List (A × X)) → AllAfter key k rows → (v : List ℕ) → table_of key value rows l ≡ Some v → bytes_cmp k l ≡ Less
   found_after k l [] after v has = absurd (some_none (sym has))
   found_after k l (r ∷ rs) after v has = pick (same_key (key r.0) l) refl (found_after k l rs after.1 v)
     where

@@ -1,5 +1,5 @@
-use Rattle.site_store.proofs.Rising.{row_found, no_row_at, found_row}
-use Rattle.site_store.proofs.laws.row_at_key.Goals as goal
+use Rattle.rows_in_order.proofs.Rising.{row_found, no_row_at, found_row}
+use Rattle.rows_in_order.proofs.laws.row_at_key.Goals as goal
 
 pub returns-clause-found : goal.returns-clause-found
 returns-clause-found g c = row_found
