@@ -16,7 +16,7 @@ use Rattle.rows_in_order.proofs.Filtered.{all_weaker, all_append, all_kept, filt
 use Rattle.rows_in_order.proofs.Rising.{same_itself, differ, filter_rises, no_row_at}
 
 -- keys that are one are equal
-same_is : (k q : List ℕ) → same_key k q ≡ true → k ≡ q
+pub same_is : (k q : List ℕ) → same_key k q ≡ true → k ≡ q
 same_is k q e = exact_bytes k q (is_equal (bytes_cmp k q) e)
 
 -- the first of two where it is something, else the second

@@ -1,7 +1,10 @@
 pub mod Before
+pub mod BetweenNumbers
+pub mod ByNumber
 pub mod Changed
 pub mod Elsewhere
 pub mod Filtered
+pub mod Numbered
 pub mod Prefixed
 pub mod Rising
 pub mod Unique

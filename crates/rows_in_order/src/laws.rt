@@ -19,8 +19,8 @@ pub fn key_bytes_in_order()
     ensures after { (k l m : List ℕ) → bytes_cmp k l ≡ Less → IsUpTo l m → bytes_cmp k m ≡ Less }
 {}
 
-/// What a read of the next key says of rows whose keys rise: it gives the next row if no two rows are
-/// spelled alike, and if it gives none there is none.
+/// What a read of the next key says of rows whose keys rise: it gives the next row if no two rows
+/// are spelled alike, and if it gives none there is none.
 pub fn next_of_rows<A, X>()
     ensures next { (key : A → List ℕ) (value : X → List ℕ) (rows : List (A × X)) (after : List ℕ)
         (row : A × X)

@@ -9,22 +9,26 @@ ghost use Rattle.rows_in_order.specs.Rows.{table_of, AllAfter, NoneAfter, IsRisi
 /// Keys that begin with the same bytes lie together, after those bytes.
 pub fn keys_with_a_prefix()
     ensures longer { (bytes rest : List ℕ) → begins_with bytes (bytes ++ rest) ≡ true }
-    ensures parts { (bytes k : List ℕ) → begins_with bytes k ≡ true → k ≡ bytes ++ drop (length bytes) k }
+    ensures parts { (bytes k : List ℕ)
+        → begins_with bytes k ≡ true → k ≡ bytes ++ drop (length bytes) k }
     ensures itself { (bytes : List ℕ) → begins_with bytes bytes ≡ true }
-    ensures after { (bytes k : List ℕ) → begins_with bytes k ≡ true → k ≢ bytes → bytes_cmp bytes k ≡ Less }
+    ensures after { (bytes k : List ℕ)
+        → begins_with bytes k ≡ true → k ≢ bytes → bytes_cmp bytes k ≡ Less }
     ensures together { (bytes k l m : List ℕ)
         → begins_with bytes k ≡ true → begins_with bytes m ≡ true
         → bytes_cmp k l ≡ Less → bytes_cmp l m ≡ Less
         → begins_with bytes l ≡ true }
 {}
 
-/// The rows whose keys begin with some bytes: a search from those bytes finds the first of them, one
-/// from a row of theirs the next, and the first other key shows that none is left.
+/// The rows whose keys begin with some bytes: a search from those bytes finds the first of them,
+/// one from a row of theirs the next, and the first other key shows that none is left.
 pub fn rows_with_a_prefix<A, X>()
-    ensures next { (key : A → List ℕ) (bytes : List ℕ) (rows : List (A × X)) (after : List ℕ) (row : A × X)
+    ensures next { (key : A → List ℕ) (bytes : List ℕ) (rows : List (A × X)) (after : List ℕ)
+        (row : A × X)
         → NextRow key rows after row → begins_with bytes (key row.0) ≡ true
         → NextRow key (with_prefix key bytes rows) after row }
-    ensures past { (key : A → List ℕ) (bytes : List ℕ) (rows : List (A × X)) (after : List ℕ) (row : A × X)
+    ensures past { (key : A → List ℕ) (bytes : List ℕ) (rows : List (A × X)) (after : List ℕ)
+        (row : A × X)
         → NextRow key rows after row
         → begins_with bytes after ≡ true → begins_with bytes (key row.0) ≡ false
         → NoneAfter key after (with_prefix key bytes rows) }
