@@ -20,7 +20,7 @@ pub same_is : (k q : List ℕ) → same_key k q ≡ true → k ≡ q
 same_is k q e = exact_bytes k q (is_equal (bytes_cmp k q) e)
 
 -- the first of two where it is something, else the second
-abbrev or_else : Option (List ℕ) → Option (List ℕ) → Option (List ℕ)
+abbrev pub or_else : Option (List ℕ) → Option (List ℕ) → Option (List ℕ)
 or_else None other = other
 or_else (Some v) other = Some v
 
@@ -51,7 +51,7 @@ module _ {A X : Type 0} (key : A → List ℕ) (value : X → List ℕ) where
       pick false e false f rest = rest ∙ sym (ap (λ (b : Bool). cond t (cond b (Some (value r.1)) (table_of key value rs k)) None) f)
 
   -- what stands at a key in two lists
-  append_at : (xs ys : List (A × X)) (k : List ℕ) → table_of key value (xs ++ ys) k ≡ or_else (table_of key value xs k) (table_of key value ys k)
+  pub append_at : (xs ys : List (A × X)) (k : List ℕ) → table_of key value (xs ++ ys) k ≡ or_else (table_of key value xs k) (table_of key value ys k)
   append_at [] ys k = refl
   append_at (r ∷ rs) ys k = pick (same_key (key r.0) k) (append_at rs ys k)
     where

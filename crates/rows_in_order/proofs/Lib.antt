@@ -4,6 +4,7 @@ pub mod ByNumber
 pub mod Changed
 pub mod Elsewhere
 pub mod Filtered
+pub mod Found
 pub mod Numbered
 pub mod Prefixed
 pub mod Rising

@@ -234,7 +234,7 @@ module _ {A X : Type 0} (key : A → List ℕ) (value : X → List ℕ) where
   at_head r rs = ap (λ (t : Bool). cond t (Some (value r.1)) (table_of key value rs (key r.0))) (same_itself (key r.0))
 
   -- what stands at another key stands in the rest
-  past_head : (r : A × X) (rs : List (A × X)) (k : List ℕ) → same_key (key r.0) k ≡ false → table_of key value (r ∷ rs) k ≡ table_of key value rs k
+  pub past_head : (r : A × X) (rs : List (A × X)) (k : List ℕ) → same_key (key r.0) k ≡ false → table_of key value (r ∷ rs) k ≡ table_of key value rs k
   past_head r rs k e = ap (λ (t : Bool). cond t (Some (value r.1)) (table_of key value rs k)) e
 
   -- a value isn't none

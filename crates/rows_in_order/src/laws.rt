@@ -19,8 +19,9 @@ pub fn key_bytes_in_order()
     ensures after { (k l m : List ℕ) → bytes_cmp k l ≡ Less → IsUpTo l m → bytes_cmp k m ≡ Less }
 {}
 
-/// What a read of the next key says of rows whose keys rise: it gives the next row if no two rows
-/// are spelled alike, and if it gives none there is none.
+/// What a read of the next key says of rows whose keys rise, and what they say of it: it gives the
+/// next row's key and value, which is a row that the caller knows if no two rows are spelled alike,
+/// and if it gives none there is none.
 pub fn next_of_rows<A, X>()
     ensures next { (key : A → List ℕ) (value : X → List ℕ) (rows : List (A × X)) (after : List ℕ)
         (row : A × X)
@@ -30,6 +31,33 @@ pub fn next_of_rows<A, X>()
     ensures last { (key : A → List ℕ) (value : X → List ℕ) (rows : List (A × X)) (after : List ℕ)
         → IsLast (table_of key value rows) after
         → NoneAfter key after rows }
+    ensures some { (key : A → List ℕ) (value : X → List ℕ) (rows : List (A × X))
+        (after k v : List ℕ)
+        → IsRising key rows → IsNext (table_of key value rows) after k v
+        → (row : A × X) × NextRow key rows after row × (key row.0 ≡ k) × (value row.1 ≡ v) }
+    ensures is_next { (key : A → List ℕ) (value : X → List ℕ) (rows : List (A × X))
+        (after : List ℕ) (row : A × X)
+        → IsRising key rows → NextRow key rows after row
+        → IsNext (table_of key value rows) after (key row.0) (value row.1) }
+    ensures is_last { (key : A → List ℕ) (value : X → List ℕ) (rows : List (A × X))
+        (after : List ℕ)
+        → NoneAfter key after rows
+        → IsLast (table_of key value rows) after }
+{}
+
+/// A search that begins below all rows gives the first of them. One from the empty key does, since no
+/// stored key is empty.
+pub fn first_of_rows<A, X>()
+    ensures some { (key : A → List ℕ) (rows : List (A × X))
+        → AllByRecursion (λ r. 0 < length (key r.0)) rows
+        → AllAfter key [] rows }
+    ensures first { (key : A → List ℕ) (rows : List (A × X)) (after : List ℕ) (row : A × X)
+        (next : NextRow key rows after row)
+        → AllAfter key after rows
+        → rows ≡ row ∷ next.back }
+    ensures none { (key : A → List ℕ) (rows : List (A × X)) (after : List ℕ)
+        → NoneAfter key after rows → AllAfter key after rows
+        → rows ≡ [] }
 {}
 
 /// The rows between two keys: up to the next row there is that row more, and else none.
@@ -109,6 +137,9 @@ pub fn row_at_key<A, X>()
     ensures none { (key : A → List ℕ) (value : X → List ℕ) (rows : List (A × X)) (k : List ℕ)
         → table_of key value rows k ≡ None
         → AllByRecursion (λ r. key r.0 ≢ k) rows }
+    ensures some { (key : A → List ℕ) (value : X → List ℕ) (rows : List (A × X)) (k v : List ℕ)
+        → table_of key value rows k ≡ Some v
+        → (row : A × X) × HasRow rows row × (key row.0 ≡ k) × (value row.1 ≡ v) }
     ensures stands { (key : A → List ℕ) (value : X → List ℕ) (rows : List (A × X)) (row : A × X)
         → IsRising key rows → HasRow rows row
         → table_of key value rows (key row.0) ≡ Some (value row.1) }

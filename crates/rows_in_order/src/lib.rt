@@ -25,8 +25,8 @@ mod uniqueness;
 
 pub use changes::{one_row, put_elsewhere, row_put, row_put_in_place, row_removed};
 pub use laws::{
-    key_bytes_in_order, next_of_rows, parts_of_rows, row_after_all, row_at_key, row_before_all,
-    rows_between,
+    first_of_rows, key_bytes_in_order, next_of_rows, parts_of_rows, row_after_all, row_at_key,
+    row_before_all, rows_between,
 };
 pub use numbers::{
     next_by_number, number_keys_in_order, numbered_rows, numbered_rows_changed, numbered_rows_read,

@@ -9,6 +9,9 @@ pub fn rows_by_key<A, X>()
     ensures one { (key : A → List ℕ) (rows : List (A × X)) (row other : A × X)
         → IsRising key rows → HasRow rows row → HasRow rows other → key row.0 ≡ key other.0
         → row ≡ other }
+    ensures told { (key : A → List ℕ) (value : X → List ℕ) (rows : List (A × X)) (row : A × X)
+        → IsRising key rows → HasRow rows row
+        → IsToldApart key value rows row }
     ensures same { (key : A → List ℕ) (value : X → List ℕ) (rows others : List (A × X))
         → IsRising key rows → IsRising key others
         → AllByRecursion (λ row. IsToldApart key value rows row) others

@@ -1,3 +1,4 @@
+use Rattle.rows_in_order.proofs.Found.{row_of}
 use Rattle.rows_in_order.proofs.Rising.{row_found, no_row_at, found_row}
 use Rattle.rows_in_order.proofs.laws.row_at_key.Goals as goal
 
@@ -9,3 +10,6 @@ returns-clause-none g c = no_row_at
 
 pub returns-clause-stands : goal.returns-clause-stands
 returns-clause-stands g c = found_row
+
+pub returns-clause-some : goal.returns-clause-some
+returns-clause-some g c = row_of
