@@ -2,8 +2,8 @@
 
 ghost use Rattle.std.specs.Prelude.{◌≡◌, ◌≤◌, List, ℕ, length};
 ghost use Rattle.std.specs.Str.Lines.{strip_carriage_return};
-ghost use Rattle.session_core.specs.Feed.{line_limit};
-ghost use Rattle.session_core.specs.Input.{IsKept, EndsAs, EndsInputAs};
+ghost use Rattle.line_input.specs.Limits.{line_limit};
+ghost use Rattle.line_input.specs.Input.{IsKept, EndsAs, EndsInputAs};
 
 use crate::input::Next;
 
@@ -23,6 +23,7 @@ fn strip(line: &mut Vec<u8>)
 pub fn ended(line: &mut Vec<u8>, long: bool) -> Next
     ensures ends { (bytes : List ℕ) → IsKept bytes line.old.items long → EndsAs result line.new.items bytes }
     ensures short { result ≡ Next.Line → length line.new.items ≤ line_limit }
+    ensures shorter { length line.new.items ≤ length line.old.items }
 {
     strip(line);
     if long || line.len() > LINE_LIMIT {

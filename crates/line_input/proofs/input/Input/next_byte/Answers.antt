@@ -1,8 +1,8 @@
 use Rattle.std.proofs.Common.{◌≡◌, ◌∙◌}
-use Rattle.session_core.specs.Input.{left_of}
-use Rattle.session_core.proofs.Bytes.{left_of-given}
-use Rattle.session_core.proofs.input.Input.next_byte.Goals as goal
-use Rattle.session_core.proofs.input.Input.next_byte.Goals.{else-self-via-then-self+in_ok-refill+else-not-branch, else-self-via-else-self}
+use Rattle.line_input.specs.Input.{left_of}
+use Rattle.line_input.proofs.Bytes.{left_of-given}
+use Rattle.line_input.proofs.input.Input.next_byte.Goals as goal
+use Rattle.line_input.proofs.input.Input.next_byte.Goals.{else-self-via-then-self+in_ok-refill+else-not-branch, else-self-via-else-self}
 
 pub returns-clause-left : goal.returns-clause-left
 returns-clause-left g c =

@@ -8,10 +8,10 @@ use Rattle.std.proofs.lemmas.List.{length-append, length-take, take_all, take-ap
 use Rattle.std.proofs.lemmas.List.Splits.{length-slice_split}
 use Rattle.std.proofs.lemmas.Bool.{lt-ltb, le-ltb, ltb-true, ltb-false, cases_Bool}
 use Rattle.std.proofs.lemmas.Bool.Decides.{nat_tests}
-use Rattle.session_core.specs.declared.input.Next.{Next}
-use Rattle.session_core.specs.declared.input.Next.TheVariants.{End, Line, LongLine}
-use Rattle.session_core.specs.Input.{IsKept, EndsAs, EndsInputAs, NextIs, ReadsLine}
-use Rattle.session_core.specs.Feed.{line_limit}
+use Rattle.line_input.specs.declared.input.Next.{Next}
+use Rattle.line_input.specs.declared.input.Next.TheVariants.{End, Line, LongLine}
+use Rattle.line_input.specs.Input.{IsKept, EndsAs, EndsInputAs, NextIs, ReadsLine}
+use Rattle.line_input.specs.Limits.{line_limit}
 
 -- no byte is a line feed
 abbrev pub IsPlain : List ℕ → Type 0
@@ -112,7 +112,7 @@ plain-pushed : (bytes : List ℕ) (b : ℕ) → IsPlain bytes → b ≢ 10 → I
 plain-pushed [] b plain ne = (ne, tt)
 plain-pushed (a ∷ bytes) b plain ne = (plain.0, plain-pushed bytes b plain.1 ne)
 
-parts-pushed : (before now after : Option (List ℕ)) (bytes : List ℕ) (b : ℕ) → before ≡ option_map (λ rest. bytes ++ rest) now → now ≡ option_map (λ rest. b ∷ rest) after
+pub parts-pushed : (before now after : Option (List ℕ)) (bytes : List ℕ) (b : ℕ) → before ≡ option_map (λ rest. bytes ++ rest) now → now ≡ option_map (λ rest. b ∷ rest) after
     → before ≡ option_map (λ rest. (bytes ++ b ∷ []) ++ rest) after
 parts-pushed before now None bytes b parts next = parts ∙ ap (option_map (λ rest. bytes ++ rest)) next
 parts-pushed before now (Some rest) bytes b parts next = parts ∙ ap (option_map (λ rest. bytes ++ rest)) next ∙ ap (λ (all : List ℕ). Some all) (sym (append_assoc bytes (b ∷ []) rest))

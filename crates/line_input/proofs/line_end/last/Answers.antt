@@ -2,9 +2,9 @@ use Rattle.std.proofs.Common.{ap, sym, ◌∙◌, arith, length}
 use Rattle.std.proofs.lemmas.Bool.{eqb-true}
 use Rattle.std.proofs.lemmas.Bool.Decides.{nat_tests}
 use Rattle.std.proofs.lemmas.List.{nil_from_length}
-use Rattle.session_core.proofs.LineBytes.{kept_all, kept_more, kept_over}
-use Rattle.session_core.proofs.line_end.last.Goals as goal
-use Rattle.session_core.proofs.line_end.last.Goals.{then-long-via-then-long, then-long-via-else-long+then-line-gt-LINE_LIMIT}
+use Rattle.line_input.proofs.LineBytes.{kept_all, kept_more, kept_over}
+use Rattle.line_input.proofs.line_end.last.Goals as goal
+use Rattle.line_input.proofs.line_end.last.Goals.{then-long-via-then-long, then-long-via-else-long+then-line-gt-LINE_LIMIT}
 
 pub returns-then-long-clause-ends : goal.returns-then-long-clause-ends
 returns-then-long-clause-ends c = λ bytes kept. elim c.then-long.branch [
