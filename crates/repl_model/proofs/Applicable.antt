@@ -4,6 +4,7 @@ use Rattle.std.specs.Prelude.{◌==◌, nat_le, sum_by, slice_index_or}
 use Rattle.std.specs.List.{list_all, list_any}
 use Rattle.std.specs.Str.{bytes_eq}
 use Rattle.std.proofs.lemmas.Bool.{and_parts, or_cases, eqb-true}
+use Rattle.repl_types.specs.Sizes.{key_limit}
 use Rattle.repl_types.specs.Value.{Values, images, spelled_len}
 use Rattle.repl_types.specs.declared.value.Value.{Value}
 use Rattle.repl_types.specs.declared.value.Value.TheVariants.{Null}
@@ -28,7 +29,7 @@ columns_length (column ∷ columns) (v ∷ row) e = ap suc (columns_length colum
 
 -- a row that fits its table has a value for each column
 pub fits_whole : (def : TableDef) (row : Values) → fits def row ≡ true → IsWhole def row
-fits_whole def row e = columns_length def.columns row (and_parts (fits_columns def.columns row) (nat_le (sum_by spelled_len (key_of def row)) 1024) e).0
+fits_whole def row e = columns_length def.columns row (and_parts (fits_columns def.columns row) (nat_le (sum_by spelled_len (key_of def row)) key_limit) e).0
 
 -- ---- the fixed columns
 

@@ -1,7 +1,8 @@
 -- Which log records are applicable after a log.
-use Rattle.std.specs.Prelude.{ℕ, ◌+◌, Bool, true, false, ◌&&◌, ◌==◌, nat_le, List, [], ◌∷◌, length, count_by, sum_by}
+use Rattle.std.specs.Prelude.{ℕ, Bool, true, false, ◌&&◌, nat_le, List, [], ◌∷◌, sum_by}
 use Rattle.std.specs.Str.{bytes_eq}
-use Rattle.repl_types.specs.Value.{Values, images}
+use Rattle.repl_types.specs.Sizes.{key_limit}
+use Rattle.repl_types.specs.Value.{Values, images, spelled_len}
 use Rattle.repl_types.specs.declared.value.Value.{Value}
 use Rattle.repl_types.specs.declared.value.Value.TheVariants.{Null, Int, Text}
 use Rattle.repl_types.specs.declared.table.Kind.{Kind}
@@ -39,7 +40,7 @@ fits_columns (column ∷ columns) (v ∷ row) = fits_column column v && fits_col
 
 -- a row fits its table: its values fit the columns, and its key has at most 1,024 bytes
 abbrev pub fits : TableDef → Values → Bool
-fits def row = fits_columns def.columns row && nat_le (sum_by spelled_len (key_of def row)) 1024
+fits def row = fits_columns def.columns row && nat_le (sum_by spelled_len (key_of def row)) key_limit
 
 -- a change fits its table: its rows do, and an update leaves the fixed columns
 unfoldable pub change_fits : TableDef → Change → Bool

@@ -9,6 +9,7 @@
 #![tactic(auto)]
 
 mod boxed;
+mod call_errors;
 mod defined;
 mod fault;
 mod progress;
@@ -18,6 +19,7 @@ mod target_side;
 mod tree;
 
 pub use boxed::Boxed;
+pub use call_errors::{AppendError, ShowError};
 pub use defined::{DefinedRegistration, DefinedTable, SourceSet, TargetSet};
 pub use fault::{Counts, Fault, Stepped};
 pub use progress::{LastNumber, MemberKey, SetState, TrailEntry};

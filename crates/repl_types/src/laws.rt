@@ -2,6 +2,8 @@
 
 ghost use Rattle.std.specs.Prelude.{◌≡◌, ℕ, ◌≤◌, ◌<◌, ◌^◌, List};
 ghost use Rattle.std.specs.Cmp.{IsTotalOrder};
+ghost use Rattle.std.specs.Cmp.Lexicographic.{slice_cmp};
+ghost use Rattle.repl_types.specs.contracts.value.ValueOrd.TheImpl.{cmp-value};
 ghost use Rattle.std.specs.FinMap.{IsAntisymmetric};
 ghost use Rattle.std.specs.Fmt.{decimal};
 ghost use Rattle.repl_types.specs.declared.value.Value.{Value};
@@ -11,10 +13,11 @@ ghost use Rattle.repl_types.specs.ValueText.{value_text, value_of, IsValue};
 
 use crate::value::Value;
 
-/// Keys are in a total order, in which only equal keys tie.
+/// Keys are in a total order, in which only equal keys tie, and rows are compared in this order.
 pub fn keys_in_order()
     ensures total { IsTotalOrder key_cmp }
     ensures exact { IsAntisymmetric key_cmp }
+    ensures derived { slice_cmp cmp-value.it ≡ key_cmp }
 {}
 
 /// A word that spells a number is the number's decimal, and the decimal spells the number.

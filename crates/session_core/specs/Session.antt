@@ -3,13 +3,9 @@ use Rattle.std.specs.Prelude.{Bool, true, false, codes, ℕ, List, [], ◌∷◌
 use Rattle.std.specs.Str.{bytes_eq}
 use Rattle.repl_types.specs.declared.status.Status.{Status}
 use Rattle.repl_types.specs.declared.status.Status.TheVariants as statuses
-use Rattle.keep_core.specs.declared.streams.ReadError.{ReadError}
-use Rattle.keep_core.specs.declared.streams.ReadError.TheVariants as reads
-use Rattle.session_core.specs.declared.refused.Refused.{Refused}
-use Rattle.session_core.specs.declared.input.InputError.{InputError}
-use Rattle.session_core.specs.declared.input.InputError.TheVariants as inputs
-use Rattle.session_core.specs.declared.early.Early.{Early}
-use Rattle.session_core.specs.declared.early.Early.TheVariants as earlies
+use Rattle.copy_lists.specs.declared.refused.Refused.{Refused}
+use Rattle.copy_lists.specs.declared.early.Early.{Early}
+use Rattle.copy_lists.specs.declared.early.Early.TheVariants as earlies
 
 -- the words of the command line are the one word `copy`
 abbrev pub is_copy : List (List ℕ) → Bool
@@ -45,17 +41,6 @@ is_of_server statuses.OutputFault = false
 is_of_server statuses.Memory = false
 is_of_server statuses.InputTooLong = false
 is_of_server (statuses.Damaged server area cause) = true
-
--- what ended a run at once, by the error of its input or output
-abbrev pub early_input : InputError → Early
-early_input inputs.Memory = earlies.Memory
-early_input inputs.Failed = earlies.InputFailed
-early_input inputs.TooLong = earlies.InputTooLong
-
--- the same of an error of its output
-abbrev pub early_output : ReadError → Early
-early_output reads.Memory = earlies.Memory
-early_output reads.Failed = earlies.OutputFailed
 
 -- how a run that ended at once ends
 abbrev pub status_of_early : Early → Status

@@ -1,33 +1,23 @@
-//! The run of the program: log records come in, and the rows of a copy go out.
+//! The run of the program: the words of the command line come in, and the status of the run comes
+//! out.
 //!
-//! It stands on `repl_model`, whose definitions its contract names, on `log_text`, which reads the
-//! records, and on `keep_core`, whose traits its input and output meet. The contract of `session` is
-//! what the program promises; `docs/MODEL.md` says its definitions in words.
+//! It stands on `copy_lists`, which reads the input and writes the copy and whose definitions the
+//! contract of `session` names, and on `keep_core`, whose traits its input and output meet.
+//! `sqlrep`, the program, stands on it. That contract is what the program promises; `docs/MODEL.md`
+//! says its definitions in words.
 #![tactic(auto)]
 
 ghost use Rattle.std.specs.Prelude.{◌≡◌, ◌≤◌, ◌<◌, ◌↔◌, [], length, map, string_bytes, IsTrue, IfSome, Some, false};
 ghost use Rattle.keep_core.specs.Told.{Rises, Takes, TakesFront};
-ghost use Rattle.session_core.specs.Feed.{feed_of};
-ghost use Rattle.session_core.specs.Input.{input_limit};
-ghost use Rattle.session_core.specs.Replies.{text_of};
+ghost use Rattle.copy_lists.specs.Feed.{feed_of};
+ghost use Rattle.line_input.specs.Limits.{input_limit};
+ghost use Rattle.copy_lists.specs.Replies.{text_of};
 ghost use Rattle.session_core.specs.Session.{is_copy as is_copy_lem, status_of, is_done, is_of_server};
 
-mod changes;
-mod copy;
-mod early;
-mod feed;
-mod input;
-mod items;
-mod line_end;
-mod refused;
-mod replies;
-mod rows;
-mod run_copy;
-mod source_log;
+mod status;
 
-use crate::early::early_status;
-use crate::refused::Refused;
-use crate::run_copy::run_copy;
+use crate::status::{done_status, early_status};
+use copy_lists::run_copy;
 use keep_core::{Sink, Source};
 use repl_types::Status;
 use std::alloc::Global;
@@ -42,26 +32,16 @@ fn is_copy(words: &[String]) -> bool
     }
 }
 
-/// The status of a run to the end of its input.
-fn done_status(refused: Option<Refused>) -> Status
-    ensures { result ≡ status_of refused }
-{
-    match refused {
-        None => Status::Ok,
-        Some(_) => Status::Refused,
-    }
-}
-
 /// Does what the words of the command line ask for; the one word `copy` is all that can be asked.
 ///
 /// `copy` reads a log record a line up to the end of the input, or up to the first line that is
-/// refused and then to the end. It writes a line for each row of the copy of `items` at the last commit
-/// of that log, the count of these, and then the line of the refusal, where there is one.
+/// refused and then to the end. It writes a line for each row of the copy of `items` at the last
+/// commit of that log, the count of these, and then the line of the refusal, if there is one.
 ///
-/// At `Ok` and `Refused` all of that was written. At `Usage` nothing was read or written. At any other
-/// status the run ended at once, and a front of the text was written. `Memory` may come wherever the
-/// machine gives no more. Where the input or the output doesn't tell its bytes, the clauses on bytes say
-/// nothing.
+/// At `Ok` and `Refused` all of that was written. At `Usage` nothing was read or written. At any
+/// other status the run ended at once, and a prefix of the text was written. `Memory` may come
+/// whenever the machine gives no more. If the input or the output doesn't reveal its bytes, the
+/// clauses on bytes say nothing.
 pub fn session<I: Source, O: Sink>(
     alloc: Global,
     words: &[String],

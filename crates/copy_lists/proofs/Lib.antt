@@ -1,0 +1,5 @@
+pub mod Lines
+pub mod Kept
+pub mod FedLines
+pub mod CopiedRows
+pub mod SessionText

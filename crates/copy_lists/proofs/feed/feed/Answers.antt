@@ -1,0 +1,16 @@
+use Rattle.std.proofs.Common.{Ok, ap, ◌∙◌}
+use Rattle.line_input.specs.Input.{left_of}
+use Rattle.copy_lists.proofs.FedLines.{end_left, end_fits}
+use Rattle.copy_lists.proofs.feed.feed.Goals as goal
+
+pub take_line-requires-clause-short : goal.take_line-requires-clause-short
+take_line-requires-clause-short g c = rw c.deref.ensures.value (c.next_line.ensures.short (c.in_ok-next_line.was ∙ ap Ok c.in-Line.is))
+
+pub returns-in-End-clause-end : goal.returns-in-End-clause-end
+returns-in-End-clause-end g c =
+    end_left (g.I.Source.left c.args.source.now) (left_of c.loop-line.input (g.I.Source.left c.loop-line.source)) (g.I.Source.left c.next_line.new.source) c.loop-line.fed c.loop-line.number c.next_line.new.line.items c.next_line.new.self c.loop-line.invariant.comes
+    (rw c.in-End.is at c.in_ok-next_line.ensures.line)
+
+pub returns-in-End-clause-fits : goal.returns-in-End-clause-fits
+returns-in-End-clause-fits g c =
+    end_fits (g.I.Source.left c.args.source.now) (g.I.Source.left c.next_line.new.source) c.next_line.new.self (returns-in-End-clause-end g c) (c.in_ok-next_line.ensures.spends.total ∙ c.loop-line.invariant.total) c.next_line.new.self.limited

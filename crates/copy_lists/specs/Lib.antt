@@ -1,0 +1,6 @@
+pub mod Items
+pub mod Feed
+pub mod SourceLog
+pub mod Fed
+pub mod Replies
+pub mod Early

@@ -1,0 +1,47 @@
+//! How a line ends.
+
+ghost use Rattle.std.specs.Prelude.{◌≡◌, ◌≤◌, List, ℕ, length};
+ghost use Rattle.std.specs.Str.Lines.{strip_carriage_return};
+ghost use Rattle.line_input.specs.Limits.{line_limit};
+ghost use Rattle.line_input.specs.Input.{IsKept, EndsAs, EndsInputAs};
+
+use crate::input::Next;
+
+/// The most bytes that a line may have, its line feed and a carriage return before that aside.
+pub const LINE_LIMIT: usize = 1_048_576;
+
+/// Drops the one carriage return at the end of a line.
+fn strip(line: &mut Vec<u8>)
+    ensures { line.new.items ≡ strip_carriage_return line.old.items }
+{
+    if line.last() == Some(&b'\r') {
+        line.pop();
+    }
+}
+
+/// Ends a line at its line feed.
+pub fn ended(line: &mut Vec<u8>, long: bool) -> Next
+    ensures ends { (bytes : List ℕ) → IsKept bytes line.old.items long → EndsAs result line.new.items bytes }
+    ensures short { result ≡ Next.Line → length line.new.items ≤ line_limit }
+    ensures shorter { length line.new.items ≤ length line.old.items }
+{
+    strip(line);
+    if long || line.len() > LINE_LIMIT {
+        return Next::LongLine;
+    }
+    Next::Line
+}
+
+/// Ends a line at the end of the input.
+pub fn last(line: &[u8], long: bool) -> Next
+    ensures ends { (bytes : List ℕ) → IsKept bytes line.now long → EndsInputAs result line.now bytes }
+    ensures short { result ≡ Next.Line → length line.now ≤ line_limit }
+{
+    if long || line.len() > LINE_LIMIT {
+        return Next::LongLine;
+    }
+    if line.is_empty() {
+        return Next::End;
+    }
+    Next::Line
+}

@@ -1,9 +1,0 @@
-pub mod FoundRows
-pub mod InOrder
-pub mod Bytes
-pub mod LineBytes
-pub mod Lines
-pub mod Kept
-pub mod FedLines
-pub mod CopiedRows
-pub mod SessionText

@@ -1,6 +1,0 @@
-use Rattle.std.proofs.Common.{◌≡◌, take}
-use Rattle.repl_types.specs.Value.{images}
-use Rattle.session_core.proofs.changes.images.Given as goal
-
-abbrev pub invariant-loop-place : goal.invariant-loop-place
-invariant-loop-place l = l.found ≡ images (take l.place-index l.places) l.row

@@ -1,6 +1,0 @@
-use Rattle.std.proofs.Common.{◌≡◌, ℕ, map, take}
-use Rattle.repl_types.specs.declared.value.Value.TheVariants.{Null}
-use Rattle.session_core.proofs.copy.no_befores.Given as goal
-
-abbrev pub invariant-loop : goal.invariant-loop
-invariant-loop l = l.befores ≡ map (λ (place : ℕ). Null) (take l.index l.items)

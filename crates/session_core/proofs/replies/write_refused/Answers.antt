@@ -1,9 +1,0 @@
-use Rattle.std.proofs.lemmas.Result.{err_from_is_err_and}
-use Rattle.session_core.proofs.Lines.{takes_no_front}
-use Rattle.session_core.specs.Replies.{refused_line as refused_line_lem}
-use Rattle.session_core.proofs.replies.write_refused.Goals as goal
-
-pub returns-in_err-line-clause-err : goal.returns-in_err-line-clause-err
-returns-in_err-line-clause-err g c =
-    let exit = err_from_is_err_and c.from_residual.result c.from_residual.ensures.1 in
-    rw exit.1 (takes_no_front (g.O.Sink.taken c.args.output.now) (refused_line_lem c.args.refused))

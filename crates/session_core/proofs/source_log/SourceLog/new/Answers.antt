@@ -1,6 +1,0 @@
-use Rattle.std.proofs.Common.{refl}
-use Rattle.session_core.proofs.Kept.{kept_empty}
-use Rattle.session_core.proofs.source_log.SourceLog.new.Goals as goal
-
-pub returns-clause-kept : goal.returns-clause-kept
-returns-clause-kept c = kept_empty _ c.requires c.new.ensures refl c.new-2.ensures c.new-3.ensures c.new-4.ensures refl
