@@ -1,104 +1,327 @@
-//! Records of a source: its tables, its log's state, and what capture and pruning keep.
+//! Records of a source.
 
-use repl_types::{Name, Op, Row, Sequence, SetId};
+ghost use Rattle.repl_types.specs.declared.area.Area.TheVariants as areas;
+ghost use Rattle.row_codec.specs.Spelling.{Any, IsCounted};
+ghost use Rattle.row_codec.specs.Records.{IsSourceRow, source_row_spelling, in_flight_spelling, IsHead, head_spelling, IsChangeRow, change_row_spelling, IsUow, IsCode, uow_spelling, IsCapture, capture_spelling, IsRegistrationState, registration_state_spelling, IsMark, mark_spelling, IsDecided, decided_spelling, IsRejected, rejected_spelling};
+ghost use Rattle.row_codec.specs.RecordLaws.{one_source_row, one_in_flight, one_head, one_change_row, one_uow, one_capture, one_registration_state, one_mark, one_decided, one_rejected};
 
-/// The key of a table that has one record.
-#[derive(Clone, Copy, Debug, PartialEq, Eq)]
-pub struct Single;
+use crate::code::Code;
+use crate::part::Part;
+use crate::parts::{take_four, take_three, take_two};
+use crate::stored::Stored;
+use crate::take_error::TakeError;
+use repl_records::{
+    CaptureState, CdKey, ChangeRow, Decided, Head, InFlight, InFlightKey, RegState, RejectedUnit,
+    Single, SourceRow, SyncMark, UnitKey, UowRow,
+};
+use repl_types::{Area, List, Row, Value};
+use std::alloc::{AllocError, Global};
 
-/// A row of a source table, kept under its key.
-#[derive(Clone, Debug, Drop, PartialEq, Eq)]
-pub struct SourceRow {
-    pub row: Row,
+impl Part for SourceRow {
+    ghost fits = { IsSourceRow };
+
+    ghost has_spelling = { λ r. IsCounted r.row };
+
+    ghost spelling = { source_row_spelling };
+
+    ghost one = { one_source_row };
+
+    fn put_part(&self, out: &mut Vec<u8>) -> Result<(), AllocError> {
+        self.row.put_part(out)
+    }
+
+    fn take_part(alloc: Global, bytes: &[u8]) -> Result<(SourceRow, &[u8]), TakeError> {
+        let (row, rest) = Row::take_part(alloc, bytes)?;
+        Ok((SourceRow { row }, rest))
+    }
 }
 
-/// What tells the changes in flight apart: the transaction, and the change's position.
-#[derive(Clone, Copy, Debug, PartialEq, Eq)]
-pub struct InFlightKey {
-    pub tx: u32,
-    pub pos: u64,
+impl Stored for SourceRow {
+    type Key = List<Value>;
+
+    const AREA: Area = Area::Source;
+
+    ghost AREA = { areas.Source };
 }
 
-/// That a change of a transaction in flight stands at a position of the log.
-#[derive(Clone, Copy, Debug, PartialEq, Eq)]
-pub struct InFlight;
+impl Part for InFlight {
+    ghost fits = { Any };
 
-/// The end of a log: its last position, its last commit, 0 where there is none, and that commit's time
-/// in seconds.
-#[derive(Clone, Copy, Debug, PartialEq, Eq)]
-pub struct Head {
-    pub last: u64,
-    pub commit: u64,
-    pub time: u64,
+    ghost has_spelling = { Any };
+
+    ghost spelling = { in_flight_spelling };
+
+    ghost one = { one_in_flight };
+
+    fn put_part(&self, out: &mut Vec<u8>) -> Result<(), AllocError> {
+        Ok(out.push(0)?)
+    }
+
+    fn take_part(_: Global, bytes: &[u8]) -> Result<(InFlight, &[u8]), TakeError> {
+        match bytes {
+            [0, rest @ ..] => Ok((InFlight, rest)),
+            _ => Err(TakeError::Spelling),
+        }
+    }
 }
 
-/// What tells the rows of a change-data table apart, in the order of the log's units and of the changes
-/// in each.
-#[derive(Clone, Copy, Debug, PartialEq, Eq)]
-pub struct CdKey {
-    pub commitseq: u64,
-    pub intentseq: Sequence,
+impl Stored for InFlight {
+    type Key = InFlightKey;
+
+    const AREA: Area = Area::Inflight;
+
+    ghost AREA = { areas.Inflight };
 }
 
-/// What a change-data table keeps of a change: the images of the registered columns.
-#[derive(Clone, Debug, Drop, PartialEq, Eq)]
-pub struct ChangeRow {
-    pub op: Op,
-    pub after: Row,
-    pub before: Row,
+impl Part for Head {
+    ghost fits = { IsHead };
+
+    ghost has_spelling = { Any };
+
+    ghost spelling = { head_spelling };
+
+    ghost one = { one_head };
+
+    fn put_part(&self, out: &mut Vec<u8>) -> Result<(), AllocError> {
+        self.last.put_part(out)?;
+        self.commit.put_part(out)?;
+        self.time.put_part(out)
+    }
+
+    fn take_part(alloc: Global, bytes: &[u8]) -> Result<(Head, &[u8]), TakeError> {
+        let (last, commit, time, rest) = take_three(alloc, bytes)?;
+        Ok((Head { last, commit, time }, rest))
+    }
 }
 
-/// What the unit-of-work table keeps of a captured unit, under its seq. `code` is the rejection code, 0
-/// to 4.
-#[derive(Clone, Debug, Drop, PartialEq, Eq)]
-pub struct UowRow {
-    pub time: u64,
-    pub authid: Name,
-    pub origin: Option<SetId>,
-    pub code: u8,
+impl Stored for Head {
+    type Key = Single;
+
+    const AREA: Area = Area::Head;
+
+    ghost AREA = { areas.Head };
 }
 
-/// How far capture is: the units up to `captured` are captured, `restart` is where the log has to be
-/// read from, and units up to `floor` are pruned from the unit-of-work table.
-#[derive(Clone, Copy, Debug, PartialEq, Eq)]
-pub struct CaptureState {
-    pub captured: u64,
-    pub restart: u64,
-    pub floor: u64,
+impl Part for ChangeRow {
+    ghost fits = { IsChangeRow };
+
+    ghost has_spelling = { λ r. IsCounted r.after × IsCounted r.before };
+
+    ghost spelling = { change_row_spelling };
+
+    ghost one = { one_change_row };
+
+    fn put_part(&self, out: &mut Vec<u8>) -> Result<(), AllocError> {
+        self.op.put_part(out)?;
+        self.after.put_part(out)?;
+        self.before.put_part(out)
+    }
+
+    fn take_part(alloc: Global, bytes: &[u8]) -> Result<(ChangeRow, &[u8]), TakeError> {
+        let (op, after, before, rest) = take_three(alloc, bytes)?;
+        Ok((ChangeRow { op, after, before }, rest))
+    }
 }
 
-/// The state of a registration: whether it is active, since which position, or last was, and up to
-/// which commit its change rows are pruned.
-#[derive(Clone, Copy, Debug, PartialEq, Eq)]
-pub struct RegState {
-    pub active: bool,
-    pub start: u64,
-    pub floor: u64,
+impl Stored for ChangeRow {
+    type Key = CdKey;
+
+    const AREA: Area = Area::Cd;
+
+    ghost AREA = { areas.Cd };
 }
 
-/// What the source of a set knows of it: the point that the target has reached, and the last signal.
-#[derive(Clone, Copy, Debug, PartialEq, Eq)]
-pub struct SyncMark {
-    pub mark: u64,
-    pub signal: u64,
+impl Part for UowRow {
+    ghost fits = { IsUow };
+
+    ghost has_spelling = { λ r. IsCode r.code };
+
+    ghost spelling = { uow_spelling };
+
+    ghost one = { one_uow };
+
+    fn put_part(&self, out: &mut Vec<u8>) -> Result<(), AllocError> {
+        self.time.put_part(out)?;
+        self.authid.put_part(out)?;
+        self.origin.put_part(out)?;
+        self.code.put_part(out)
+    }
+
+    fn take_part(alloc: Global, bytes: &[u8]) -> Result<(UowRow, &[u8]), TakeError> {
+        let (time, authid, origin, Code { code }, rest) = take_four(alloc, bytes)?;
+        Ok((
+            UowRow {
+                time,
+                authid,
+                origin,
+                code,
+            },
+            rest,
+        ))
+    }
 }
 
-/// How far the master of a replica set has decided: the replica's units up to `t`, its own up to `d`.
-#[derive(Clone, Copy, Debug, PartialEq, Eq)]
-pub struct Decided {
-    pub t: u64,
-    pub d: u64,
+impl Stored for UowRow {
+    type Key = u64;
+
+    const AREA: Area = Area::Uow;
+
+    ghost AREA = { areas.Uow };
 }
 
-/// What tells the decided units of a source's sets apart.
-#[derive(Clone, Copy, Debug, PartialEq, Eq)]
-pub struct UnitKey {
-    pub set: u32,
-    pub seq: u64,
+impl Part for CaptureState {
+    ghost fits = { IsCapture };
+
+    ghost has_spelling = { Any };
+
+    ghost spelling = { capture_spelling };
+
+    ghost one = { one_capture };
+
+    fn put_part(&self, out: &mut Vec<u8>) -> Result<(), AllocError> {
+        self.captured.put_part(out)?;
+        self.restart.put_part(out)?;
+        self.floor.put_part(out)
+    }
+
+    fn take_part(alloc: Global, bytes: &[u8]) -> Result<(CaptureState, &[u8]), TakeError> {
+        let (captured, restart, floor, rest) = take_three(alloc, bytes)?;
+        Ok((
+            CaptureState {
+                captured,
+                restart,
+                floor,
+            },
+            rest,
+        ))
+    }
 }
 
-/// The code that a rejected unit got, 1 to 4.
-#[derive(Clone, Copy, Debug, PartialEq, Eq)]
-pub struct RejectedUnit {
-    pub code: u8,
+impl Stored for CaptureState {
+    type Key = Single;
+
+    const AREA: Area = Area::Capture;
+
+    ghost AREA = { areas.Capture };
+}
+
+impl Part for RegState {
+    ghost fits = { IsRegistrationState };
+
+    ghost has_spelling = { Any };
+
+    ghost spelling = { registration_state_spelling };
+
+    ghost one = { one_registration_state };
+
+    fn put_part(&self, out: &mut Vec<u8>) -> Result<(), AllocError> {
+        self.active.put_part(out)?;
+        self.start.put_part(out)?;
+        self.floor.put_part(out)
+    }
+
+    fn take_part(alloc: Global, bytes: &[u8]) -> Result<(RegState, &[u8]), TakeError> {
+        let (active, start, floor, rest) = take_three(alloc, bytes)?;
+        Ok((
+            RegState {
+                active,
+                start,
+                floor,
+            },
+            rest,
+        ))
+    }
+}
+
+impl Stored for RegState {
+    type Key = u32;
+
+    const AREA: Area = Area::Capture;
+
+    ghost AREA = { areas.Capture };
+}
+
+impl Part for SyncMark {
+    ghost fits = { IsMark };
+
+    ghost has_spelling = { Any };
+
+    ghost spelling = { mark_spelling };
+
+    ghost one = { one_mark };
+
+    fn put_part(&self, out: &mut Vec<u8>) -> Result<(), AllocError> {
+        self.mark.put_part(out)?;
+        self.signal.put_part(out)
+    }
+
+    fn take_part(alloc: Global, bytes: &[u8]) -> Result<(SyncMark, &[u8]), TakeError> {
+        let (mark, signal, rest) = take_two(alloc, bytes)?;
+        Ok((SyncMark { mark, signal }, rest))
+    }
+}
+
+impl Stored for SyncMark {
+    type Key = u32;
+
+    const AREA: Area = Area::Prune;
+
+    ghost AREA = { areas.Prune };
+}
+
+impl Part for Decided {
+    ghost fits = { IsDecided };
+
+    ghost has_spelling = { Any };
+
+    ghost spelling = { decided_spelling };
+
+    ghost one = { one_decided };
+
+    fn put_part(&self, out: &mut Vec<u8>) -> Result<(), AllocError> {
+        self.t.put_part(out)?;
+        self.d.put_part(out)
+    }
+
+    fn take_part(alloc: Global, bytes: &[u8]) -> Result<(Decided, &[u8]), TakeError> {
+        let (t, d, rest) = take_two(alloc, bytes)?;
+        Ok((Decided { t, d }, rest))
+    }
+}
+
+impl Stored for Decided {
+    type Key = u32;
+
+    const AREA: Area = Area::Prune;
+
+    ghost AREA = { areas.Prune };
+}
+
+impl Part for RejectedUnit {
+    ghost fits = { IsRejected };
+
+    ghost has_spelling = { IsRejected };
+
+    ghost spelling = { rejected_spelling };
+
+    ghost one = { one_rejected };
+
+    fn put_part(&self, out: &mut Vec<u8>) -> Result<(), AllocError> {
+        self.code.put_part(out)
+    }
+
+    fn take_part(_: Global, bytes: &[u8]) -> Result<(RejectedUnit, &[u8]), TakeError> {
+        match bytes {
+            [code @ 1..=4, rest @ ..] => Ok((RejectedUnit { code: *code }, rest)),
+            _ => Err(TakeError::Spelling),
+        }
+    }
+}
+
+impl Stored for RejectedUnit {
+    type Key = UnitKey;
+
+    const AREA: Area = Area::Prune;
+
+    ghost AREA = { areas.Prune };
 }

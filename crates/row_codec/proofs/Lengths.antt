@@ -7,7 +7,7 @@ use Rattle.std.proofs.lemmas.List.Sums.{sum_by-cons}
 use Rattle.repl_types.specs.declared.value.Value.{Value}
 use Rattle.repl_types.specs.declared.value.Value.TheVariants.{Null, Int, Text}
 use Rattle.repl_types.specs.Value.{spelled_len}
-use Rattle.row_codec.specs.Numbers.{length64}
+use Rattle.row_codec.specs.laws.Numbers.{length64}
 use Rattle.row_codec.specs.Spelling.{shifted, marked_byte, zeros_marked, value_spelling, key_spelling}
 
 -- a marked byte

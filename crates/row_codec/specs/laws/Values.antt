@@ -19,9 +19,10 @@ use Rattle.repl_types.specs.ValueText.{IsValue}
 use Rattle.repl_types.specs.declared.value.Value.{Value}
 use Rattle.repl_types.specs.declared.value.Value.TheVariants.{Null, Int, Text}
 use Rattle.row_codec.specs.Takes.{One}
-use Rattle.row_codec.specs.Numbers.{one16}
+use Rattle.row_codec.specs.laws.Numbers.{one16}
 use Rattle.row_codec.specs.Spelling.{Is64, b16, zeros_marked, shifted, value_spelling, list_spelling, row_spelling, key_spelling, ListFits, IsRow, IsKey}
-use Rattle.row_codec.specs.Order.{Ordered, order64, then_assoc}
+use Rattle.row_codec.specs.Order.{Ordered}
+use Rattle.row_codec.specs.laws.Orders.{order64, then_assoc}
 
 -- ---- texts
 

@@ -6,14 +6,15 @@ use Rattle.repl_types.specs.declared.table.Kind.TheVariants.{Int, Text}
 use Rattle.repl_types.specs.declared.table.ColumnDef.{ColumnDef}
 use Rattle.repl_types.specs.declared.table.TableDef.{TableDef}
 use Rattle.repl_types.specs.declared.change_row.Registration.{Registration}
-use Rattle.row_codec.specs.Tags.{other_tag}
-use Rattle.row_codec.specs.Takes.{One, PairFits, pair_spelling, one_by}
-use Rattle.row_codec.specs.Ones.{one_pair}
-use Rattle.row_codec.specs.Numbers.{one16, one32, one_flag}
-use Rattle.row_codec.specs.Names.{one_name}
-use Rattle.row_codec.specs.Values.{one_list}
+use Rattle.row_codec.specs.laws.Tags.{other_tag}
+use Rattle.row_codec.specs.Takes.{One, PairFits, pair_spelling}
+use Rattle.row_codec.specs.laws.Ones.{one_by}
+use Rattle.row_codec.specs.laws.Ones.{one_pair}
+use Rattle.row_codec.specs.laws.Numbers.{one16, one32, one_flag}
+use Rattle.row_codec.specs.laws.Names.{one_name}
+use Rattle.row_codec.specs.laws.Values.{one_list}
 use Rattle.row_codec.specs.Spelling.{Any, b16, b32, Is16, Is32, flag, short_text, IsName, list_spelling, ListFits}
-use Rattle.row_codec.specs.Definitions.{places_spelling, ArePlaces, kind_spelling, column_spelling, IsColumn, table_spelling, IsTable, defined_table_spelling, IsDefinedTable, registration_spelling, IsRegistration, defined_registration_spelling, IsDefinedRegistration}
+use Rattle.row_codec.specs.Definitions.{places_spelling, ArePlaces, kind_spelling, column_spelling, IsColumn, table_spelling, IsTable, registration_spelling, IsRegistration}
 
 -- lists of places
 pub one_places : One ArePlaces places_spelling
@@ -41,10 +42,6 @@ one_table = one_by (PairFits (PairFits (PairFits IsName (ListFits IsColumn)) Are
     (one_pair (PairFits IsName (ListFits IsColumn)) ArePlaces (pair_spelling short_text (list_spelling column_spelling)) places_spelling
     (one_pair IsName (ListFits IsColumn) short_text (list_spelling column_spelling) one_name one_columns) one_places) one_places)
 
--- tables with their numbers
-pub one_defined_table : One IsDefinedTable defined_table_spelling
-one_defined_table = one_by (PairFits Is32 IsTable) (pair_spelling b32 table_spelling) IsDefinedTable (λ d. (d.number, d.def)) (λ x y e. ap (λ (p : ℕ × TableDef). record { number = p.0; def = p.1 }) e) (λ _ f. f) (one_pair Is32 IsTable b32 table_spelling one32 one_table)
-
 -- a name and two lists of places
 one_images : One (PairFits (PairFits IsName ArePlaces) ArePlaces) (pair_spelling (pair_spelling short_text places_spelling) places_spelling)
 one_images = one_pair (PairFits IsName ArePlaces) ArePlaces (pair_spelling short_text places_spelling) places_spelling (one_pair IsName ArePlaces short_text places_spelling one_name one_places) one_places
@@ -59,7 +56,3 @@ one_registration = one_by (PairFits (PairFits (PairFits (PairFits (PairFits IsNa
     (one_flagged (PairFits (PairFits (PairFits (PairFits IsName ArePlaces) ArePlaces) Any) Any) (pair_spelling (pair_spelling (pair_spelling (pair_spelling short_text places_spelling) places_spelling) flag) flag)
     (one_flagged (PairFits (PairFits (PairFits IsName ArePlaces) ArePlaces) Any) (pair_spelling (pair_spelling (pair_spelling short_text places_spelling) places_spelling) flag)
     (one_flagged (PairFits (PairFits IsName ArePlaces) ArePlaces) (pair_spelling (pair_spelling short_text places_spelling) places_spelling) one_images)))
-
--- registrations with their numbers
-pub one_defined_registration : One IsDefinedRegistration defined_registration_spelling
-one_defined_registration = one_by (PairFits Is32 IsRegistration) (pair_spelling b32 registration_spelling) IsDefinedRegistration (λ d. (d.number, d.registration)) (λ x y e. ap (λ (p : ℕ × Registration). record { number = p.0; registration = p.1 }) e) (λ _ f. f) (one_pair Is32 IsRegistration b32 registration_spelling one32 one_registration)

@@ -1,7 +1,7 @@
 -- What a tag tells of the bytes after it. There is nothing to believe here.
 use Rattle.std.proofs.Common.{◌≡◌, ℕ, false, List, ◌∷◌, eq-eqb}
 use Rattle.std.specs.Prelude.{◌==◌}
-use Rattle.row_codec.specs.Numbers.{first_is}
+use Rattle.row_codec.specs.laws.Numbers.{first_is}
 
 -- bytes that begin with one tag begin with no other
 pub other_tag : (m n : ℕ) (s t : List ℕ) → m ∷ s ≡ n ∷ t → (m == n) ≡ false → ⊥

@@ -5,12 +5,12 @@ use Rattle.repl_types.specs.declared.record.LogRecord.TheVariants as records
 use Rattle.repl_types.specs.declared.record.SetId.{SetId}
 use Rattle.repl_types.specs.declared.value.Value.{Value}
 use Rattle.std.specs.Prelude.{Option}
-use Rattle.row_codec.specs.Tags.{other_tag}
+use Rattle.row_codec.specs.laws.Tags.{other_tag}
 use Rattle.row_codec.specs.Takes.{One, PairFits, pair_spelling}
-use Rattle.row_codec.specs.Ones.{one_pair}
-use Rattle.row_codec.specs.Numbers.{one32, one64}
-use Rattle.row_codec.specs.Names.{one_name, one_origin}
-use Rattle.row_codec.specs.Values.{one_row}
+use Rattle.row_codec.specs.laws.Ones.{one_pair}
+use Rattle.row_codec.specs.laws.Numbers.{one32, one64}
+use Rattle.row_codec.specs.laws.Names.{one_name, one_origin}
+use Rattle.row_codec.specs.laws.Values.{one_row}
 use Rattle.row_codec.specs.Spelling.{Is32, Is64, IsName, IsOrigin, IsRow, b32, b64, short_text, origin, row_spelling}
 use Rattle.row_codec.specs.LogRecords.{IsLogRecord, log_spelling}
 

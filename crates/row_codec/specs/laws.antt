@@ -1,0 +1,11 @@
+pub mod Again
+pub mod Definitions
+pub mod Exits
+pub mod LogRecords
+pub mod Names
+pub mod Numbers
+pub mod Ones
+pub mod Orders
+pub mod Sizes
+pub mod Tags
+pub mod Values
