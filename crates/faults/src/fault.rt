@@ -4,9 +4,8 @@ use repl_types::{Area, DamageCause, Refusal};
 use std::alloc::{AllocError, AllocFailed};
 use thiserror::Error;
 
-/// Why a call was given up. Servers are named by their place, counted from 0. After a fault no
-/// transaction is open, and each server holds what its last commit left, or a failed commit that took
-/// place.
+/// Why a call failed. Servers are named by their place, counted from 0. After a fault no transaction is
+/// open, and each server holds what its last commit left, or a failed commit that took place.
 #[derive(Clone, Debug, Drop, PartialEq, Eq, Error)]
 pub enum Fault {
     #[error("out of memory")]
@@ -27,7 +26,7 @@ pub enum Fault {
 
 impl From<AllocError> for Fault {
     ghost use Rattle.std.specs.Prelude.{◌≡◌};
-    ghost use Rattle.repl_records.specs.declared.fault.Fault.TheVariants.{Memory};
+    ghost use Rattle.faults.specs.declared.fault.Fault.TheVariants.{Memory};
 
     ghost from_gives = { λ _ e. e ≡ Memory };
 
@@ -38,7 +37,7 @@ impl From<AllocError> for Fault {
 
 impl<T: Drop> From<AllocFailed<T>> for Fault {
     ghost use Rattle.std.specs.Prelude.{◌≡◌};
-    ghost use Rattle.repl_records.specs.declared.fault.Fault.TheVariants.{Memory};
+    ghost use Rattle.faults.specs.declared.fault.Fault.TheVariants.{Memory};
 
     ghost from_gives = { λ _ e. e ≡ Memory };
 
