@@ -3,14 +3,13 @@ use Rattle.std.specs.Prelude.{ℕ, List, [], ◌∷◌, ◌++◌}
 use Rattle.std.specs.Ordering.{nat_cmp, ordering_then}
 use Rattle.std.specs.declared.cmp.Ordering.{Ordering}
 use Rattle.std.specs.declared.cmp.Ordering.TheVariants.{Equal}
-use Rattle.repl_types.specs.declared.sequence.Sequence.{Sequence}
-use Rattle.repl_records.specs.declared.source_side.Single.{Single}
-use Rattle.repl_records.specs.declared.source_side.InFlightKey.{InFlightKey}
-use Rattle.repl_records.specs.declared.source_side.CdKey.{CdKey}
-use Rattle.repl_records.specs.declared.source_side.UnitKey.{UnitKey}
-use Rattle.repl_records.specs.declared.progress.MemberKey.{MemberKey}
+use Rattle.repl_records.specs.declared.record_keys.Single.{Single}
+use Rattle.repl_records.specs.declared.record_keys.InFlightKey.{InFlightKey}
+use Rattle.repl_records.specs.declared.record_keys.CdKey.{CdKey}
+use Rattle.repl_records.specs.declared.record_keys.UnitKey.{UnitKey}
+use Rattle.repl_records.specs.declared.record_keys.MemberKey.{MemberKey}
 use Rattle.repl_types.specs.Sequence.{sequence_cmp}
-use Rattle.row_codec.specs.Spelling.{Is16, Is32, Is64, b16, b32, b64}
+use Rattle.row_codec.specs.Spelling.{Is32, Is64, IsSequence, b32, b64, sequence_spelling}
 
 -- the key of a table that has one record is one byte, which says nothing
 abbrev pub single_spelling : Single → List ℕ
@@ -19,14 +18,6 @@ single_spelling key = 0 ∷ []
 -- there is one such key
 abbrev pub single_cmp : Single → Single → Ordering
 single_cmp k l = Equal
-
--- a place in a log: its position and its sub-number
-abbrev pub sequence_spelling : Sequence → List ℕ
-sequence_spelling s = b64 s.position ++ b16 s.sub
-
--- the places whose position has eight bytes and whose sub-number has two
-abbrev pub IsSequence : Sequence → Type 0
-IsSequence s = Is64 s.position × Is16 s.sub
 
 -- the key of a change in flight: its transaction and its position
 abbrev pub in_flight_key_spelling : InFlightKey → List ℕ

@@ -1,11 +1,10 @@
 //! Rejection codes.
 
 ghost use Rattle.row_codec.specs.Spelling.{b8};
-ghost use Rattle.row_codec.specs.Records.{IsCode};
-ghost use Rattle.row_codec.specs.RecordLaws.{one_code};
+ghost use Rattle.repl_records.specs.Capture.{IsCode};
+ghost use Rattle.repl_records.specs.laws.Capture.{one_code};
 
-use crate::part::Part;
-use crate::take_error::TakeError;
+use row_codec::{Part, TakeError};
 use std::alloc::{AllocError, Global};
 use std::marker::Model;
 
@@ -31,6 +30,8 @@ impl Part for Code {
     ghost spelling = { b8 };
 
     ghost one = { one_code };
+
+    ghost again = { λ _ fits. fits };
 
     fn put_part(&self, out: &mut Vec<u8>) -> Result<(), AllocError> {
         self.code.put_part(out)

@@ -1,39 +1,16 @@
 //! Keys of records.
 
-ghost use Rattle.std.specs.Ordering.{nat_cmp};
-ghost use Rattle.row_codec.specs.Spelling.{Any, Is32, b32};
-ghost use Rattle.row_codec.specs.Takes.{one_whole};
-ghost use Rattle.row_codec.specs.Numbers.{one32};
-ghost use Rattle.row_codec.specs.Order.{order32, whole_order};
-ghost use Rattle.row_codec.specs.RecordKeys.{single_spelling, single_cmp, in_flight_key_spelling, IsInFlightKey, in_flight_key_cmp, change_key_spelling, IsChangeKey, change_key_cmp, unit_key_spelling, IsUnitKey, unit_key_cmp, member_key_spelling, IsMemberKey, member_key_cmp};
-ghost use Rattle.row_codec.specs.KeyOrder.{one_single, order_single, one_in_flight_key, order_in_flight_key, one_change_key, order_change_key, one_unit_key, order_unit_key, one_member_key, order_member_key};
+ghost use Rattle.repl_records.specs.RecordKeys.{single_spelling, single_cmp, in_flight_key_spelling, IsInFlightKey, in_flight_key_cmp, change_key_spelling, IsChangeKey, change_key_cmp, unit_key_spelling, IsUnitKey, unit_key_cmp, member_key_spelling, IsMemberKey, member_key_cmp};
+ghost use Rattle.repl_records.specs.laws.RecordKeys.{one_single, order_single, key_single, one_in_flight_key, order_in_flight_key, key_in_flight_key, one_change_key, order_change_key, key_change_key, one_unit_key, order_unit_key, key_unit_key, one_member_key, order_member_key, key_member_key};
+ghost use Rattle.row_codec.specs.Spelling.{Any};
 
-use crate::part::{Part, take_whole};
-use crate::parts::take_two;
-use crate::stored::Key;
-use crate::take_error::TakeError;
-use repl_records::{CdKey, InFlightKey, MemberKey, Single, UnitKey};
+use repl_types::Sequence;
+use row_codec::{Part, PartKey, TakeError, take_two};
 use std::alloc::{AllocError, Global};
 
-impl Key for u32 {
-    ghost fits = { Is32 };
-
-    ghost spelling = { b32 };
-
-    ghost cmp = { nat_cmp };
-
-    ghost one = { one_whole Is32 b32 one32 };
-
-    ghost order = { whole_order Is32 b32 nat_cmp order32 };
-
-    fn put_key(&self, out: &mut Vec<u8>) -> Result<(), AllocError> {
-        self.put_part(out)
-    }
-
-    fn take_key(alloc: Global, bytes: &[u8]) -> Result<u32, TakeError> {
-        take_whole::<u32>(alloc, bytes)
-    }
-}
+/// The key of a table that has one record.
+#[derive(Clone, Copy, Debug, PartialEq, Eq)]
+pub struct Single;
 
 impl Part for Single {
     ghost fits = { Any };
@@ -43,6 +20,8 @@ impl Part for Single {
     ghost spelling = { single_spelling };
 
     ghost one = { one_single };
+
+    ghost again = { λ _ _. tt };
 
     fn put_part(&self, out: &mut Vec<u8>) -> Result<(), AllocError> {
         Ok(out.push(0)?)
@@ -56,24 +35,21 @@ impl Part for Single {
     }
 }
 
-impl Key for Single {
-    ghost fits = { Any };
-
-    ghost spelling = { single_spelling };
-
+impl PartKey for Single {
     ghost cmp = { single_cmp };
 
-    ghost one = { one_whole Any single_spelling one_single };
+    ghost spelled = { λ _. tt };
 
-    ghost order = { whole_order Any single_spelling single_cmp order_single };
+    ghost ordered = { order_single };
 
-    fn put_key(&self, out: &mut Vec<u8>) -> Result<(), AllocError> {
-        self.put_part(out)
-    }
+    ghost small = { key_single };
+}
 
-    fn take_key(alloc: Global, bytes: &[u8]) -> Result<Single, TakeError> {
-        take_whole::<Single>(alloc, bytes)
-    }
+/// What tells the changes in flight apart: the transaction, and the change's position.
+#[derive(Clone, Copy, Debug, PartialEq, Eq)]
+pub struct InFlightKey {
+    pub tx: u32,
+    pub pos: u64,
 }
 
 impl Part for InFlightKey {
@@ -84,6 +60,8 @@ impl Part for InFlightKey {
     ghost spelling = { in_flight_key_spelling };
 
     ghost one = { one_in_flight_key };
+
+    ghost again = { λ _ _. tt };
 
     fn put_part(&self, out: &mut Vec<u8>) -> Result<(), AllocError> {
         self.tx.put_part(out)?;
@@ -96,24 +74,22 @@ impl Part for InFlightKey {
     }
 }
 
-impl Key for InFlightKey {
-    ghost fits = { IsInFlightKey };
-
-    ghost spelling = { in_flight_key_spelling };
-
+impl PartKey for InFlightKey {
     ghost cmp = { in_flight_key_cmp };
 
-    ghost one = { one_whole IsInFlightKey in_flight_key_spelling one_in_flight_key };
+    ghost spelled = { λ _. tt };
 
-    ghost order = { whole_order IsInFlightKey in_flight_key_spelling in_flight_key_cmp order_in_flight_key };
+    ghost ordered = { order_in_flight_key };
 
-    fn put_key(&self, out: &mut Vec<u8>) -> Result<(), AllocError> {
-        self.put_part(out)
-    }
+    ghost small = { key_in_flight_key };
+}
 
-    fn take_key(alloc: Global, bytes: &[u8]) -> Result<InFlightKey, TakeError> {
-        take_whole::<InFlightKey>(alloc, bytes)
-    }
+/// What tells the rows of a change-data table apart, in the order of the log's units and of the changes
+/// in each.
+#[derive(Clone, Copy, Debug, PartialEq, Eq)]
+pub struct CdKey {
+    pub commitseq: u64,
+    pub intentseq: Sequence,
 }
 
 impl Part for CdKey {
@@ -124,6 +100,8 @@ impl Part for CdKey {
     ghost spelling = { change_key_spelling };
 
     ghost one = { one_change_key };
+
+    ghost again = { λ _ _. tt };
 
     fn put_part(&self, out: &mut Vec<u8>) -> Result<(), AllocError> {
         self.commitseq.put_part(out)?;
@@ -142,24 +120,21 @@ impl Part for CdKey {
     }
 }
 
-impl Key for CdKey {
-    ghost fits = { IsChangeKey };
-
-    ghost spelling = { change_key_spelling };
-
+impl PartKey for CdKey {
     ghost cmp = { change_key_cmp };
 
-    ghost one = { one_whole IsChangeKey change_key_spelling one_change_key };
+    ghost spelled = { λ _. tt };
 
-    ghost order = { whole_order IsChangeKey change_key_spelling change_key_cmp order_change_key };
+    ghost ordered = { order_change_key };
 
-    fn put_key(&self, out: &mut Vec<u8>) -> Result<(), AllocError> {
-        self.put_part(out)
-    }
+    ghost small = { key_change_key };
+}
 
-    fn take_key(alloc: Global, bytes: &[u8]) -> Result<CdKey, TakeError> {
-        take_whole::<CdKey>(alloc, bytes)
-    }
+/// What tells the decided units of a source's sets apart.
+#[derive(Clone, Copy, Debug, PartialEq, Eq)]
+pub struct UnitKey {
+    pub set: u32,
+    pub seq: u64,
 }
 
 impl Part for UnitKey {
@@ -170,6 +145,8 @@ impl Part for UnitKey {
     ghost spelling = { unit_key_spelling };
 
     ghost one = { one_unit_key };
+
+    ghost again = { λ _ _. tt };
 
     fn put_part(&self, out: &mut Vec<u8>) -> Result<(), AllocError> {
         self.set.put_part(out)?;
@@ -182,24 +159,21 @@ impl Part for UnitKey {
     }
 }
 
-impl Key for UnitKey {
-    ghost fits = { IsUnitKey };
-
-    ghost spelling = { unit_key_spelling };
-
+impl PartKey for UnitKey {
     ghost cmp = { unit_key_cmp };
 
-    ghost one = { one_whole IsUnitKey unit_key_spelling one_unit_key };
+    ghost spelled = { λ _. tt };
 
-    ghost order = { whole_order IsUnitKey unit_key_spelling unit_key_cmp order_unit_key };
+    ghost ordered = { order_unit_key };
 
-    fn put_key(&self, out: &mut Vec<u8>) -> Result<(), AllocError> {
-        self.put_part(out)
-    }
+    ghost small = { key_unit_key };
+}
 
-    fn take_key(alloc: Global, bytes: &[u8]) -> Result<UnitKey, TakeError> {
-        take_whole::<UnitKey>(alloc, bytes)
-    }
+/// What tells the targets of a server's sets apart.
+#[derive(Clone, Copy, Debug, PartialEq, Eq)]
+pub struct MemberKey {
+    pub set: u32,
+    pub member: u32,
 }
 
 impl Part for MemberKey {
@@ -210,6 +184,8 @@ impl Part for MemberKey {
     ghost spelling = { member_key_spelling };
 
     ghost one = { one_member_key };
+
+    ghost again = { λ _ _. tt };
 
     fn put_part(&self, out: &mut Vec<u8>) -> Result<(), AllocError> {
         self.set.put_part(out)?;
@@ -222,22 +198,12 @@ impl Part for MemberKey {
     }
 }
 
-impl Key for MemberKey {
-    ghost fits = { IsMemberKey };
-
-    ghost spelling = { member_key_spelling };
-
+impl PartKey for MemberKey {
     ghost cmp = { member_key_cmp };
 
-    ghost one = { one_whole IsMemberKey member_key_spelling one_member_key };
+    ghost spelled = { λ _. tt };
 
-    ghost order = { whole_order IsMemberKey member_key_spelling member_key_cmp order_member_key };
+    ghost ordered = { order_member_key };
 
-    fn put_key(&self, out: &mut Vec<u8>) -> Result<(), AllocError> {
-        self.put_part(out)
-    }
-
-    fn take_key(alloc: Global, bytes: &[u8]) -> Result<MemberKey, TakeError> {
-        take_whole::<MemberKey>(alloc, bytes)
-    }
+    ghost small = { key_member_key };
 }

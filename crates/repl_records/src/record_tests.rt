@@ -3,13 +3,13 @@
 ghost use Rattle.std.specs.Prelude.{IfOk};
 ghost use Rattle.row_codec.specs.Spelling.{IsCounted};
 
-use crate::{Key, Stored, TakeError};
-use repl_records::{
+use crate::{
     AggregateRow, CaptureState, CdKey, ChangeRow, CopyRow, Decided, Head, HistoryRow, InFlight,
-    InFlightKey, LastNumber, LatestRow, MemberKey, PointRow, RegState, RejectedUnit, Sequence,
+    InFlightKey, LastNumber, LatestRow, MemberKey, PointRow, RegState, RejectedUnit,
     SetState, Single, SourceRow, SyncMark, TrailEntry, UnitKey, UowRow,
 };
-use repl_types::{List, Name, Op, Row, SetId, Value};
+use repl_types::{List, Name, Op, Row, Sequence, SetId, Value};
+use row_codec::{Key, Stored, TakeError};
 use std::alloc::Global;
 use std::test::Fail;
 

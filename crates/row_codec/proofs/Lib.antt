@@ -1,4 +1,3 @@
-pub mod Lengths
 pub mod Lists
 pub mod Texts
 pub mod Worked

@@ -1,6 +1,7 @@
 pub mod Again
 pub mod Definitions
 pub mod Exits
+pub mod Lengths
 pub mod LogRecords
 pub mod Names
 pub mod Numbers

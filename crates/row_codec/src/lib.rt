@@ -30,7 +30,10 @@ mod tests;
 mod value;
 
 pub use key::{Key, PartKey};
-pub use laws::{keys_in_byte_order, length_of_a_key, one_spelling_of_a_row, worked_row};
+pub use laws::{
+    keys_in_byte_order, length_of_a_key, lengths_of_numbers, one_spelling_of_a_row,
+    rows_of_64_values_are_storable, worked_row,
+};
 pub use part::{Part, take_whole};
 pub use parts::{take_five, take_four, take_six, take_three, take_two};
 pub use row::{put_key, put_row, take_row};

@@ -1,67 +1,15 @@
--- Proofs that how far sets are has one spelling. There is nothing to believe here.
-use Rattle.std.proofs.Common.{◌≢◌, ℕ, Bool, List, ◌∷◌, ◌++◌, drop, Option, Some, None, refl, sym, ap, subst, arith}
-use Rattle.repl_records.specs.declared.progress.SetState.{SetState}
-use Rattle.repl_records.specs.declared.progress.SetState.TheVariants.{ReadOnly, Replica}
-use Rattle.repl_records.specs.declared.progress.TrailEntry.TheVariants.{Refresh, Block, Load, Settle}
+-- Proofs about the spellings of what a set's trail keeps. There is nothing to believe here.
+use Rattle.std.proofs.Common.{◌≡◌, ◌≢◌, ℕ, List, ◌∷◌, ◌++◌, length, drop, Option, Some, None, refl, ap, arith, length-append}
+use Rattle.repl_types.specs.Sizes.{IsValueSize}
+use Rattle.repl_records.specs.declared.trail.TrailEntry.{TrailEntry}
+use Rattle.repl_records.specs.declared.trail.TrailEntry.TheVariants.{Refresh, Block, Load, Settle}
+use Rattle.repl_records.specs.Trail.{IsBase, base_spelling, IsEntry, entry_spelling}
+use Rattle.repl_records.specs.laws.Numbers.{one_two_numbers, one_three_numbers}
+use Rattle.row_codec.specs.Spelling.{Any, Is64, b64}
 use Rattle.row_codec.specs.Takes.{One, NoFront, PairFits, pair_spelling}
-use Rattle.row_codec.specs.Ones.{one_pair}
-use Rattle.row_codec.specs.Numbers.{first_is, one64, one_flag}
-use Rattle.row_codec.specs.RecordLaws.{one_two_numbers, one_three_numbers}
-use Rattle.row_codec.specs.Spelling.{Any, Is64, b64, flag}
-use Rattle.row_codec.specs.Records.{HasNumbers, IsState, ZeroWhereAbsent, state_spelling, IsBase, base_spelling, IsEntry, entry_spelling}
-
--- bytes that begin with one byte don't begin with another
-pub other_first : (m n : ℕ) (s t : List ℕ) → m ≢ n → m ∷ s ≢ n ∷ t
-other_first m n s t other e = other (first_is m n s t e)
-
--- ---- states of sets
-
--- the fields of a read-only set's state
-abbrev pub ReadOnlyFields : Type 0
-ReadOnlyFields = ((((Bool × ℕ) × ℕ) × ℕ) × Bool) × ℕ
-
--- such fields
-pub one_read_only : One {X = ReadOnlyFields} (PairFits (PairFits (PairFits (PairFits (PairFits Any Is64) Is64) Is64) Any) Is64) (pair_spelling (pair_spelling (pair_spelling (pair_spelling (pair_spelling flag b64) b64) b64) flag) b64)
-one_read_only = one_pair _ _ _ _ (one_pair _ _ _ _ (one_pair _ _ _ _ (one_pair _ _ _ _ (one_pair _ _ _ _ one_flag one64) one64) one64) one_flag) one64
-
--- the fields of a replica set's state
-abbrev pub ReplicaFields : Type 0
-ReplicaFields = (((Bool × ℕ) × ℕ) × ℕ) × ℕ
-
--- such fields
-pub one_replica : One {X = ReplicaFields} (PairFits (PairFits (PairFits (PairFits Any Is64) Is64) Is64) Is64) (pair_spelling (pair_spelling (pair_spelling (pair_spelling flag b64) b64) b64) b64)
-one_replica = one_pair _ _ _ _ (one_pair _ _ _ _ (one_pair _ _ _ _ (one_pair _ _ _ _ one_flag one64) one64) one64) one64
-
--- states of sets, whatever stands in the place of absent points
-pub one_of_numbers : One HasNumbers state_spelling
-one_of_numbers (ReadOnly h s t o r n) (ReadOnly h' s' t' o' r' n') a b fx fy e =
-    let same = one_read_only (((((h, s), t), o), r), n) (((((h', s'), t'), o'), r'), n') a b (((((tt, fx.0), fx.1), fx.2), tt), fx.3) (((((tt, fy.0), fy.1), fy.2), tt), fy.3) (ap (drop 1) e) in
-    (ap (λ (p : ReadOnlyFields). ReadOnly p.0.0.0.0.0 p.0.0.0.0.1 p.0.0.0.1 p.0.0.1 p.0.1 p.1) same.0, same.1)
-one_of_numbers (ReadOnly h s t o r n) (Replica h' m f g n') a b fx fy e = absurd (other_first 1 2 _ _ (omega arith) e)
-one_of_numbers (Replica h m f g n) (ReadOnly h' s t o r n') a b fx fy e = absurd (other_first 2 1 _ _ (omega arith) e)
-one_of_numbers (Replica h m f g n) (Replica h' m' f' g' n') a b fx fy e =
-    let same = one_replica ((((h, m), f), g), n) ((((h', m'), f'), g'), n') a b ((((tt, fx.0), fx.1), fx.2), fx.3) ((((tt, fy.0), fy.1), fy.2), fy.3) (ap (drop 1) e) in
-    (ap (λ (p : ReplicaFields). Replica p.0.0.0.0 p.0.0.0.1 p.0.0.1 p.0.1 p.1) same.0, same.1)
-
--- states of sets
-pub one_state : One IsState state_spelling
-one_state x y a b fx fy e = one_of_numbers x y a b fx.0 fy.0 e
-
--- bytes that begin with other numbers in the place of absent points begin with no state
-pub no_other_state : (state : SetState) (after : List ℕ) → HasNumbers state → ¬ (ZeroWhereAbsent state) → NoFront IsState state_spelling (state_spelling state ++ after)
-no_other_state state after numbers other x rest fits e = other (subst ZeroWhereAbsent (sym (one_of_numbers state x after rest numbers fits.0 e).0) fits.1)
-
--- after a 1 there is the state of a read-only set, or none
-pub only_read_only : (bytes : List ℕ) → ((has_points : Bool) (synchpoint time base : ℕ) (refresh : Bool) (entries : ℕ) (rest : List ℕ) → HasNumbers (ReadOnly has_points synchpoint time base refresh entries) → bytes ≢ (flag has_points ++ b64 synchpoint ++ b64 time ++ b64 base ++ flag refresh ++ b64 entries) ++ rest) → NoFront HasNumbers state_spelling (1 ∷ bytes)
-only_read_only bytes none (ReadOnly h s t o r n) rest fits e = none h s t o r n rest fits (ap (drop 1) e)
-only_read_only bytes none (Replica h m f g n) rest fits e = other_first 1 2 _ _ (omega arith) e
-
--- after a 2 there is the state of a replica set, or none
-pub only_replica : (bytes : List ℕ) → ((has_points : Bool) (m f signal entries : ℕ) (rest : List ℕ) → HasNumbers (Replica has_points m f signal entries) → bytes ≢ (flag has_points ++ b64 m ++ b64 f ++ b64 signal ++ b64 entries) ++ rest) → NoFront HasNumbers state_spelling (2 ∷ bytes)
-only_replica bytes none (ReadOnly h s t o r n) rest fits e = other_first 2 1 _ _ (omega arith) e
-only_replica bytes none (Replica h m f g n) rest fits e = none h m f g n rest fits (ap (drop 1) e)
-
--- ---- entries of trails
+use Rattle.row_codec.specs.laws.Numbers.{one64, length64}
+use Rattle.row_codec.specs.laws.Ones.{one_pair}
+use Rattle.row_codec.specs.laws.Tags.{other_first}
 
 -- points of base aggregates
 pub one_base : One IsBase base_spelling
@@ -152,3 +100,15 @@ only_settle bytes none (Refresh p r q) rest fits e = other_first 4 1 _ _ (omega 
 only_settle bytes none (Block p t i u d q) rest fits e = other_first 4 2 _ _ (omega arith) e
 only_settle bytes none (Load m f r) rest fits e = other_first 4 3 _ _ (omega arith) e
 only_settle bytes none (Settle m f j k) rest fits e = none m f j k rest fits (ap (drop 1) e)
+
+-- the point of base aggregates takes nine bytes
+length_base : (base : Option ℕ) → length (base_spelling base) ≡ 9
+length_base None = omega (arith, length64 0)
+length_base (Some q) = omega (arith, length64 q)
+
+-- an entry takes at most 50 bytes
+pub small_entry : (entry : TrailEntry) → IsEntry entry → Any entry → IsValueSize (entry_spelling entry)
+small_entry (Refresh p r q) fits asked = omega (arith, length-append (b64 p ++ b64 r) (base_spelling q), length-append (b64 p) (b64 r), length64 p, length64 r, length_base q)
+small_entry (Block p t i u d q) fits asked = omega (arith, length-append (b64 p ++ b64 t ++ b64 i ++ b64 u ++ b64 d) (base_spelling q), length-append (b64 p ++ b64 t ++ b64 i ++ b64 u) (b64 d), length-append (b64 p ++ b64 t ++ b64 i) (b64 u), length-append (b64 p ++ b64 t) (b64 i), length-append (b64 p) (b64 t), length64 p, length64 t, length64 i, length64 u, length64 d, length_base q)
+small_entry (Load m f r) fits asked = omega (arith, length-append (b64 m ++ b64 f) (b64 r), length-append (b64 m) (b64 f), length64 m, length64 f, length64 r)
+small_entry (Settle m f j k) fits asked = omega (arith, length-append (b64 m ++ b64 f ++ b64 j) (b64 k), length-append (b64 m ++ b64 f) (b64 j), length-append (b64 m) (b64 f), length64 m, length64 f, length64 j, length64 k)
