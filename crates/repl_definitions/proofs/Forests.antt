@@ -1,10 +1,10 @@
 -- Reading trees node after node.
 use Rattle.std.proofs.Common.{◌≡◌, ℕ, suc, ◌+◌, ◌<◌, List, [], ◌∷◌, ◌++◌, length, refl, sym, ap, subst, ◌∙◌, arith, append_assoc, append-nil, length-append}
 use Rattle.std.proofs.lemmas.Grind.{flat_map-append}
-use Rattle.row_codec.specs.declared.nested.Root.{Root}
-use Rattle.row_codec.specs.declared.nested.Root.TheVariants.{Single, Joined}
+use Rattle.repl_definitions.specs.declared.nested.Root.{Root}
+use Rattle.repl_definitions.specs.declared.nested.Root.TheVariants.{Single, Joined}
 use Rattle.row_codec.specs.Takes.{One}
-use Rattle.row_codec.specs.Forests.{IsForest, nodes_spelling, NodesFit}
+use Rattle.repl_definitions.specs.Forests.{IsForest, nodes_spelling, NodesFit}
 
 -- one more node
 pub NodesFit-push : {X : Type 0} (fits : X → Type 0) (nodes : List X) (node : X) → NodesFit fits nodes → fits node → NodesFit fits (nodes ++ node ∷ [])

@@ -3,11 +3,11 @@ use Rattle.std.proofs.Common.{◌≡◌, ℕ, List, [], ◌∷◌, ◌++◌, dro
 use Rattle.repl_types.specs.ValueText.{IsValue}
 use Rattle.repl_types.specs.declared.value.Value.{Value}
 use Rattle.repl_types.specs.declared.value.Value.TheVariants as values
-use Rattle.row_codec.specs.declared.nested.Root.TheVariants.{Single, Joined}
-use Rattle.row_codec.specs.declared.expr.ExprLeaf.TheVariants.{Column, Int, Text}
-use Rattle.row_codec.specs.declared.expr.ExprJoint.TheVariants.{Add, Sub, Mul, Concat}
+use Rattle.repl_definitions.specs.declared.nested.Root.TheVariants.{Single, Joined}
+use Rattle.repl_definitions.specs.declared.expr.ExprLeaf.TheVariants.{Column, Int, Text}
+use Rattle.repl_definitions.specs.declared.expr.ExprJoint.TheVariants.{Add, Sub, Mul, Concat}
 use Rattle.row_codec.specs.Spelling.{value_spelling}
-use Rattle.row_codec.specs.Exprs.{ExprNode, expr_node_spelling, IsExprNode}
+use Rattle.repl_definitions.specs.Exprs.{ExprNode, expr_node_spelling, IsExprNode}
 
 -- a tag is written, and then what it announces
 pub tagged : (before between after rest whole : List ℕ) (tag : ℕ) → between ≡ before ++ tag ∷ [] → after ≡ between ++ rest → whole ≡ tag ∷ rest → after ≡ before ++ whole

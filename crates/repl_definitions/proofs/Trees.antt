@@ -1,10 +1,10 @@
 -- Trees that are being read or written.
 use Rattle.std.proofs.Common.{◌≡◌, ℕ, ◌+◌, List, [], ◌∷◌, ◌++◌, sym, ap, subst, ◌∙◌, arith, append_assoc, append-nil, Some, None}
-use Rattle.row_codec.specs.declared.nested.Root.{Root}
-use Rattle.row_codec.specs.declared.nested.Root.TheVariants.{Joined}
-use Rattle.row_codec.specs.declared.nested.Pending.{Pending}
-use Rattle.row_codec.specs.Forests.{nodes_spelling, NodesFit}
-use Rattle.row_codec.specs.PendingTrees.{left_nodes, pending_nodes, owed_at, owed}
+use Rattle.repl_definitions.specs.declared.nested.Root.{Root}
+use Rattle.repl_definitions.specs.declared.nested.Root.TheVariants.{Joined}
+use Rattle.repl_definitions.specs.declared.nested.Pending.{Pending}
+use Rattle.repl_definitions.specs.Forests.{nodes_spelling, NodesFit}
+use Rattle.repl_definitions.specs.PendingTrees.{left_nodes, pending_nodes, owed_at, owed}
 
 -- the node that was pushed last is read last
 pub pending_nodes-push : {L J T : Type 0} (nodes : T → List (Root L J)) (ps : List (Pending J T)) (p : Pending J T) → pending_nodes nodes (ps ++ p ∷ []) ≡ pending_nodes nodes ps ++ Joined p.joint ∷ left_nodes nodes p.left

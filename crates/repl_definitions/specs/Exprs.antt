@@ -2,16 +2,16 @@
 use Rattle.std.specs.Prelude.{ℕ, List, [], ◌∷◌, ◌++◌}
 use Rattle.repl_types.specs.ValueText.{IsValue}
 use Rattle.repl_types.specs.declared.value.Value.TheVariants as values
-use Rattle.repl_records.specs.declared.tree.Expr.{Expr, Expr-F, out-Expr, fold-Expr}
-use Rattle.repl_records.specs.declared.tree.Expr.TheOpen as layer
-use Rattle.row_codec.specs.declared.nested.Root.{Root}
-use Rattle.row_codec.specs.declared.nested.Root.TheVariants.{Single, Joined}
-use Rattle.row_codec.specs.declared.expr.ExprLeaf.{ExprLeaf}
-use Rattle.row_codec.specs.declared.expr.ExprLeaf.TheVariants.{Column, Int, Text}
-use Rattle.row_codec.specs.declared.expr.ExprJoint.{ExprJoint}
-use Rattle.row_codec.specs.declared.expr.ExprJoint.TheVariants.{Add, Sub, Mul, Concat}
+use Rattle.repl_definitions.specs.declared.expr.Expr.{Expr, Expr-F, out-Expr, fold-Expr}
+use Rattle.repl_definitions.specs.declared.expr.Expr.TheOpen as layer
+use Rattle.repl_definitions.specs.declared.nested.Root.{Root}
+use Rattle.repl_definitions.specs.declared.nested.Root.TheVariants.{Single, Joined}
+use Rattle.repl_definitions.specs.declared.expr.ExprLeaf.{ExprLeaf}
+use Rattle.repl_definitions.specs.declared.expr.ExprLeaf.TheVariants.{Column, Int, Text}
+use Rattle.repl_definitions.specs.declared.expr.ExprJoint.{ExprJoint}
+use Rattle.repl_definitions.specs.declared.expr.ExprJoint.TheVariants.{Add, Sub, Mul, Concat}
 use Rattle.row_codec.specs.Spelling.{b16, Is16, value_spelling}
-use Rattle.row_codec.specs.Forests.{nodes_spelling, NodesFit}
+use Rattle.repl_definitions.specs.Forests.{nodes_spelling, NodesFit}
 
 -- ---- nodes
 

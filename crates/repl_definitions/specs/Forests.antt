@@ -1,8 +1,8 @@
 -- Trees as lists of nodes: the root, then the tree at its left, then that at its right.
 use Rattle.std.specs.Prelude.{ℕ, zero, suc, List, [], ◌∷◌}
 use Rattle.std.specs.List.{flat_map, AllByRecursion}
-use Rattle.row_codec.specs.declared.nested.Root.{Root}
-use Rattle.row_codec.specs.declared.nested.Root.TheVariants.{Single, Joined}
+use Rattle.repl_definitions.specs.declared.nested.Root.{Root}
+use Rattle.repl_definitions.specs.declared.nested.Root.TheVariants.{Single, Joined}
 
 -- so many trees, one after another: a leaf is a tree, and a joint is one where two trees follow
 abbrev pub IsForest : {L J : Type 0} → ℕ → List (Root L J) → Type 0

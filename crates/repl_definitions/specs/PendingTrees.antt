@@ -1,8 +1,8 @@
 -- Trees that are being read.
 use Rattle.std.specs.Prelude.{ℕ, ◌+◌, List, [], ◌∷◌, ◌++◌, Option, Some, None}
-use Rattle.row_codec.specs.declared.nested.Root.{Root}
-use Rattle.row_codec.specs.declared.nested.Root.TheVariants.{Joined}
-use Rattle.row_codec.specs.declared.nested.Pending.{Pending}
+use Rattle.repl_definitions.specs.declared.nested.Root.{Root}
+use Rattle.repl_definitions.specs.declared.nested.Root.TheVariants.{Joined}
+use Rattle.repl_definitions.specs.declared.nested.Pending.{Pending}
 
 -- the nodes of the left tree, where it is read
 abbrev pub left_nodes : {L J T : Type 0} → (T → List (Root L J)) → Option T → List (Root L J)

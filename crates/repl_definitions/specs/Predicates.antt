@@ -3,20 +3,20 @@ use Rattle.std.specs.Prelude.{ℕ, List, [], ◌∷◌, ◌++◌}
 use Rattle.repl_types.specs.ValueText.{IsValue}
 use Rattle.repl_types.specs.declared.value.Value.{Value}
 use Rattle.repl_types.specs.declared.value.Value.TheVariants as values
-use Rattle.repl_records.specs.declared.tree.CompareOp.{CompareOp}
-use Rattle.repl_records.specs.declared.tree.CompareOp.TheVariants.{Eq, Ne, Lt, Le, Gt, Ge}
-use Rattle.repl_records.specs.declared.tree.Operand.{Operand}
-use Rattle.repl_records.specs.declared.tree.Operand.TheVariants as operands
-use Rattle.repl_records.specs.declared.tree.Predicate.{Predicate, Predicate-F, out-Predicate, fold-Predicate}
-use Rattle.repl_records.specs.declared.tree.Predicate.TheOpen as layer
-use Rattle.row_codec.specs.declared.nested.Root.{Root}
-use Rattle.row_codec.specs.declared.nested.Root.TheVariants.{Single, Joined}
-use Rattle.row_codec.specs.declared.predicate.PredicateLeaf.{PredicateLeaf}
-use Rattle.row_codec.specs.declared.predicate.PredicateLeaf.TheVariants.{Compare, IsNull, IsNotNull}
-use Rattle.row_codec.specs.declared.predicate.PredicateJoint.{PredicateJoint}
-use Rattle.row_codec.specs.declared.predicate.PredicateJoint.TheVariants.{And, Or}
+use Rattle.repl_definitions.specs.declared.predicate.CompareOp.{CompareOp}
+use Rattle.repl_definitions.specs.declared.predicate.CompareOp.TheVariants.{Eq, Ne, Lt, Le, Gt, Ge}
+use Rattle.repl_definitions.specs.declared.predicate.Operand.{Operand}
+use Rattle.repl_definitions.specs.declared.predicate.Operand.TheVariants as operands
+use Rattle.repl_definitions.specs.declared.predicate.Predicate.{Predicate, Predicate-F, out-Predicate, fold-Predicate}
+use Rattle.repl_definitions.specs.declared.predicate.Predicate.TheOpen as layer
+use Rattle.repl_definitions.specs.declared.nested.Root.{Root}
+use Rattle.repl_definitions.specs.declared.nested.Root.TheVariants.{Single, Joined}
+use Rattle.repl_definitions.specs.declared.predicate.PredicateLeaf.{PredicateLeaf}
+use Rattle.repl_definitions.specs.declared.predicate.PredicateLeaf.TheVariants.{Compare, IsNull, IsNotNull}
+use Rattle.repl_definitions.specs.declared.predicate.PredicateJoint.{PredicateJoint}
+use Rattle.repl_definitions.specs.declared.predicate.PredicateJoint.TheVariants.{And, Or}
 use Rattle.row_codec.specs.Spelling.{Any, b16, Is16, value_spelling}
-use Rattle.row_codec.specs.Forests.{nodes_spelling, NodesFit}
+use Rattle.repl_definitions.specs.Forests.{nodes_spelling, NodesFit}
 
 -- ---- comparisons
 

@@ -1,9 +1,9 @@
 -- How much of a tree is at the left.
 use Rattle.std.specs.Prelude.{ℕ, ◌+◌, ◌*◌}
-use Rattle.repl_records.specs.declared.tree.Expr.{Expr, Expr-F, fold-Expr}
-use Rattle.repl_records.specs.declared.tree.Expr.TheOpen as expr
-use Rattle.repl_records.specs.declared.tree.Predicate.{Predicate, Predicate-F, fold-Predicate}
-use Rattle.repl_records.specs.declared.tree.Predicate.TheOpen.{Compare, IsNull, IsNotNull, And, Or}
+use Rattle.repl_definitions.specs.declared.expr.Expr.{Expr, Expr-F, fold-Expr}
+use Rattle.repl_definitions.specs.declared.expr.Expr.TheOpen as expr
+use Rattle.repl_definitions.specs.declared.predicate.Predicate.{Predicate, Predicate-F, fold-Predicate}
+use Rattle.repl_definitions.specs.declared.predicate.Predicate.TheOpen.{Compare, IsNull, IsNotNull, And, Or}
 
 -- the left counts twice, so that a tree weighs less when its left is moved to its right
 abbrev pub expr_layer : Expr-F ℕ → ℕ

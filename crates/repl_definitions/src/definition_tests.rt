@@ -1,16 +1,12 @@
-//! Log records and definitions against spellings that are worked out by hand.
+//! Definitions against spellings that are worked out by hand.
 
-use crate::part::Part;
-use crate::stored::Stored;
-use crate::take_error::TakeError;
-use repl_records::{DefinedRegistration, DefinedTable, Expr, Predicate, SourceSet, TargetSet};
-use repl_types::LogRecord;
+use crate::{DefinedRegistration, DefinedTable, Expr, Predicate, SourceSet, TargetSet};
+use row_codec::{Part, Stored, TakeError};
 use std::alloc::Global;
 use std::test::Fail;
 
 /// Whether the bytes are a record's that is put as these bytes again.
 fn is_spelling<T: Stored>(alloc: Global, bytes: &[u8]) -> Result<bool, Fail>
-    requires { (value : T) → T.fits value → T.has_spelling value }
 {
     let value = match T::take(alloc, bytes) {
         Ok(value) => value,
@@ -32,7 +28,6 @@ fn is_refused<T: Stored>(alloc: Global, bytes: &[u8]) -> bool {
 
 /// Whether the bytes are a record's, and no record's with a byte less or a byte more.
 fn is_whole<T: Stored>(alloc: Global, bytes: &[u8]) -> Result<bool, Fail>
-    requires { (value : T) → T.fits value → T.has_spelling value }
 {
     let Some((_, front)) = bytes.split_last() else {
         return Ok(false);
@@ -47,43 +42,6 @@ fn is_whole<T: Stored>(alloc: Global, bytes: &[u8]) -> Result<bool, Fail>
 }
 
 #[test]
-#[tactic(auto, using(crate::proofs::Again::log_again))]
-fn log_records_have_their_spellings(rt: HostRuntime) -> Result<(), Fail> {
-    let records: [&[u8]; 8] = [
-        b"\x11\0\0\0\x01\x06orders\0\x03\x01\x80\0\0\0\0\0\0\x01\x02pen\0\0\x01\x80\0\0\0\0\0\0\x14",
-        b"\x12\0\0\0\x07\x01t\0\x01\0\0\x01\x02a\0\0",
-        b"\x13\0\0\0\x07\x01t\0\x01\x01\x80\0\0\0\0\0\0\0",
-        b"\x14\0\0\0\x07\0\0\0\0\0\0\0\x3c\x03ann\0",
-        b"\x14\0\0\0\x07\0\0\0\0\0\0\0\x3c\x03ann\x01\x01q\x01n",
-        b"\x15\0\0\0\x07",
-        b"\x16\0\0\0\0\x01t",
-        b"\x17\0\0\0\0\x01t",
-    ];
-    for record in records {
-        assert!(rt; is_whole::<LogRecord>(rt.alloc(), record)?);
-    }
-    Ok(())
-}
-
-#[test]
-fn other_bytes_are_no_log_records(rt: HostRuntime) {
-    let records: [&[u8]; 8] = [
-        b"",
-        b"\x10\0\0\0\x07",
-        b"\x18\0\0\0\x07",
-        b"\x16\0\0\0\0\x01T",
-        b"\x16\0\0\0\0\0",
-        b"\x11\0\0\0\x07\x01t\0\x02\0",
-        b"\x13\0\0\0\x07\x01t\0\x01\x03",
-        b"\x14\0\0\0\x07\0\0\0\0\0\0\0\x3c\x03ann\x02\x01q\x01n",
-    ];
-    for record in records {
-        assert!(rt; is_refused::<LogRecord>(rt.alloc(), record));
-    }
-}
-
-#[test]
-#[tactic(auto, using(crate::proofs::Again::table_again, crate::proofs::Again::registration_again))]
 fn tables_and_registrations_have_their_spellings(rt: HostRuntime) -> Result<(), Fail> {
     let alloc = rt.alloc();
     let table = b"\0\0\0\x03\x05items\0\x02\x02id\x01\0\x04name\x02\x01\0\x01\0\0\0\x01\0\0";
@@ -124,7 +82,6 @@ fn set_with(alloc: Global, member: &[u8]) -> Result<Vec<u8>, Fail> {
 }
 
 #[test]
-#[tactic(auto, using(crate::proofs::Again::source_set_again, crate::proofs::Again::target_set_again))]
 fn sets_have_their_spellings(rt: HostRuntime) -> Result<(), Fail> {
     let alloc = rt.alloc();
     let members: [&[u8]; 6] = [
@@ -193,7 +150,6 @@ fn deep_right(alloc: Global, joint: u8, leaf: u8) -> Result<Vec<u8>, Fail> {
 }
 
 /// Whether the bytes are an expression's that is put as these bytes again.
-#[tactic(auto, using(crate::proofs::Again::expr_again))]
 fn is_expr(alloc: Global, bytes: &[u8]) -> Result<bool, Fail> {
     let (expr, rest) = match Expr::take_part(alloc, bytes) {
         Ok(taken) => taken,
@@ -205,7 +161,6 @@ fn is_expr(alloc: Global, bytes: &[u8]) -> Result<bool, Fail> {
 }
 
 /// Whether the bytes are a predicate's that is put as these bytes again.
-#[tactic(auto, using(crate::proofs::Again::predicate_again))]
 fn is_predicate(alloc: Global, bytes: &[u8]) -> Result<bool, Fail> {
     let (predicate, rest) = match Predicate::take_part(alloc, bytes) {
         Ok(taken) => taken,

@@ -1,15 +1,85 @@
 //! Expressions.
 
-ghost use Rattle.row_codec.specs.Exprs.{expr_node_spelling, IsExprNode, HasExprNodeSpelling, expr_top, expr_nodes, expr_spelling, IsExpr, HasExprSpelling};
-ghost use Rattle.row_codec.specs.ExprLaws.{one_expr_node, filled_expr_node, expr_forest, expr_first, one_expr};
+ghost use Rattle.std.specs.Prelude.{◌≡◌, ◌+◌, ◌*◌, ◌<◌};
+ghost use Rattle.repl_definitions.specs.Exprs.{expr_node_spelling, IsExprNode, HasExprNodeSpelling, expr_top, expr_nodes, expr_spelling, IsExpr, HasExprSpelling};
+ghost use Rattle.repl_definitions.specs.Weights.{expr_weight};
+ghost use Rattle.repl_definitions.specs.laws.Exprs.{one_expr_node, filled_expr_node, expr_forest, expr_first, one_expr, again_expr};
 
+use crate::boxed::Boxed;
 use crate::nested::{Nested, Root, put_nested, take_nested};
-use crate::part::Part;
-use crate::take_error::TakeError;
-use crate::value::put_text;
-use repl_records::{Boxed, Expr};
 use repl_types::{Text, Value};
+use row_codec::{Part, TakeError, put_text};
 use std::alloc::{AllocError, Global};
+
+/// An expression. A column is its place in the source table, counted from 0.
+#[derive(Debug, PartialEq, Eq)]
+pub enum Expr {
+    Column(u32),
+    Int(i64),
+    Text(Text),
+    Add(Boxed<Expr>, Boxed<Expr>),
+    Sub(Boxed<Expr>, Boxed<Expr>),
+    Mul(Boxed<Expr>, Boxed<Expr>),
+    Concat(Boxed<Expr>, Boxed<Expr>),
+}
+
+impl Drop for Expr {
+    // A tree may be nested as deep as a stored value is long, so dropping one doesn't recurse: while a tree
+    // is at the left of another, it is moved to the right.
+    fn drop(mut self) {
+        loop {
+            match self {
+                Expr::Column(_) | Expr::Int(_) => return,
+                Expr::Text(_) => return,
+                Expr::Add(left, right)
+                | Expr::Sub(left, right)
+                | Expr::Mul(left, right)
+                | Expr::Concat(left, right) => {
+                    let mut place = left;
+                    let first = place.replace(Expr::Column(0));
+                    self = first.turned(place, right);
+                }
+            }
+        }
+    }
+}
+
+impl Expr {
+    /// What is left to drop of an expression that was at the left of another, of its place, and of the one
+    /// at its right.
+    fn turned(self, mut place: Boxed<Expr>, right: Boxed<Expr>) -> Expr
+        requires { place ≡ Expr.Column 0 }
+        ensures { expr_weight result < 1 + 2 * expr_weight self + expr_weight right }
+    {
+        match self {
+            Expr::Add(first, second)
+            | Expr::Sub(first, second)
+            | Expr::Mul(first, second)
+            | Expr::Concat(first, second) => {
+                place.replace(Expr::Add(second, right)).gone();
+                Expr::Add(first, place)
+            }
+            Expr::Column(_) | Expr::Int(_) => {
+                place.into_inner().gone();
+                right.into_inner()
+            }
+            Expr::Text(_) => {
+                place.into_inner().gone();
+                right.into_inner()
+            }
+        }
+    }
+
+    /// Lets a leaf go.
+    fn gone(self)
+        requires { self ≡ Expr.Column 0 }
+    {
+        match self {
+            Expr::Column(_) => {}
+            _ => unreachable!(),
+        }
+    }
+}
 
 /// An expression that has no other below it.
 #[derive(Drop)]
@@ -76,7 +146,7 @@ impl Nested for Expr {
         }
     }
 
-    #[tactic(auto, using(crate::specs::ExprLaws::expr_views))]
+    #[tactic(auto, using(crate::specs::laws::Exprs::expr_views))]
     fn put_root(&self, out: &mut Vec<u8>) -> Result<Option<(&Expr, &Expr)>, AllocError> {
         match self {
             Expr::Column(place) => {
@@ -113,7 +183,7 @@ impl Nested for Expr {
         }
     }
 
-    #[tactic(auto, using(crate::specs::ExprLaws::expr_views))]
+    #[tactic(auto, using(crate::specs::laws::Exprs::expr_views))]
     fn leaf(leaf: ExprLeaf) -> Expr {
         match leaf {
             ExprLeaf::Column(place) => Expr::Column(place),
@@ -122,7 +192,7 @@ impl Nested for Expr {
         }
     }
 
-    #[tactic(auto, using(crate::specs::ExprLaws::expr_views))]
+    #[tactic(auto, using(crate::specs::laws::Exprs::expr_views))]
     fn join(alloc: Global, joint: ExprJoint, left: Expr, right: Expr) -> Result<Expr, AllocError> {
         let left = Boxed::new(alloc, left)?;
         let right = Boxed::new(alloc, right)?;
@@ -143,6 +213,8 @@ impl Part for Expr {
     ghost spelling = { expr_spelling };
 
     ghost one = { one_expr };
+
+    ghost again = { again_expr };
 
     fn put_part(&self, out: &mut Vec<u8>) -> Result<(), AllocError> {
         put_nested::<Expr>(self, out)

@@ -5,13 +5,13 @@
 
 ghost use Rattle.std.specs.Prelude.{◌≡◌, ◌≢◌, ◌++◌, ◌∷◌, ◌+◌, [], ℕ, List, OnOk, IfOk, IfNone, IfSome, MatchOption};
 ghost use Rattle.std.specs.List.{flat_map, AllByRecursion};
-ghost use Rattle.row_codec.specs.declared.nested.Root.{Root};
-ghost use Rattle.row_codec.specs.declared.nested.Root.TheVariants.{Single, Joined};
+ghost use Rattle.repl_definitions.specs.declared.nested.Root.{Root};
+ghost use Rattle.repl_definitions.specs.declared.nested.Root.TheVariants.{Single, Joined};
 ghost use Rattle.row_codec.specs.Takes.{NoFront, One};
-ghost use Rattle.row_codec.specs.Forests.{IsForest, nodes_spelling, NodesFit};
-ghost use Rattle.row_codec.specs.PendingTrees.{pending_nodes, owed};
+ghost use Rattle.repl_definitions.specs.Forests.{IsForest, nodes_spelling, NodesFit};
+ghost use Rattle.repl_definitions.specs.PendingTrees.{pending_nodes, owed};
 
-use crate::take_error::TakeError;
+use row_codec::TakeError;
 use std::alloc::{AllocError, Global};
 
 /// What stands at the top of a tree: a leaf, or what joins two trees.
@@ -48,7 +48,7 @@ pub(crate) trait Nested: Sized + Drop {
         ensures ok { IfOk result (λ taken. node_fits taken.0 × (bytes.now ≡ node_spelling taken.0 ++ taken.1.now)) }
         ensures spelling { result ≡ Err TakeError.Spelling → NoFront node_fits node_spelling bytes.now };
 
-    /// Appends the spelling of the node at the top, and tells the trees below it.
+    /// Appends the spelling of the node at the top, and gives the trees below it.
     fn put_root(&self, out: &mut Vec<u8>) -> Result<Option<(&Self, &Self)>, AllocError>
         requires { has_node_spelling (top self.now) }
         ensures ok { OnOk result (out.new.items ≡ out.old.items ++ node_spelling (top self.now)) }
@@ -101,7 +101,7 @@ pub(crate) fn take_nested<T: Nested>(alloc: Global, bytes: &[u8]) -> Result<(T, 
 }
 
 /// Puts a tree that is read below the node that waits for it, and so on where that is then a whole tree.
-/// It tells the tree where no node is left to wait.
+/// It gives the tree if no node is left to wait.
 fn settle<T: Nested>(
     alloc: Global,
     pending: &mut Vec<Pending<T::Joint, T>>,

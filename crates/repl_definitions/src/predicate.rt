@@ -1,16 +1,107 @@
 //! Predicates.
 
+ghost use Rattle.std.specs.Prelude.{◌≡◌, ◌+◌, ◌*◌, ◌<◌};
+ghost use Rattle.repl_definitions.specs.Predicates.{compare_op_spelling, operand_spelling, IsOperand, HasOperandSpelling, predicate_node_spelling, IsPredicateNode, HasPredicateNodeSpelling, predicate_top, predicate_nodes, predicate_spelling, IsPredicate, HasPredicateSpelling};
+ghost use Rattle.repl_definitions.specs.Weights.{predicate_weight};
+ghost use Rattle.repl_definitions.specs.laws.Predicates.{one_compare_op, one_operand, again_operand, one_predicate_node, filled_predicate_node, predicate_forest, predicate_first, one_predicate, again_predicate};
 ghost use Rattle.row_codec.specs.Spelling.{Any};
-ghost use Rattle.row_codec.specs.Predicates.{compare_op_spelling, operand_spelling, IsOperand, HasOperandSpelling, predicate_node_spelling, IsPredicateNode, HasPredicateNodeSpelling, predicate_top, predicate_nodes, predicate_spelling, IsPredicate, HasPredicateSpelling};
-ghost use Rattle.row_codec.specs.PredicateLaws.{one_compare_op, one_operand, one_predicate_node, filled_predicate_node, predicate_forest, predicate_first, one_predicate};
 
+use crate::boxed::Boxed;
 use crate::nested::{Nested, Root, put_nested, take_nested};
-use crate::part::Part;
-use crate::parts::take_three;
-use crate::take_error::TakeError;
-use repl_records::{Boxed, CompareOp, Operand, Predicate};
 use repl_types::Value;
+use row_codec::{Part, TakeError, take_three};
 use std::alloc::{AllocError, Global};
+
+/// Which rows a member takes.
+#[derive(Debug, PartialEq, Eq)]
+pub enum Predicate {
+    Compare {
+        left: Operand,
+        op: CompareOp,
+        right: Operand,
+    },
+    IsNull(u32),
+    IsNotNull(u32),
+    And(Boxed<Predicate>, Boxed<Predicate>),
+    Or(Boxed<Predicate>, Boxed<Predicate>),
+}
+
+impl Drop for Predicate {
+    // As for an expression.
+    fn drop(mut self) {
+        loop {
+            match self {
+                Predicate::Compare {
+                    left: _,
+                    op: _,
+                    right: _,
+                } => return,
+                Predicate::IsNull(_) | Predicate::IsNotNull(_) => return,
+                Predicate::And(left, right) | Predicate::Or(left, right) => {
+                    let mut place = left;
+                    let first = place.replace(Predicate::IsNull(0));
+                    self = first.turned(place, right);
+                }
+            }
+        }
+    }
+}
+
+impl Predicate {
+    /// What is left to drop of a predicate that was at the left of another, of its place, and of the one at
+    /// its right.
+    fn turned(self, mut place: Boxed<Predicate>, right: Boxed<Predicate>) -> Predicate
+        requires { place ≡ Predicate.IsNull 0 }
+        ensures { predicate_weight result < 1 + 2 * predicate_weight self + predicate_weight right }
+    {
+        match self {
+            Predicate::And(first, second) | Predicate::Or(first, second) => {
+                place.replace(Predicate::And(second, right)).gone();
+                Predicate::And(first, place)
+            }
+            Predicate::Compare {
+                left: _,
+                op: _,
+                right: _,
+            } => {
+                place.into_inner().gone();
+                right.into_inner()
+            }
+            Predicate::IsNull(_) | Predicate::IsNotNull(_) => {
+                place.into_inner().gone();
+                right.into_inner()
+            }
+        }
+    }
+
+    /// Lets a leaf go.
+    fn gone(self)
+        requires { self ≡ Predicate.IsNull 0 }
+    {
+        match self {
+            Predicate::IsNull(_) => {}
+            _ => unreachable!(),
+        }
+    }
+}
+
+/// One side of a comparison: a column, or a value other than NULL.
+#[derive(Debug, Drop, PartialEq, Eq)]
+pub enum Operand {
+    Column(u32),
+    Value(Value),
+}
+
+/// How two operands are compared.
+#[derive(Clone, Copy, Debug, PartialEq, Eq)]
+pub enum CompareOp {
+    Eq,
+    Ne,
+    Lt,
+    Le,
+    Gt,
+    Ge,
+}
 
 impl Part for CompareOp {
     ghost fits = { Any };
@@ -20,6 +111,8 @@ impl Part for CompareOp {
     ghost spelling = { compare_op_spelling };
 
     ghost one = { one_compare_op };
+
+    ghost again = { λ _ _. tt };
 
     fn put_part(&self, out: &mut Vec<u8>) -> Result<(), AllocError> {
         let number = match self {
@@ -54,6 +147,8 @@ impl Part for Operand {
     ghost spelling = { operand_spelling };
 
     ghost one = { one_operand };
+
+    ghost again = { again_operand };
 
     fn put_part(&self, out: &mut Vec<u8>) -> Result<(), AllocError> {
         match self {
@@ -157,7 +252,7 @@ impl Nested for Predicate {
         }
     }
 
-    #[tactic(auto, using(crate::specs::PredicateLaws::predicate_views))]
+    #[tactic(auto, using(crate::specs::laws::Predicates::predicate_views))]
     fn put_root(&self, out: &mut Vec<u8>) -> Result<Option<(&Predicate, &Predicate)>, AllocError> {
         match self {
             Predicate::Compare { left, op, right } => {
@@ -188,7 +283,7 @@ impl Nested for Predicate {
         }
     }
 
-    #[tactic(auto, using(crate::specs::PredicateLaws::predicate_views))]
+    #[tactic(auto, using(crate::specs::laws::Predicates::predicate_views))]
     fn leaf(leaf: PredicateLeaf) -> Predicate {
         match leaf {
             PredicateLeaf::Compare { left, op, right } => Predicate::Compare { left, op, right },
@@ -197,7 +292,7 @@ impl Nested for Predicate {
         }
     }
 
-    #[tactic(auto, using(crate::specs::PredicateLaws::predicate_views))]
+    #[tactic(auto, using(crate::specs::laws::Predicates::predicate_views))]
     fn join(
         alloc: Global,
         joint: PredicateJoint,
@@ -221,6 +316,8 @@ impl Part for Predicate {
     ghost spelling = { predicate_spelling };
 
     ghost one = { one_predicate };
+
+    ghost again = { again_predicate };
 
     fn put_part(&self, out: &mut Vec<u8>) -> Result<(), AllocError> {
         put_nested::<Predicate>(self, out)

@@ -6,8 +6,9 @@ ghost use Rattle.std.specs.Cmp.Lexicographic.{slice_cmp};
 ghost use Rattle.std.specs.declared.cmp.Ordering.{Ordering};
 ghost use Rattle.repl_types.specs.Sizes.{IsKeySize};
 ghost use Rattle.row_codec.specs.Order.{Ordered, name_cmp, set_cmp};
-ghost use Rattle.row_codec.specs.Spelling.{Any};
+ghost use Rattle.row_codec.specs.Spelling.{Any, short_text, set_spelling, IsName, IsSet};
 ghost use Rattle.row_codec.specs.Takes.{NoSpelling};
+ghost use Rattle.row_codec.specs.laws.Names.{one_name, one_set};
 ghost use Rattle.row_codec.specs.laws.Ones.{one_whole};
 ghost use Rattle.row_codec.specs.laws.Orders.{order32, order64, order_name, order_set, whole_order};
 ghost use Rattle.row_codec.specs.laws.Sizes.{key32, key64, key_name, key_set};
@@ -111,22 +112,56 @@ impl PartKey for u64 {
     ghost small = { key64 };
 }
 
-impl PartKey for Name {
+// The names that are keys have implementations of their own: a kind of record in another crate whose
+// key is a type of a third one can't take it from the implementation for all parts.
+impl Key for Name {
+    ghost fits = { IsName };
+
+    ghost spelling = { short_text };
+
     ghost cmp = { name_cmp };
 
-    ghost spelled = { λ _. tt };
+    ghost storable = { Any };
 
-    ghost ordered = { order_name };
+    ghost one = { one_whole IsName short_text one_name };
 
-    ghost small = { key_name };
+    ghost order = { whole_order IsName short_text name_cmp order_name };
+
+    ghost sized = { λ key fits _. key_name key fits };
+
+    ghost again = { λ _ _ _. tt };
+
+    fn put_key(&self, out: &mut Vec<u8>) -> Result<(), AllocError> {
+        self.put_part(out)
+    }
+
+    fn take_key(alloc: Global, bytes: &[u8]) -> Result<Name, TakeError> {
+        take_whole::<Name>(alloc, bytes)
+    }
 }
 
-impl PartKey for SetId {
+impl Key for SetId {
+    ghost fits = { IsSet };
+
+    ghost spelling = { set_spelling };
+
     ghost cmp = { set_cmp };
 
-    ghost spelled = { λ _. tt };
+    ghost storable = { Any };
 
-    ghost ordered = { order_set };
+    ghost one = { one_whole IsSet set_spelling one_set };
 
-    ghost small = { key_set };
+    ghost order = { whole_order IsSet set_spelling set_cmp order_set };
+
+    ghost sized = { λ key fits _. key_set key fits };
+
+    ghost again = { λ _ _ _. tt };
+
+    fn put_key(&self, out: &mut Vec<u8>) -> Result<(), AllocError> {
+        self.put_part(out)
+    }
+
+    fn take_key(alloc: Global, bytes: &[u8]) -> Result<SetId, TakeError> {
+        take_whole::<SetId>(alloc, bytes)
+    }
 }

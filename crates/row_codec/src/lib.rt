@@ -13,6 +13,8 @@ mod key;
 mod laws;
 mod list;
 mod log_record;
+#[cfg(test)]
+mod log_tests;
 mod name;
 mod number;
 mod operation;

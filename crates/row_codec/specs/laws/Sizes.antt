@@ -21,7 +21,7 @@ key64 n fits = key_size (b64 n) (omega (arith, length64 n)) (omega (arith, lengt
 -- a name has at most 32 bytes
 pub name_length : (name : List ℕ) → IsName name → length name ≤ 32
 name_length [] fits = omega arith
-name_length (b ∷ bs) fits = let short = leb-true (length bs) 31 (and_parts _ _ (and_parts _ _ fits).0).1 in omega (arith, short)
+name_length (b ∷ bs) fits = let short : length bs ≤ 31 = leb-true (length bs) 31 (and_parts _ _ (and_parts _ _ fits).0).1 in omega (arith, short)
 
 -- names
 pub key_name : (name : List ℕ) → IsName name → IsKeySize (short_text name)

@@ -1,8 +1,8 @@
 use Rattle.std.proofs.Common.{[], length, ap, subst, arith, Bor}
 use Rattle.std.proofs.lemmas.Option.{MatchOption-at_none, MatchOption-at_some}
-use Rattle.row_codec.specs.Forests.{NodesFit}
-use Rattle.row_codec.proofs.Trees.{stacked-top, stacked-below, writes-more}
-use Rattle.row_codec.proofs.nested.put_nested.Goals as goal
+use Rattle.repl_definitions.specs.Forests.{NodesFit}
+use Rattle.repl_definitions.proofs.Trees.{stacked-top, stacked-below, writes-more}
+use Rattle.repl_definitions.proofs.nested.put_nested.Goals as goal
 
 pub put_root-requires : goal.put_root-requires
 put_root-requires g c =

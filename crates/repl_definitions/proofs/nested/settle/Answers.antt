@@ -1,6 +1,6 @@
 use Rattle.std.proofs.Common.{◌∙◌, refl}
-use Rattle.row_codec.proofs.Trees.{pending-joined, pending-left}
-use Rattle.row_codec.proofs.nested.settle.Goals as goal
+use Rattle.repl_definitions.proofs.Trees.{pending-joined, pending-left}
+use Rattle.repl_definitions.proofs.nested.settle.Goals as goal
 
 pub loop-node-preserved : goal.loop-node-preserved
 loop-node-preserved g c =

@@ -1,10 +1,10 @@
 use Rattle.std.proofs.Common.{◌≡◌, ◌∙◌, [], ◌∷◌, ◌++◌, ◌+◌, ap, sym, subst}
 use Rattle.std.proofs.lemmas.Option.{MatchOption-at_none}
-use Rattle.row_codec.specs.PendingTrees.{pending_nodes, owed}
-use Rattle.row_codec.specs.Forests.{NodesFit}
-use Rattle.row_codec.proofs.Trees.{pending_nodes-push, owed-push}
-use Rattle.row_codec.proofs.Forests.{NodesFit-push, read_more, begins-single, begins-joined, shorter}
-use Rattle.row_codec.proofs.nested.take_nested.Goals as goal
+use Rattle.repl_definitions.specs.PendingTrees.{pending_nodes, owed}
+use Rattle.repl_definitions.specs.Forests.{NodesFit}
+use Rattle.repl_definitions.proofs.Trees.{pending_nodes-push, owed-push}
+use Rattle.repl_definitions.proofs.Forests.{NodesFit-push, read_more, begins-single, begins-joined, shorter}
+use Rattle.repl_definitions.proofs.nested.take_nested.Goals as goal
 
 pub loop-pending-preserved-in-Continue-branch-2 : goal.loop-pending-preserved-in-Continue-branch-2
 loop-pending-preserved-in-Continue-branch-2 g c =

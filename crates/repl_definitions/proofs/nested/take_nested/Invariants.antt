@@ -1,8 +1,8 @@
 use Rattle.std.proofs.Common.{◌≡◌, ℕ, suc, List, ◌++◌, length}
-use Rattle.row_codec.specs.declared.nested.Root.{Root}
-use Rattle.row_codec.specs.Forests.{IsForest, nodes_spelling, NodesFit}
-use Rattle.row_codec.specs.PendingTrees.{pending_nodes, owed}
-use Rattle.row_codec.proofs.nested.take_nested.Given as goal
+use Rattle.repl_definitions.specs.declared.nested.Root.{Root}
+use Rattle.repl_definitions.specs.Forests.{IsForest, nodes_spelling, NodesFit}
+use Rattle.repl_definitions.specs.PendingTrees.{pending_nodes, owed}
+use Rattle.repl_definitions.proofs.nested.take_nested.Given as goal
 
 -- where the bytes begin with a tree, those that are left begin with the tree that is read and those
 -- that are owed

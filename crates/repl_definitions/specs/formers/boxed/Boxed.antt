@@ -17,10 +17,10 @@ use Rattle.std.specs.contracts.boxed.Box as box
 use Rattle.std.specs.declared.alloc.Global.{Global}
 use Rattle.std.specs.contracts.alloc.Global as heap
 use Rattle.std.specs.contracts.impls.GlobalAllocator.TheImpl.{ghosts}
-use Rattle.repl_records.specs.declared.boxed.Boxed.TheInside.{Inside}
-use Rattle.repl_records.specs.declared.boxed.Boxed.TheView.{view, invariant}
-use Rattle.repl_records.specs.contracts.boxed.Boxed as C
-use Rattle.repl_records.specs.contracts.boxed.Boxed.TheInside as I
+use Rattle.repl_definitions.specs.declared.boxed.Boxed.TheInside.{Inside}
+use Rattle.repl_definitions.specs.declared.boxed.Boxed.TheView.{view, invariant}
+use Rattle.repl_definitions.specs.contracts.boxed.Boxed as C
+use Rattle.repl_definitions.specs.contracts.boxed.Boxed.TheInside as I
 
 -- a clause sees a box as its value
 abbrev pub the_former : Former {0} → Former {0}

@@ -2,10 +2,10 @@ use Rattle.std.proofs.Common.{[], ◌∷◌, ◌++◌, SFits, w64, rules, ap, �
 use Rattle.std.proofs.lemmas.Int.{to_z-of_z}
 use Rattle.repl_types.specs.declared.value.Value.TheVariants as values
 use Rattle.row_codec.specs.Spelling.{b16, zeros_marked, value_spelling}
-use Rattle.row_codec.specs.Exprs.{expr_node_spelling, expr_top}
-use Rattle.row_codec.specs.ExprLaws.{top_column, top_int, top_text}
-use Rattle.row_codec.proofs.Tagged.{tagged}
-use Rattle.row_codec.proofs.expr.ExprNested.put_root.Goals as goal
+use Rattle.repl_definitions.specs.Exprs.{expr_node_spelling, expr_top}
+use Rattle.repl_definitions.specs.laws.Exprs.{top_column, top_int, top_text}
+use Rattle.repl_definitions.proofs.Tagged.{tagged}
+use Rattle.repl_definitions.proofs.expr.ExprNested.put_root.Goals as goal
 
 pub returns-in_ok-put_part-in-Column-clause-ok : goal.returns-in_ok-put_part-in-Column-clause-ok
 returns-in_ok-put_part-in-Column-clause-ok c =

@@ -1,9 +1,9 @@
 use Rattle.std.proofs.Common.{◌≡◌, ◌≤◌, ◌-◌, Err, ap, ◌∙◌, get_or, drop, length, length-drop, arith}
 use Rattle.std.proofs.lemmas.List.{take_all}
 use Rattle.row_codec.specs.declared.take_error.TakeError.{TakeError}
-use Rattle.row_codec.proofs.Exits.{handed_on}
-use Rattle.row_codec.proofs.Tagged.{value_node}
-use Rattle.row_codec.proofs.expr.ExprNested.take_root.Goals as goal
+use Rattle.row_codec.specs.laws.Exits.{handed_on}
+use Rattle.repl_definitions.proofs.Tagged.{value_node}
+use Rattle.repl_definitions.proofs.expr.ExprNested.take_root.Goals as goal
 
 pub returns-in_err-value-in-17-clause-spelling : goal.returns-in_err-value-in-17-clause-spelling
 returns-in_err-value-in-17-clause-spelling c e x rest fits h =

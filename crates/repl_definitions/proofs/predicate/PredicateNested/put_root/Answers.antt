@@ -1,9 +1,9 @@
 use Rattle.std.proofs.Common.{◌++◌, ap, ◌∙◌}
 use Rattle.row_codec.specs.Spelling.{b16}
-use Rattle.row_codec.specs.Predicates.{compare_op_spelling, operand_spelling, predicate_node_spelling, predicate_top}
-use Rattle.row_codec.specs.PredicateLaws.{top_compare, top_null, top_not_null}
-use Rattle.row_codec.proofs.Tagged.{tagged, three_written}
-use Rattle.row_codec.proofs.predicate.PredicateNested.put_root.Goals as goal
+use Rattle.repl_definitions.specs.Predicates.{compare_op_spelling, operand_spelling, predicate_node_spelling, predicate_top}
+use Rattle.repl_definitions.specs.laws.Predicates.{top_compare, top_null, top_not_null}
+use Rattle.repl_definitions.proofs.Tagged.{tagged, three_written}
+use Rattle.repl_definitions.proofs.predicate.PredicateNested.put_root.Goals as goal
 
 pub returns-in_ok-put_part-in-Compare-3-clause-ok : goal.returns-in_ok-put_part-in-Compare-3-clause-ok
 returns-in_ok-put_part-in-Compare-3-clause-ok c =

@@ -1,21 +1,22 @@
 -- Proofs that expressions have one spelling each. There is nothing to believe here.
 use Rattle.std.proofs.Common.{◌≡◌, ℕ, ℤ, List, [], ◌∷◌, ◌++◌, drop, refl, sym, ap, subst, ◌∙◌}
 use Rattle.repl_types.specs.declared.value.Value.TheVariants as values
-use Rattle.repl_records.specs.declared.tree.Expr.{Expr, Expr-F, fold-roll-Expr, ind-Expr, map-Expr, roll-Expr}
-use Rattle.repl_records.specs.declared.tree.Expr.TheOpen as layer
-use Rattle.repl_records.specs.declared.tree.Expr.TheVariants as exprs
-use Rattle.row_codec.specs.declared.nested.Root.TheVariants.{Single, Joined}
-use Rattle.row_codec.specs.declared.expr.ExprLeaf.{ExprLeaf}
-use Rattle.row_codec.specs.declared.expr.ExprLeaf.TheVariants.{Column, Int, Text}
-use Rattle.row_codec.specs.declared.expr.ExprJoint.{ExprJoint}
-use Rattle.row_codec.specs.declared.expr.ExprJoint.TheVariants.{Add, Sub, Mul, Concat}
-use Rattle.row_codec.specs.Tags.{other_tag}
+use Rattle.repl_definitions.specs.declared.expr.Expr.{Expr, Expr-F, fold-roll-Expr, ind-Expr, map-Expr, roll-Expr}
+use Rattle.repl_definitions.specs.declared.expr.Expr.TheOpen as layer
+use Rattle.repl_definitions.specs.declared.expr.Expr.TheVariants as exprs
+use Rattle.repl_definitions.specs.declared.nested.Root.TheVariants.{Single, Joined}
+use Rattle.repl_definitions.specs.declared.expr.ExprLeaf.{ExprLeaf}
+use Rattle.repl_definitions.specs.declared.expr.ExprLeaf.TheVariants.{Column, Int, Text}
+use Rattle.repl_definitions.specs.declared.expr.ExprJoint.{ExprJoint}
+use Rattle.repl_definitions.specs.declared.expr.ExprJoint.TheVariants.{Add, Sub, Mul, Concat}
+use Rattle.row_codec.specs.laws.Tags.{other_tag}
 use Rattle.row_codec.specs.Takes.{One}
-use Rattle.row_codec.specs.Numbers.{one16}
-use Rattle.row_codec.specs.Values.{one_value}
-use Rattle.row_codec.specs.Forests.{IsForest}
-use Rattle.row_codec.specs.ForestLaws.{Trees, one_tree, one_nested, has_first}
-use Rattle.row_codec.specs.Exprs.{ExprNode, expr_node_spelling, IsExprNode, layer_top, layer_below, expr_top, expr_nodes, expr_spelling, IsExpr}
+use Rattle.row_codec.specs.laws.Numbers.{one16}
+use Rattle.row_codec.specs.laws.Values.{one_value}
+use Rattle.repl_definitions.specs.Forests.{IsForest}
+use Rattle.repl_definitions.specs.laws.Forests.{Trees, one_tree, one_nested, has_first}
+use Rattle.row_codec.specs.laws.Again.{each_again}
+use Rattle.repl_definitions.specs.Exprs.{ExprNode, expr_node_spelling, IsExprNode, HasExprNodeSpelling, layer_top, layer_below, expr_top, expr_nodes, expr_spelling, IsExpr, HasExprSpelling}
 
 -- nodes
 pub one_expr_node : One IsExprNode expr_node_spelling
@@ -168,3 +169,14 @@ expr_first = has_first exprs_are expr_top top_leaf top_joined
 -- expressions
 pub one_expr : One IsExpr expr_spelling
 one_expr = one_nested exprs_are IsExprNode expr_node_spelling one_expr_node
+
+-- what is taken has a spelling: nodes
+again_expr_node : (x : ExprNode) → IsExprNode x → HasExprNodeSpelling x
+again_expr_node (Single (Column p)) fits = fits
+again_expr_node (Single (Int n)) fits = tt
+again_expr_node (Single (Text t)) fits = tt
+again_expr_node (Joined j) fits = tt
+
+-- expressions
+pub again_expr : (x : Expr) → IsExpr x → HasExprSpelling x
+again_expr x fits = each_again IsExprNode HasExprNodeSpelling again_expr_node (expr_nodes x) fits

@@ -1,9 +1,9 @@
 -- Proofs that trees have one spelling each. There is nothing to believe here.
 use Rattle.std.proofs.Common.{◌≡◌, ℕ, zero, suc, List, [], ◌∷◌, ◌++◌, refl, sym, ap, subst, ◌∙◌, append_assoc, append-nil}
-use Rattle.row_codec.specs.declared.nested.Root.{Root}
-use Rattle.row_codec.specs.declared.nested.Root.TheVariants.{Single, Joined}
+use Rattle.repl_definitions.specs.declared.nested.Root.{Root}
+use Rattle.repl_definitions.specs.declared.nested.Root.TheVariants.{Single, Joined}
 use Rattle.row_codec.specs.Takes.{One}
-use Rattle.row_codec.specs.Forests.{IsForest, nodes_spelling, NodesFit}
+use Rattle.repl_definitions.specs.Forests.{IsForest, nodes_spelling, NodesFit}
 
 -- bytes begin with the spellings of at most one list of so many trees
 pub one_forest : {L J : Type 0} (fits : Root L J → Type 0) (spelling : Root L J → List ℕ) → One fits spelling → (n : ℕ) (x y : List (Root L J)) (a b : List ℕ) → IsForest n x → IsForest n y → NodesFit fits x → NodesFit fits y → nodes_spelling spelling x ++ a ≡ nodes_spelling spelling y ++ b → (x ≡ y) × (a ≡ b)

@@ -1,27 +1,28 @@
 -- Proofs that predicates have one spelling each. There is nothing to believe here.
 use Rattle.std.proofs.Common.{◌≡◌, ℕ, List, [], ◌∷◌, ◌++◌, drop, refl, sym, ap, subst, ◌∙◌}
 use Rattle.repl_types.specs.declared.value.Value.{Value}
-use Rattle.repl_records.specs.declared.tree.CompareOp.{CompareOp}
-use Rattle.repl_records.specs.declared.tree.CompareOp.TheVariants.{Eq, Ne, Lt, Le, Gt, Ge}
-use Rattle.repl_records.specs.declared.tree.Operand.{Operand}
-use Rattle.repl_records.specs.declared.tree.Operand.TheVariants as operands
-use Rattle.repl_records.specs.declared.tree.Predicate.{Predicate, Predicate-F, fold-roll-Predicate, ind-Predicate, map-Predicate, roll-Predicate}
-use Rattle.repl_records.specs.declared.tree.Predicate.TheOpen as layer
-use Rattle.repl_records.specs.declared.tree.Predicate.TheVariants as predicates
-use Rattle.row_codec.specs.declared.nested.Root.TheVariants.{Single, Joined}
-use Rattle.row_codec.specs.declared.predicate.PredicateLeaf.{PredicateLeaf}
-use Rattle.row_codec.specs.declared.predicate.PredicateLeaf.TheVariants.{Compare, IsNull, IsNotNull}
-use Rattle.row_codec.specs.declared.predicate.PredicateJoint.{PredicateJoint}
-use Rattle.row_codec.specs.declared.predicate.PredicateJoint.TheVariants.{And, Or}
+use Rattle.repl_definitions.specs.declared.predicate.CompareOp.{CompareOp}
+use Rattle.repl_definitions.specs.declared.predicate.CompareOp.TheVariants.{Eq, Ne, Lt, Le, Gt, Ge}
+use Rattle.repl_definitions.specs.declared.predicate.Operand.{Operand}
+use Rattle.repl_definitions.specs.declared.predicate.Operand.TheVariants as operands
+use Rattle.repl_definitions.specs.declared.predicate.Predicate.{Predicate, Predicate-F, fold-roll-Predicate, ind-Predicate, map-Predicate, roll-Predicate}
+use Rattle.repl_definitions.specs.declared.predicate.Predicate.TheOpen as layer
+use Rattle.repl_definitions.specs.declared.predicate.Predicate.TheVariants as predicates
+use Rattle.repl_definitions.specs.declared.nested.Root.TheVariants.{Single, Joined}
+use Rattle.repl_definitions.specs.declared.predicate.PredicateLeaf.{PredicateLeaf}
+use Rattle.repl_definitions.specs.declared.predicate.PredicateLeaf.TheVariants.{Compare, IsNull, IsNotNull}
+use Rattle.repl_definitions.specs.declared.predicate.PredicateJoint.{PredicateJoint}
+use Rattle.repl_definitions.specs.declared.predicate.PredicateJoint.TheVariants.{And, Or}
 use Rattle.row_codec.specs.Spelling.{Any}
-use Rattle.row_codec.specs.Tags.{other_tag}
+use Rattle.row_codec.specs.laws.Tags.{other_tag}
 use Rattle.row_codec.specs.Takes.{One, PairFits, pair_spelling}
-use Rattle.row_codec.specs.Ones.{one_pair}
-use Rattle.row_codec.specs.Numbers.{one16}
-use Rattle.row_codec.specs.Values.{one_value}
-use Rattle.row_codec.specs.Forests.{IsForest}
-use Rattle.row_codec.specs.ForestLaws.{Trees, one_tree, one_nested, has_first}
-use Rattle.row_codec.specs.Predicates.{compare_op_spelling, operand_spelling, IsOperand, PredicateNode, predicate_node_spelling, IsPredicateNode, layer_top, layer_below, predicate_top, predicate_nodes, predicate_spelling, IsPredicate}
+use Rattle.row_codec.specs.laws.Ones.{one_pair}
+use Rattle.row_codec.specs.laws.Numbers.{one16}
+use Rattle.row_codec.specs.laws.Values.{one_value}
+use Rattle.repl_definitions.specs.Forests.{IsForest}
+use Rattle.repl_definitions.specs.laws.Forests.{Trees, one_tree, one_nested, has_first}
+use Rattle.row_codec.specs.laws.Again.{each_again}
+use Rattle.repl_definitions.specs.Predicates.{compare_op_spelling, operand_spelling, IsOperand, HasOperandSpelling, PredicateNode, predicate_node_spelling, IsPredicateNode, HasPredicateNodeSpelling, layer_top, layer_below, predicate_top, predicate_nodes, predicate_spelling, IsPredicate, HasPredicateSpelling}
 
 -- comparisons
 pub one_compare_op : One Any compare_op_spelling
@@ -168,3 +169,19 @@ predicate_first = has_first predicates_are predicate_top top_leaf top_joined
 -- predicates
 pub one_predicate : One IsPredicate predicate_spelling
 one_predicate = one_nested predicates_are IsPredicateNode predicate_node_spelling one_predicate_node
+
+-- what is taken has a spelling: operands
+pub again_operand : (x : Operand) → IsOperand x → HasOperandSpelling x
+again_operand (operands.Column p) fits = fits
+again_operand (operands.Value v) fits = fits.0
+
+-- nodes
+again_predicate_node : (x : PredicateNode) → IsPredicateNode x → HasPredicateNodeSpelling x
+again_predicate_node (Single (Compare l o r)) fits = (again_operand l fits.0, again_operand r fits.2)
+again_predicate_node (Single (IsNull p)) fits = fits
+again_predicate_node (Single (IsNotNull p)) fits = fits
+again_predicate_node (Joined j) fits = tt
+
+-- predicates
+pub again_predicate : (x : Predicate) → IsPredicate x → HasPredicateSpelling x
+again_predicate x fits = each_again IsPredicateNode HasPredicateNodeSpelling again_predicate_node (predicate_nodes x) fits
