@@ -1,5 +1,5 @@
 -- Trees that are being read or written.
-use Rattle.std.proofs.Common.{◌≡◌, ℕ, ◌+◌, List, [], ◌∷◌, ◌++◌, sym, ap, subst, ◌∙◌, arith, append_assoc, append-nil, Some, None}
+use Rattle.std.proofs.Common.{◌≡◌, ℕ, ◌+◌, List, [], ◌∷◌, ◌++◌, sym, ap, subst, ◌∙◌, arith, length, length-append, append_assoc, append-nil, Some, None}
 use Rattle.repl_definitions.specs.declared.nested.Root.{Root}
 use Rattle.repl_definitions.specs.declared.nested.Root.TheVariants.{Joined}
 use Rattle.repl_definitions.specs.declared.nested.Pending.{Pending}
@@ -73,3 +73,20 @@ writes-more spelling has fits before out after all left less top e f here kept =
     let seam = append_assoc out (spelling top) (nodes_spelling spelling less) in
     let made = ap (λ s. out ++ nodes_spelling spelling s) e in
     (ap (λ s. s ++ nodes_spelling spelling less) f ∙ seam ∙ sym made ∙ kept.0, (subst (NodesFit has) e kept.1).1, λ rest. kept.2 (subst (NodesFit fits) (sym e) (here, rest)))
+
+-- the node at the top of a tree is copied, and the two trees below it wait
+pub copies-joined : {L J T R : Type 0} (nodes : T → List (Root L J)) (seen : R → List (Root L J)) (whole : List (Root L J)) (old fresh : List (Pending J T)) (p : Pending J T) (all trees more new : List R) (tree left right : R) → whole ≡ pending_nodes nodes old ++ stacked seen all → owed old + 1 ≡ length all → all ≡ trees ++ tree ∷ [] → seen tree ≡ Joined p.joint ∷ seen left ++ seen right → more ≡ trees ++ right ∷ [] → new ≡ more ++ left ∷ [] → fresh ≡ old ++ p ∷ [] → p.left ≡ None → (whole ≡ pending_nodes nodes fresh ++ stacked seen new) × (owed fresh + 1 ≡ length new)
+copies-joined nodes seen whole old fresh p all trees more new tree left right kept owes e first f h pushed no_left =
+    let below = stacked-below seen all trees more new tree left right (Joined p.joint) e first f h in
+    let made = ap (pending_nodes nodes) pushed ∙ pending_nodes-push nodes old p in
+    let none = ap (left_nodes nodes) no_left in
+    let seam = append_assoc (pending_nodes nodes old) (Joined p.joint ∷ []) (stacked seen new) in
+    let one = ap owed_at no_left in
+    (cc, omega (arith, owes, ap owed pushed, owed-push old p, one, ap length e, length-append trees (tree ∷ []), ap length f, length-append trees (right ∷ []), ap length h, length-append more (left ∷ [])))
+
+-- a tree that is one leaf is copied, and is put below the node that waits for it
+pub copies-leaf : {L J T R : Type 0} (nodes : T → List (Root L J)) (seen : R → List (Root L J)) (whole : List (Root L J)) (old fresh : List (Pending J T)) (copy : T) (all trees : List R) (tree : R) → whole ≡ pending_nodes nodes old ++ stacked seen all → owed old + 1 ≡ length all → all ≡ trees ++ tree ∷ [] → nodes copy ≡ seen tree → pending_nodes nodes fresh ≡ pending_nodes nodes old ++ nodes copy → owed fresh + 1 ≡ owed old → (whole ≡ pending_nodes nodes fresh ++ stacked seen trees) × (owed fresh + 1 ≡ length trees)
+copies-leaf nodes seen whole old fresh copy all trees tree kept owes e same put fewer =
+    let last = ap (stacked seen) e ∙ stacked-push seen trees tree in
+    let seam = append_assoc (pending_nodes nodes old) (nodes copy) (stacked seen trees) in
+    (cc, omega (arith, owes, fewer, ap length e, length-append trees (tree ∷ [])))

@@ -19,3 +19,8 @@ nodes_spelling = flat_map
 -- each node meets what is asked of it
 abbrev pub NodesFit : {X : Type 0} → (X → Type 0) → List X → Type 0
 NodesFit = AllByRecursion
+
+-- the nodes that join nothing
+abbrev pub IsLeaf : {L J : Type 0} → Root L J → Type 0
+IsLeaf (Single leaf) = Unit {0}
+IsLeaf (Joined joint) = ⊥

@@ -39,6 +39,11 @@ impl<T> Boxed<T> {
         &self.place
     }
 
+    /// The allocator that the value's place is from.
+    pub fn allocator(&self) -> Global {
+        *Box::allocator(&self.place)
+    }
+
     /// Puts a value in, and gives the one that was there.
     pub fn replace(&mut self, value: T) -> T
         ensures old { result ≡ self.old }

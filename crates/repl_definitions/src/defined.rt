@@ -10,7 +10,7 @@ use row_codec::{Part, Stored, Table0, Table1, TakeError, take_two};
 use std::alloc::{AllocError, Global};
 
 /// A table, kept under its name.
-#[derive(Debug, Drop, PartialEq, Eq)]
+#[derive(Clone, Debug, Drop, PartialEq, Eq)]
 pub struct DefinedTable {
     pub number: u32,
     pub def: TableDef,
@@ -57,7 +57,7 @@ impl Stored for DefinedTable {
 }
 
 /// A registration, kept under its table's name. It has the table's number.
-#[derive(Debug, Drop, PartialEq, Eq)]
+#[derive(Clone, Debug, Drop, PartialEq, Eq)]
 pub struct DefinedRegistration {
     pub number: u32,
     pub registration: Registration,

@@ -3,10 +3,10 @@
 ghost use Rattle.std.specs.Prelude.{◌≡◌, ◌+◌, ◌*◌, ◌<◌};
 ghost use Rattle.repl_definitions.specs.Exprs.{expr_node_spelling, IsExprNode, HasExprNodeSpelling, expr_top, expr_nodes, expr_spelling, IsExpr, HasExprSpelling};
 ghost use Rattle.repl_definitions.specs.Weights.{expr_weight};
-ghost use Rattle.repl_definitions.specs.laws.Exprs.{one_expr_node, filled_expr_node, expr_forest, expr_first, one_expr, again_expr};
+ghost use Rattle.repl_definitions.specs.laws.Exprs.{one_expr_node, filled_expr_node, expr_forest, expr_first, same_expr, one_expr, again_expr};
 
 use crate::boxed::Boxed;
-use crate::nested::{Nested, Root, put_nested, take_nested};
+use crate::nested::{Nested, Root, clone_nested, put_nested, take_nested};
 use repl_types::{Text, Value};
 use row_codec::{Part, TakeError, put_text};
 use std::alloc::{AllocError, Global};
@@ -121,6 +121,8 @@ impl Nested for Expr {
 
     ghost first = { expr_first };
 
+    ghost same = { same_expr };
+
     fn take_root(
         alloc: Global,
         bytes: &[u8],
@@ -184,6 +186,30 @@ impl Nested for Expr {
     }
 
     #[tactic(auto, using(crate::specs::laws::Exprs::expr_views))]
+    fn joined(&self) -> Option<(ExprJoint, &Expr, &Expr)> {
+        match self {
+            Expr::Column(_) | Expr::Int(_) => None,
+            Expr::Text(_) => None,
+            Expr::Add(left, right) => Some((ExprJoint::Add, left.get(), right.get())),
+            Expr::Sub(left, right) => Some((ExprJoint::Sub, left.get(), right.get())),
+            Expr::Mul(left, right) => Some((ExprJoint::Mul, left.get(), right.get())),
+            Expr::Concat(left, right) => Some((ExprJoint::Concat, left.get(), right.get())),
+        }
+    }
+
+    #[tactic(auto, using(crate::specs::laws::Exprs::expr_views))]
+    fn copy_leaf(&self) -> Result<Expr, AllocError> {
+        match self {
+            Expr::Column(place) => Ok(Expr::Column(*place)),
+            Expr::Int(number) => Ok(Expr::Int(*number)),
+            Expr::Text(text) => Ok(Expr::Text(text.clone()?)),
+            Expr::Add(_, _) | Expr::Sub(_, _) | Expr::Mul(_, _) | Expr::Concat(_, _) => {
+                unreachable!()
+            }
+        }
+    }
+
+    #[tactic(auto, using(crate::specs::laws::Exprs::expr_views))]
     fn leaf(leaf: ExprLeaf) -> Expr {
         match leaf {
             ExprLeaf::Column(place) => Expr::Column(place),
@@ -222,5 +248,21 @@ impl Part for Expr {
 
     fn take_part(alloc: Global, bytes: &[u8]) -> Result<(Expr, &[u8]), TakeError> {
         take_nested::<Expr>(alloc, bytes)
+    }
+}
+
+impl Clone for Expr {
+    ghost is_clone = { λ expr copy. copy ≡ expr };
+
+    #[tactic(auto, using(crate::specs::laws::Exprs::expr_views))]
+    fn clone(&self) -> Result<Expr, AllocError> {
+        match self {
+            Expr::Column(_) | Expr::Int(_) => self.copy_leaf(),
+            Expr::Text(_) => self.copy_leaf(),
+            Expr::Add(left, _)
+            | Expr::Sub(left, _)
+            | Expr::Mul(left, _)
+            | Expr::Concat(left, _) => clone_nested::<Expr>(left.allocator(), self),
+        }
     }
 }

@@ -12,7 +12,7 @@ use row_codec::{Part, TakeError, take_five, take_two};
 use std::alloc::{AllocError, Global};
 
 /// A member of a set: a source table, and the target that copies it.
-#[derive(Debug, Drop, PartialEq, Eq)]
+#[derive(Clone, Debug, Drop, PartialEq, Eq)]
 pub struct Member {
     pub source: Name,
     pub target: Name,
@@ -122,7 +122,7 @@ impl Part for TargetKind {
 }
 
 /// A column of a target.
-#[derive(Debug, Drop, PartialEq, Eq)]
+#[derive(Clone, Debug, Drop, PartialEq, Eq)]
 pub struct TargetColumn {
     pub name: Name,
     pub from: ColumnFrom,
@@ -152,7 +152,7 @@ impl Part for TargetColumn {
 
 /// Where a column of a target comes from. Columns of the source are places of its table, counted from
 /// 0.
-#[derive(Debug, Drop, PartialEq, Eq)]
+#[derive(Clone, Debug, Drop, PartialEq, Eq)]
 pub enum ColumnFrom {
     Plain(Expr),
     /// The number of rows.

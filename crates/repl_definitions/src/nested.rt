@@ -8,7 +8,7 @@ ghost use Rattle.std.specs.List.{flat_map, AllByRecursion};
 ghost use Rattle.repl_definitions.specs.declared.nested.Root.{Root};
 ghost use Rattle.repl_definitions.specs.declared.nested.Root.TheVariants.{Single, Joined};
 ghost use Rattle.row_codec.specs.Takes.{NoFront, One};
-ghost use Rattle.repl_definitions.specs.Forests.{IsForest, nodes_spelling, NodesFit};
+ghost use Rattle.repl_definitions.specs.Forests.{IsForest, IsLeaf, nodes_spelling, NodesFit};
 ghost use Rattle.repl_definitions.specs.PendingTrees.{pending_nodes, owed};
 
 use row_codec::TakeError;
@@ -55,6 +55,20 @@ pub(crate) trait Nested: Sized + Drop {
         ensures fits { OnOk result (node_fits (top self.now)) }
         ensures below { IfOk result (λ below. MatchOption below (nodes self.now ≡ top self.now ∷ []) (λ pair. nodes self.now ≡ top self.now ∷ nodes pair.0.now ++ nodes pair.1.now)) };
 
+    /// What joins the two trees below the top, and these trees; None for a leaf.
+    fn joined(&self) -> Option<(Self::Joint, &Self, &Self)>
+        ensures {
+            MatchOption result
+                (IsLeaf (top self.now))
+                (λ parts.
+                    nodes self.now ≡ Joined parts.0 ∷ nodes parts.1.now ++ nodes parts.2.now)
+        };
+
+    /// A copy of a tree that is one leaf.
+    fn copy_leaf(&self) -> Result<Self, AllocError>
+        requires { IsLeaf (top self.now) }
+        ensures { IfOk result (λ copy. copy ≡ self.now) };
+
     /// The tree that is one leaf.
     fn leaf(leaf: Self::Leaf) -> Self
         ensures { nodes result ≡ Single leaf ∷ [] };
@@ -70,6 +84,9 @@ pub(crate) trait Nested: Sized + Drop {
     ghost forest: { (tree : Self) → IsForest 1 (nodes tree) };
 
     ghost first: { (tree : Self) → (rest : List (Root Self.Leaf Self.Joint)) × (nodes tree ≡ top tree ∷ rest) };
+
+    /// Trees of equal nodes are equal.
+    ghost same: { (x y : Self) → nodes x ≡ nodes y → x ≡ y };
 }
 
 /// A node whose trees aren't both read.
@@ -108,7 +125,7 @@ fn settle<T: Nested>(
     tree: T,
 ) -> Result<Option<T>, AllocError>
     ensures waits { IfOk result (λ whole. IfNone whole ((pending_nodes T.nodes pending.new.items ≡ pending_nodes T.nodes pending.old.items ++ T.nodes tree) × (owed pending.new.items + 1 ≡ owed pending.old.items))) }
-    ensures whole { IfOk result (λ whole. IfSome whole (λ found. T.nodes found ≡ pending_nodes T.nodes pending.old.items ++ T.nodes tree)) }
+    ensures whole { IfOk result (λ whole. IfSome whole (λ found. (T.nodes found ≡ pending_nodes T.nodes pending.old.items ++ T.nodes tree) × (owed pending.old.items ≡ 0))) }
 {
     let mut whole = tree;
     while let Some(node) = pending.pop() {
@@ -142,4 +159,23 @@ pub(crate) fn put_nested<T: Nested>(tree: &T, out: &mut Vec<u8>) -> Result<(), A
         }
     }
     Ok(())
+}
+
+/// A copy of a tree.
+pub(crate) fn clone_nested<T: Nested>(alloc: Global, tree: &T) -> Result<T, AllocError>
+    ensures { IfOk result (λ copy. copy ≡ tree.now) }
+{
+    let mut waiting = Vec::new(alloc);
+    waiting.push(tree)?;
+    let mut pending = Vec::new(alloc);
+    while let Some(next) = waiting.pop() {
+        if let Some((joint, left, right)) = next.joined() {
+            waiting.push(right)?;
+            waiting.push(left)?;
+            pending.push(Pending { joint, left: None })?;
+        } else if let Some(copy) = settle(alloc, &mut pending, next.copy_leaf()?)? {
+            return Ok(copy);
+        }
+    }
+    unreachable!()
 }

@@ -3,11 +3,11 @@
 ghost use Rattle.std.specs.Prelude.{◌≡◌, ◌+◌, ◌*◌, ◌<◌};
 ghost use Rattle.repl_definitions.specs.Predicates.{compare_op_spelling, operand_spelling, IsOperand, HasOperandSpelling, predicate_node_spelling, IsPredicateNode, HasPredicateNodeSpelling, predicate_top, predicate_nodes, predicate_spelling, IsPredicate, HasPredicateSpelling};
 ghost use Rattle.repl_definitions.specs.Weights.{predicate_weight};
-ghost use Rattle.repl_definitions.specs.laws.Predicates.{one_compare_op, one_operand, again_operand, one_predicate_node, filled_predicate_node, predicate_forest, predicate_first, one_predicate, again_predicate};
+ghost use Rattle.repl_definitions.specs.laws.Predicates.{one_compare_op, one_operand, again_operand, one_predicate_node, filled_predicate_node, predicate_forest, predicate_first, same_predicate, one_predicate, again_predicate};
 ghost use Rattle.row_codec.specs.Spelling.{Any};
 
 use crate::boxed::Boxed;
-use crate::nested::{Nested, Root, put_nested, take_nested};
+use crate::nested::{Nested, Root, clone_nested, put_nested, take_nested};
 use repl_types::Value;
 use row_codec::{Part, TakeError, take_three};
 use std::alloc::{AllocError, Global};
@@ -86,7 +86,7 @@ impl Predicate {
 }
 
 /// One side of a comparison: a column, or a value other than NULL.
-#[derive(Debug, Drop, PartialEq, Eq)]
+#[derive(Clone, Debug, Drop, PartialEq, Eq)]
 pub enum Operand {
     Column(u32),
     Value(Value),
@@ -223,6 +223,8 @@ impl Nested for Predicate {
 
     ghost first = { predicate_first };
 
+    ghost same = { same_predicate };
+
     fn take_root(
         alloc: Global,
         bytes: &[u8],
@@ -284,6 +286,34 @@ impl Nested for Predicate {
     }
 
     #[tactic(auto, using(crate::specs::laws::Predicates::predicate_views))]
+    fn joined(&self) -> Option<(PredicateJoint, &Predicate, &Predicate)> {
+        match self {
+            Predicate::Compare {
+                left: _,
+                op: _,
+                right: _,
+            } => None,
+            Predicate::IsNull(_) | Predicate::IsNotNull(_) => None,
+            Predicate::And(left, right) => Some((PredicateJoint::And, left.get(), right.get())),
+            Predicate::Or(left, right) => Some((PredicateJoint::Or, left.get(), right.get())),
+        }
+    }
+
+    #[tactic(auto, using(crate::specs::laws::Predicates::predicate_views))]
+    fn copy_leaf(&self) -> Result<Predicate, AllocError> {
+        match self {
+            Predicate::Compare { left, op, right } => Ok(Predicate::Compare {
+                left: left.clone()?,
+                op: *op,
+                right: right.clone()?,
+            }),
+            Predicate::IsNull(place) => Ok(Predicate::IsNull(*place)),
+            Predicate::IsNotNull(place) => Ok(Predicate::IsNotNull(*place)),
+            Predicate::And(_, _) | Predicate::Or(_, _) => unreachable!(),
+        }
+    }
+
+    #[tactic(auto, using(crate::specs::laws::Predicates::predicate_views))]
     fn leaf(leaf: PredicateLeaf) -> Predicate {
         match leaf {
             PredicateLeaf::Compare { left, op, right } => Predicate::Compare { left, op, right },
@@ -325,5 +355,24 @@ impl Part for Predicate {
 
     fn take_part(alloc: Global, bytes: &[u8]) -> Result<(Predicate, &[u8]), TakeError> {
         take_nested::<Predicate>(alloc, bytes)
+    }
+}
+
+impl Clone for Predicate {
+    ghost is_clone = { λ predicate copy. copy ≡ predicate };
+
+    #[tactic(auto, using(crate::specs::laws::Predicates::predicate_views))]
+    fn clone(&self) -> Result<Predicate, AllocError> {
+        match self {
+            Predicate::Compare {
+                left: _,
+                op: _,
+                right: _,
+            } => self.copy_leaf(),
+            Predicate::IsNull(_) | Predicate::IsNotNull(_) => self.copy_leaf(),
+            Predicate::And(left, _) | Predicate::Or(left, _) => {
+                clone_nested::<Predicate>(left.allocator(), self)
+            }
+        }
     }
 }

@@ -12,7 +12,7 @@ use std::alloc::{AllocError, Global};
 
 /// A subscription set: members that are copied together from one server to another. `commit_count` is
 /// the most units that one block takes, and `max_minutes` the most minutes of units; 0 is no limit.
-#[derive(Debug, Drop, PartialEq, Eq)]
+#[derive(Clone, Debug, Drop, PartialEq, Eq)]
 pub struct SetDef {
     pub id: SetId,
     pub source: Name,
@@ -64,7 +64,7 @@ impl Part for SetDef {
 }
 
 /// A set at its source, kept under its name.
-#[derive(Debug, Drop, PartialEq, Eq)]
+#[derive(Clone, Debug, Drop, PartialEq, Eq)]
 pub struct SourceSet {
     pub number: u32,
     pub def: SetDef,
@@ -111,7 +111,7 @@ impl Stored for SourceSet {
 }
 
 /// A set at its target, kept under its name.
-#[derive(Debug, Drop, PartialEq, Eq)]
+#[derive(Clone, Debug, Drop, PartialEq, Eq)]
 pub struct TargetSet {
     pub number: u32,
     pub def: SetDef,

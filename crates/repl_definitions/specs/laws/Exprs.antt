@@ -14,7 +14,7 @@ use Rattle.row_codec.specs.Takes.{One}
 use Rattle.row_codec.specs.laws.Numbers.{one16}
 use Rattle.row_codec.specs.laws.Values.{one_value}
 use Rattle.repl_definitions.specs.Forests.{IsForest}
-use Rattle.repl_definitions.specs.laws.Forests.{Trees, one_tree, one_nested, has_first}
+use Rattle.repl_definitions.specs.laws.Forests.{Trees, one_tree, same_tree, one_nested, has_first}
 use Rattle.row_codec.specs.laws.Again.{each_again}
 use Rattle.repl_definitions.specs.Exprs.{ExprNode, expr_node_spelling, IsExprNode, HasExprNodeSpelling, layer_top, layer_below, expr_top, expr_nodes, expr_spelling, IsExpr, HasExprSpelling}
 
@@ -165,6 +165,10 @@ expr_forest = one_tree exprs_are
 -- and the first is the node at the top
 pub expr_first : (e : Expr) → (rest : List ExprNode) × (expr_nodes e ≡ expr_top e ∷ rest)
 expr_first = has_first exprs_are expr_top top_leaf top_joined
+
+-- expressions of equal nodes are equal
+pub same_expr : (x y : Expr) → expr_nodes x ≡ expr_nodes y → x ≡ y
+same_expr = same_tree exprs_are
 
 -- expressions
 pub one_expr : One IsExpr expr_spelling

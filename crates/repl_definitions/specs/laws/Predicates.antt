@@ -20,7 +20,7 @@ use Rattle.row_codec.specs.laws.Ones.{one_pair}
 use Rattle.row_codec.specs.laws.Numbers.{one16}
 use Rattle.row_codec.specs.laws.Values.{one_value}
 use Rattle.repl_definitions.specs.Forests.{IsForest}
-use Rattle.repl_definitions.specs.laws.Forests.{Trees, one_tree, one_nested, has_first}
+use Rattle.repl_definitions.specs.laws.Forests.{Trees, one_tree, same_tree, one_nested, has_first}
 use Rattle.row_codec.specs.laws.Again.{each_again}
 use Rattle.repl_definitions.specs.Predicates.{compare_op_spelling, operand_spelling, IsOperand, HasOperandSpelling, PredicateNode, predicate_node_spelling, IsPredicateNode, HasPredicateNodeSpelling, layer_top, layer_below, predicate_top, predicate_nodes, predicate_spelling, IsPredicate, HasPredicateSpelling}
 
@@ -165,6 +165,10 @@ predicate_forest = one_tree predicates_are
 -- and the first is the node at the top
 pub predicate_first : (p : Predicate) → (rest : List PredicateNode) × (predicate_nodes p ≡ predicate_top p ∷ rest)
 predicate_first = has_first predicates_are predicate_top top_leaf top_joined
+
+-- predicates of equal nodes are equal
+pub same_predicate : (x y : Predicate) → predicate_nodes x ≡ predicate_nodes y → x ≡ y
+same_predicate = same_tree predicates_are
 
 -- predicates
 pub one_predicate : One IsPredicate predicate_spelling
