@@ -5,16 +5,7 @@ use Rattle.std.proofs.lemmas.Option.{same_Some}
 use Rattle.std.proofs.lemmas.List.{append-nil, append_cancel_left, length-take-le, take_rest, take-append-drop}
 use Rattle.std.proofs.Math.Seq.{take-add}
 use Rattle.keep_core.specs.Told.{Takes, TakesFront}
-
--- nothing is taken where nothing changes
-pub takes_nothing : (told : Option (List ℕ)) → Takes told told []
-takes_nothing None = refl
-takes_nothing (Some bytes) = ap (λ (x : List ℕ). Some x) (sym (append-nil bytes))
-
--- one piece and then another are both of them together
-pub takes_both : (before between now : Option (List ℕ)) (xs ys : List ℕ) → Takes before between xs → Takes between now ys → Takes before now (xs ++ ys)
-takes_both None between now xs ys first second = subst (λ (o : Option (List ℕ)). now ≡ option_map (λ taken. taken ++ ys) o) first second
-takes_both (Some bytes) between now xs ys first second = subst (λ (o : Option (List ℕ)). now ≡ option_map (λ taken. taken ++ ys) o) first second ∙ ap (λ (x : List ℕ). Some x) (append_assoc bytes xs ys)
+use Rattle.keep_core.specs.laws.Told.{takes_both}
 
 -- a front of a line, and then a front of the rest of it, are a longer front
 pub takes_on : (before between now : Option (List ℕ)) (line : List ℕ) (at count : ℕ) → Takes before between (take at line) → Takes between now (take count (take (length line - at) (drop at line))) → Takes before now (take (at + count) line)

@@ -1,11 +1,11 @@
 -- What a record that is missing stands for.
 use Rattle.std.specs.Prelude.{false}
 use Rattle.repl_records.specs.declared.source_side.Head.{Head}
-use Rattle.repl_records.specs.declared.source_side.CaptureState.{CaptureState}
-use Rattle.repl_records.specs.declared.source_side.Decided.{Decided}
-use Rattle.repl_records.specs.declared.progress.LastNumber.{LastNumber}
-use Rattle.repl_records.specs.declared.progress.SetState.{SetState}
-use Rattle.repl_records.specs.declared.progress.SetState.TheVariants.{ReadOnly, Replica}
+use Rattle.repl_records.specs.declared.capture.CaptureState.{CaptureState}
+use Rattle.repl_records.specs.declared.prune.Decided.{Decided}
+use Rattle.repl_records.specs.declared.set_state.LastNumber.{LastNumber}
+use Rattle.repl_records.specs.declared.set_state.SetState.{SetState}
+use Rattle.repl_records.specs.declared.set_state.SetState.TheVariants.{ReadOnly, Replica}
 
 -- an empty log: no position, no commit, and no time
 abbrev pub first_head : Head

@@ -1,3 +1,9 @@
+pub mod Capture
 pub mod FirstStates
-pub mod formers
-pub mod Weights
+pub mod Prune
+pub mod RecordKeys
+pub mod SetState
+pub mod SourceSide
+pub mod TargetSide
+pub mod Trail
+pub mod laws

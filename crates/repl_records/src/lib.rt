@@ -1,32 +1,28 @@
-//! The types of what a server stores beside plain values: definitions of sets with their trees, the
-//! records of each area with their keys, and what calls over them answer.
+//! What a server stores beside definitions: the records of each area with their keys, each a plain
+//! type with its one spelling.
 //!
-//! It stands on `repl_types` alone, and holds no code but derived comparisons and copies, and the drop of trees, which may be deep: the records' spellings are `row_codec`'s, and what
-//! they mean for a log is `repl_model`'s. Each record has the values of its line of the table of areas
-//! (`docs/FORMATS.md`) as fields, in their order. What a missing record stands for is in
-//! `specs/FirstStates.antt`. What would be a `Box` in plain Rust is a `Boxed` here, which a clause sees as
-//! its value, so two trees are equal in a clause just where they say the same.
+//! It stands on `row_codec`, which says what a kind of record is and spells its parts, and the crates
+//! that work on stored records stand on it. A kind of record is one type, one spelling and one law, in
+//! one file each: `src/X.rt`, `specs/X.antt` and `specs/laws/X.antt`. Each record has the values of its
+//! line of the table of areas (`docs/FORMATS.md`) as fields, in their order. What a missing record
+//! stands for is in `specs/FirstStates.antt`.
 #![tactic(auto)]
 
-mod boxed;
-mod call_errors;
-mod defined;
-mod fault;
-mod progress;
-mod set;
+mod capture;
+mod code;
+mod prune;
+mod record_keys;
+#[cfg(test)]
+mod record_tests;
+mod set_state;
 mod source_side;
 mod target_side;
-mod tree;
+mod trail;
 
-pub use boxed::Boxed;
-pub use call_errors::{AppendError, ShowError};
-pub use defined::{DefinedRegistration, DefinedTable, SourceSet, TargetSet};
-pub use fault::{Counts, Fault, Stepped};
-pub use progress::{LastNumber, MemberKey, SetState, TrailEntry};
-pub use set::{ColumnFrom, Member, SetDef, TargetColumn, TargetKind};
-pub use source_side::{
-    CaptureState, CdKey, ChangeRow, Decided, Head, InFlight, InFlightKey, RegState, RejectedUnit,
-    Single, SourceRow, SyncMark, UnitKey, UowRow,
-};
+pub use capture::{CaptureState, ChangeRow, RegState, UowRow};
+pub use prune::{Decided, RejectedUnit, SyncMark};
+pub use record_keys::{CdKey, InFlightKey, MemberKey, Single, UnitKey};
+pub use set_state::{LastNumber, SetState};
+pub use source_side::{Head, InFlight, SourceRow};
 pub use target_side::{AggregateRow, CopyRow, HistoryRow, LatestRow, PointRow};
-pub use tree::{CompareOp, Expr, Operand, Predicate};
+pub use trail::TrailEntry;

@@ -1,10 +1,15 @@
-//! Records of a source: its tables, its log's state, and what capture and pruning keep.
+//! Records of a source: its tables, its changes in flight, and the end of its log.
 
-use repl_types::{Name, Op, Row, Sequence, SetId};
+ghost use Rattle.repl_records.specs.SourceSide.{IsSourceRow, HasSourceRowSpelling, source_row_spelling, in_flight_spelling, IsHead, head_spelling};
+ghost use Rattle.repl_records.specs.laws.SourceSide.{one_source_row, again_source_row, one_in_flight, small_in_flight, one_head, small_head};
+ghost use Rattle.repl_types.specs.declared.area.Area.TheVariants as areas;
+ghost use Rattle.row_codec.specs.Spelling.{Any};
+ghost use Rattle.row_codec.specs.Storable.{IsStorable};
 
-/// The key of a table that has one record.
-#[derive(Clone, Copy, Debug, PartialEq, Eq)]
-pub struct Single;
+use crate::record_keys::{InFlightKey, Single};
+use repl_types::{Area, List, Row, Value};
+use row_codec::{Part, Stored, Table0, TakeError, take_three};
+use std::alloc::{AllocError, Global};
 
 /// A row of a source table, kept under its key.
 #[derive(Clone, Debug, Drop, PartialEq, Eq)]
@@ -12,16 +17,89 @@ pub struct SourceRow {
     pub row: Row,
 }
 
-/// What tells the changes in flight apart: the transaction, and the change's position.
-#[derive(Clone, Copy, Debug, PartialEq, Eq)]
-pub struct InFlightKey {
-    pub tx: u32,
-    pub pos: u64,
+impl Part for SourceRow {
+    ghost fits = { IsSourceRow };
+
+    ghost has_spelling = { HasSourceRowSpelling };
+
+    ghost spelling = { source_row_spelling };
+
+    ghost one = { one_source_row };
+
+    ghost again = { again_source_row };
+
+    fn put_part(&self, out: &mut Vec<u8>) -> Result<(), AllocError> {
+        self.row.put_part(out)
+    }
+
+    fn take_part(alloc: Global, bytes: &[u8]) -> Result<(SourceRow, &[u8]), TakeError> {
+        let (row, rest) = Row::take_part(alloc, bytes)?;
+        Ok((SourceRow { row }, rest))
+    }
+}
+
+impl Stored for SourceRow {
+    type Key = List<Value>;
+
+    type Table = u32;
+
+    const AREA: Area = Area::Source;
+
+    ghost AREA = { areas.Source };
+
+    ghost storable = { IsStorable HasSourceRowSpelling source_row_spelling };
+
+    ghost spelled = { λ _ storable. storable.0 };
+
+    ghost sized = { λ _ _ storable. storable.1 };
+
+    ghost again_stored = { λ x fits sized. (again_source_row x fits, sized) };
 }
 
 /// That a change of a transaction in flight stands at a position of the log.
 #[derive(Clone, Copy, Debug, PartialEq, Eq)]
 pub struct InFlight;
+
+impl Part for InFlight {
+    ghost fits = { Any };
+
+    ghost has_spelling = { Any };
+
+    ghost spelling = { in_flight_spelling };
+
+    ghost one = { one_in_flight };
+
+    ghost again = { λ _ _. tt };
+
+    fn put_part(&self, out: &mut Vec<u8>) -> Result<(), AllocError> {
+        Ok(out.push(0)?)
+    }
+
+    fn take_part(_: Global, bytes: &[u8]) -> Result<(InFlight, &[u8]), TakeError> {
+        match bytes {
+            [0, rest @ ..] => Ok((InFlight, rest)),
+            _ => Err(TakeError::Spelling),
+        }
+    }
+}
+
+impl Stored for InFlight {
+    type Key = InFlightKey;
+
+    type Table = Table0;
+
+    const AREA: Area = Area::Inflight;
+
+    ghost AREA = { areas.Inflight };
+
+    ghost storable = { Any };
+
+    ghost spelled = { λ _ _. tt };
+
+    ghost sized = { small_in_flight };
+
+    ghost again_stored = { λ _ _ _. tt };
+}
 
 /// The end of a log: its last position, its last commit, 0 where there is none, and that commit's time
 /// in seconds.
@@ -32,73 +110,43 @@ pub struct Head {
     pub time: u64,
 }
 
-/// What tells the rows of a change-data table apart, in the order of the log's units and of the changes
-/// in each.
-#[derive(Clone, Copy, Debug, PartialEq, Eq)]
-pub struct CdKey {
-    pub commitseq: u64,
-    pub intentseq: Sequence,
+impl Part for Head {
+    ghost fits = { IsHead };
+
+    ghost has_spelling = { Any };
+
+    ghost spelling = { head_spelling };
+
+    ghost one = { one_head };
+
+    ghost again = { λ _ _. tt };
+
+    fn put_part(&self, out: &mut Vec<u8>) -> Result<(), AllocError> {
+        self.last.put_part(out)?;
+        self.commit.put_part(out)?;
+        self.time.put_part(out)
+    }
+
+    fn take_part(alloc: Global, bytes: &[u8]) -> Result<(Head, &[u8]), TakeError> {
+        let (last, commit, time, rest) = take_three(alloc, bytes)?;
+        Ok((Head { last, commit, time }, rest))
+    }
 }
 
-/// What a change-data table keeps of a change: the images of the registered columns.
-#[derive(Clone, Debug, Drop, PartialEq, Eq)]
-pub struct ChangeRow {
-    pub op: Op,
-    pub after: Row,
-    pub before: Row,
-}
+impl Stored for Head {
+    type Key = Single;
 
-/// What the unit-of-work table keeps of a captured unit, under its seq. `code` is the rejection code, 0
-/// to 4.
-#[derive(Clone, Debug, Drop, PartialEq, Eq)]
-pub struct UowRow {
-    pub time: u64,
-    pub authid: Name,
-    pub origin: Option<SetId>,
-    pub code: u8,
-}
+    type Table = Table0;
 
-/// How far capture is: the units up to `captured` are captured, `restart` is where the log has to be
-/// read from, and units up to `floor` are pruned from the unit-of-work table.
-#[derive(Clone, Copy, Debug, PartialEq, Eq)]
-pub struct CaptureState {
-    pub captured: u64,
-    pub restart: u64,
-    pub floor: u64,
-}
+    const AREA: Area = Area::Head;
 
-/// The state of a registration: whether it is active, since which position, or last was, and up to
-/// which commit its change rows are pruned.
-#[derive(Clone, Copy, Debug, PartialEq, Eq)]
-pub struct RegState {
-    pub active: bool,
-    pub start: u64,
-    pub floor: u64,
-}
+    ghost AREA = { areas.Head };
 
-/// What the source of a set knows of it: the point that the target has reached, and the last signal.
-#[derive(Clone, Copy, Debug, PartialEq, Eq)]
-pub struct SyncMark {
-    pub mark: u64,
-    pub signal: u64,
-}
+    ghost storable = { Any };
 
-/// How far the master of a replica set has decided: the replica's units up to `t`, its own up to `d`.
-#[derive(Clone, Copy, Debug, PartialEq, Eq)]
-pub struct Decided {
-    pub t: u64,
-    pub d: u64,
-}
+    ghost spelled = { λ _ _. tt };
 
-/// What tells the decided units of a source's sets apart.
-#[derive(Clone, Copy, Debug, PartialEq, Eq)]
-pub struct UnitKey {
-    pub set: u32,
-    pub seq: u64,
-}
+    ghost sized = { small_head };
 
-/// The code that a rejected unit got, 1 to 4.
-#[derive(Clone, Copy, Debug, PartialEq, Eq)]
-pub struct RejectedUnit {
-    pub code: u8,
+    ghost again_stored = { λ _ _ _. tt };
 }

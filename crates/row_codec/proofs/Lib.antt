@@ -1,9 +1,3 @@
-pub mod Again
-pub mod Exits
-pub mod Forests
-pub mod Lengths
 pub mod Lists
-pub mod Tagged
 pub mod Texts
-pub mod Trees
 pub mod Worked

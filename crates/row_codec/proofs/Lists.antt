@@ -8,10 +8,10 @@ use Rattle.repl_types.specs.ValueText.{IsValue}
 use Rattle.repl_types.specs.declared.value.Value.{Value}
 use Rattle.repl_types.specs.declared.value.Value.TheVariants.{Null, Int, Text}
 use Rattle.repl_types.specs.Value.{images}
-use Rattle.row_codec.specs.Values.{one_value}
+use Rattle.row_codec.specs.laws.Values.{one_value}
 use Rattle.row_codec.specs.Takes.{One, NoFront}
 use Rattle.row_codec.specs.Spelling.{b16, list_spelling, ListFits, value_spelling, key_spelling}
-use Rattle.row_codec.specs.Numbers.{one16}
+use Rattle.row_codec.specs.laws.Numbers.{one16}
 
 -- of two lists that meet it all elements meet it
 pub all_append : {X : Type 0} (P : X → Type 0) (xs ys : List X) → AllByRecursion P xs → AllByRecursion P ys → AllByRecursion P (xs ++ ys)

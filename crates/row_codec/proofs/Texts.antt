@@ -5,7 +5,7 @@ use Rattle.std.proofs.lemmas.Bool.{cases_eq}
 use Rattle.std.proofs.lemmas.Bool.Decides.{nat_tests}
 use Rattle.std.proofs.lemmas.List.{take_more}
 use Rattle.row_codec.specs.Spelling.{marked_byte, zeros_marked, IsText}
-use Rattle.row_codec.specs.Values.{one_text}
+use Rattle.row_codec.specs.laws.Values.{one_text}
 
 -- texts one after the other are written one after the other
 pub marked-append : (s t : List ℕ) → zeros_marked (s ++ t) ≡ zeros_marked s ++ zeros_marked t

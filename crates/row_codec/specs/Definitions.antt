@@ -1,12 +1,10 @@
--- The spellings of columns, tables and registrations, and of their definitions at a server.
+-- The spellings of columns, tables and registrations.
 use Rattle.std.specs.Prelude.{ℕ, List, [], ◌∷◌, ◌++◌}
 use Rattle.repl_types.specs.declared.table.Kind.{Kind}
 use Rattle.repl_types.specs.declared.table.Kind.TheVariants.{Int, Text}
 use Rattle.repl_types.specs.declared.table.ColumnDef.{ColumnDef}
 use Rattle.repl_types.specs.declared.table.TableDef.{TableDef}
 use Rattle.repl_types.specs.declared.change_row.Registration.{Registration}
-use Rattle.repl_records.specs.declared.defined.DefinedTable.{DefinedTable}
-use Rattle.repl_records.specs.declared.defined.DefinedRegistration.{DefinedRegistration}
 use Rattle.row_codec.specs.Spelling.{Any, b16, b32, Is16, Is32, flag, short_text, IsName, list_spelling, IsCounted, ListFits}
 
 -- ---- places
@@ -46,18 +44,6 @@ HasTableSpelling table = IsCounted table.columns × ArePlaces table.key × ArePl
 abbrev pub IsTable : TableDef → Type 0
 IsTable table = IsName table.name × ListFits IsColumn table.columns × ArePlaces table.key × ArePlaces table.fixed
 
--- a table with its number at its server
-abbrev pub defined_table_spelling : DefinedTable → List ℕ
-defined_table_spelling defined = b32 defined.number ++ table_spelling defined.def
-
--- the numbered tables that have a spelling
-abbrev pub HasDefinedTableSpelling : DefinedTable → Type 0
-HasDefinedTableSpelling defined = HasTableSpelling defined.def
-
--- the numbered tables whose number has four bytes
-abbrev pub IsDefinedTable : DefinedTable → Type 0
-IsDefinedTable defined = Is32 defined.number × IsTable defined.def
-
 -- ---- registrations
 
 -- a registration: its table's name, the places of the columns whose images are kept, and three flags
@@ -71,15 +57,3 @@ HasRegistrationSpelling r = ArePlaces r.after × ArePlaces r.before
 -- the registrations of a name, whose lists have counts of two bytes
 abbrev pub IsRegistration : Registration → Type 0
 IsRegistration r = IsName r.table × ArePlaces r.after × ArePlaces r.before × Any r.del_ins × Any r.changes_only × Any r.disable_refresh
-
--- a registration with its number at its server
-abbrev pub defined_registration_spelling : DefinedRegistration → List ℕ
-defined_registration_spelling defined = b32 defined.number ++ registration_spelling defined.registration
-
--- the numbered registrations that have a spelling
-abbrev pub HasDefinedRegistrationSpelling : DefinedRegistration → Type 0
-HasDefinedRegistrationSpelling defined = HasRegistrationSpelling defined.registration
-
--- the numbered registrations whose number has four bytes
-abbrev pub IsDefinedRegistration : DefinedRegistration → Type 0
-IsDefinedRegistration defined = Is32 defined.number × IsRegistration defined.registration

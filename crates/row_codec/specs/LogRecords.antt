@@ -1,5 +1,5 @@
 -- The spellings of the records of a log.
-use Rattle.std.specs.Prelude.{ℕ, List, ◌∷◌, ◌++◌}
+use Rattle.std.specs.Prelude.{ℕ, ◌≤◌, List, ◌∷◌, ◌++◌, length}
 use Rattle.repl_types.specs.declared.record.Change.{Change}
 use Rattle.repl_types.specs.declared.record.Change.TheVariants.{Insert, Update, Delete, Start, Stop}
 use Rattle.repl_types.specs.declared.record.LogRecord.{LogRecord}
@@ -33,6 +33,20 @@ abbrev pub HasLogSpelling : LogRecord → Type 0
 HasLogSpelling (records.Change tx change) = HasChangeSpelling change
 HasLogSpelling (records.Commit tx time authid from) = Unit {0}
 HasLogSpelling (records.Abort tx) = Unit {0}
+
+-- the changes whose rows have at most 64 values
+abbrev pub ChangesShortRows : Change → Type 0
+ChangesShortRows (Insert table row) = length row ≤ 64
+ChangesShortRows (Update table before after) = (length before ≤ 64) × (length after ≤ 64)
+ChangesShortRows (Delete table row) = length row ≤ 64
+ChangesShortRows (Start table) = Unit {0}
+ChangesShortRows (Stop table) = Unit {0}
+
+-- the records whose rows have at most 64 values
+abbrev pub HasShortRows : LogRecord → Type 0
+HasShortRows (records.Change tx change) = ChangesShortRows change
+HasShortRows (records.Commit tx time authid from) = Unit {0}
+HasShortRows (records.Abort tx) = Unit {0}
 
 -- a change whose parts are in their ranges
 abbrev pub IsChange : ℕ → Change → Type 0

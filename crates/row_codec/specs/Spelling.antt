@@ -1,10 +1,13 @@
--- The spellings of numbers, flags, names, values, rows and keys.
+-- The spellings of numbers, flags, names, values, rows, keys, places in a log and operations.
 use Rattle.std.specs.Prelude.{ℕ, ℤ, pos, negsuc, Bool, true, false, ◌+◌, ◌-◌, ◌<◌, ◌^◌, ◌==◌, if◌then◌else◌, IsTrue, IfSome, List, [], ◌∷◌, ◌++◌, length, Option, Some, None}
 use Rattle.std.specs.List.{flat_map, AllByRecursion}
 use Rattle.std.specs.Int.{w16, w32, w64, to_be_bytes}
 use Rattle.repl_types.specs.Name.{is_name}
 use Rattle.repl_types.specs.ValueText.{IsValue}
+use Rattle.repl_types.specs.declared.change_row.Op.{Op}
+use Rattle.repl_types.specs.declared.change_row.Op.TheVariants.{I, U, D}
 use Rattle.repl_types.specs.declared.record.SetId.{SetId}
+use Rattle.repl_types.specs.declared.sequence.Sequence.{Sequence}
 use Rattle.repl_types.specs.declared.value.Value.{Value}
 use Rattle.repl_types.specs.declared.value.Value.TheVariants.{Null, Int, Text}
 
@@ -69,14 +72,22 @@ set_spelling set = short_text set.qual ++ short_text set.name
 abbrev pub IsSet : SetId → Type 0
 IsSet set = IsName set.qual × IsName set.name
 
+-- 0 for nothing, or 1 and the value
+abbrev pub option_spelling : {X : Type 0} → (X → List ℕ) → Option X → List ℕ
+option_spelling spelling None = 0 ∷ []
+option_spelling spelling (Some x) = 1 ∷ spelling x
+
+-- nothing, or a value that meets what is asked of it
+abbrev pub OptionFits : {X : Type 0} → (X → Type 0) → Option X → Type 0
+OptionFits fits x = IfSome x fits
+
 -- the set that made a unit: 0 for none, or 1 and the set's name
 abbrev pub origin : Option SetId → List ℕ
-origin None = 0 ∷ []
-origin (Some set) = 1 ∷ set_spelling set
+origin = option_spelling set_spelling
 
 -- no set, or a set of two names
 abbrev pub IsOrigin : Option SetId → Type 0
-IsOrigin set = IfSome set IsSet
+IsOrigin = OptionFits IsSet
 
 -- ---- values
 
@@ -133,3 +144,19 @@ key_spelling = flat_map value_spelling
 -- the keys of values
 abbrev pub IsKey : List Value → Type 0
 IsKey = AllByRecursion IsValue
+
+-- ---- places in a log, and operations
+
+-- a place in a log: its position and its sub-number
+abbrev pub sequence_spelling : Sequence → List ℕ
+sequence_spelling s = b64 s.position ++ b16 s.sub
+
+-- the places whose position has eight bytes and whose sub-number has two
+abbrev pub IsSequence : Sequence → Type 0
+IsSequence s = Is64 s.position × Is16 s.sub
+
+-- an operation is its letter
+abbrev pub op_spelling : Op → List ℕ
+op_spelling I = 0x49 ∷ []
+op_spelling U = 0x55 ∷ []
+op_spelling D = 0x44 ∷ []

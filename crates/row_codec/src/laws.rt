@@ -1,13 +1,16 @@
 //! What holds of the spellings that clauses cite. The functions do nothing: their contracts say it.
 
-ghost use Rattle.std.specs.Prelude.{◌≡◌, ◌++◌, ◌∷◌, [], ℕ, List, length, pos};
+ghost use Rattle.std.specs.Prelude.{◌≡◌, ◌≤◌, ◌++◌, ◌∷◌, [], ℕ, List, length, pos};
 ghost use Rattle.std.specs.List.{sum_by};
 ghost use Rattle.repl_types.specs.Bytes.{bytes_cmp};
 ghost use Rattle.repl_types.specs.ValueText.{IsValue};
 ghost use Rattle.repl_types.specs.Value.{Values, value_cmp, key_cmp, images, spelled_len};
 ghost use Rattle.repl_types.specs.declared.value.Value.{Value};
 ghost use Rattle.repl_types.specs.declared.value.Value.TheVariants.{Null, Int, Text};
-ghost use Rattle.row_codec.specs.Spelling.{IsKey, IsRow, value_spelling, row_spelling, key_spelling};
+ghost use Rattle.repl_types.specs.declared.record.LogRecord.{LogRecord};
+ghost use Rattle.row_codec.specs.LogRecords.{IsLogRecord, HasLogSpelling, HasShortRows, log_spelling};
+ghost use Rattle.row_codec.specs.Spelling.{IsCounted, IsKey, IsRow, b16, b32, b64, value_spelling, row_spelling, key_spelling};
+ghost use Rattle.row_codec.specs.Storable.{IsStorable};
 
 /// Byte order of spelled keys is the order of keys: column by column, NULL first, then the integers by
 /// number, then the texts by bytes. So a map that is kept by bytes is one that is kept by keys in order.
@@ -31,4 +34,20 @@ pub fn one_spelling_of_a_row()
 /// The row of a log record `insert 1 orders 1 'pen' 20`, worked out by hand.
 pub fn worked_row()
     ensures { row_spelling (Int (pos 1) ∷ Text (112 ∷ 101 ∷ 110 ∷ []) ∷ Int (pos 20) ∷ []) ≡ 0 ∷ 3 ∷ 1 ∷ 128 ∷ 0 ∷ 0 ∷ 0 ∷ 0 ∷ 0 ∷ 0 ∷ 1 ∷ 2 ∷ 112 ∷ 101 ∷ 110 ∷ 0 ∷ 0 ∷ 1 ∷ 128 ∷ 0 ∷ 0 ∷ 0 ∷ 0 ∷ 0 ∷ 0 ∷ 20 ∷ [] }
+{}
+
+/// How many bytes numbers take.
+pub fn lengths_of_numbers()
+    ensures b16 { (n : ℕ) → length (b16 n) ≡ 2 }
+    ensures b32 { (n : ℕ) → length (b32 n) ≡ 4 }
+    ensures b64 { (n : ℕ) → length (b64 n) ≡ 8 }
+{}
+
+/// A row of at most 64 values may be stored, and so may a log record whose rows have at most 64 values:
+/// a value takes at most 2,003 bytes, so two such rows take less than a stored value may.
+pub fn rows_of_64_values_are_storable()
+    ensures row { (row : Values) → IsKey row → length row ≤ 64 → IsStorable IsCounted row_spelling row }
+    ensures log_record {
+        (x : LogRecord) → IsLogRecord x → HasShortRows x → IsStorable HasLogSpelling log_spelling x
+    }
 {}

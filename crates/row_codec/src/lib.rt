@@ -1,46 +1,45 @@
-//! Records as bytes: of each value, row, key and record the one spelling, both ways.
+//! Records as bytes: of each value, row, key and log record the one spelling, both ways.
 //!
-//! What a server keeps is bytes in a map that is ordered by bytes. This crate says which bytes: the
-//! layers above put and take typed records by `Stored` and never see a byte. Each value has one
-//! spelling, bytes that aren't the spelling of a value are refused, and keys lie in byte order just as
-//! their values do.
+//! What a server keeps is bytes in a map that is ordered by bytes. This crate says what a spelling is
+//! (`Part`), what a key is (`Key`), and what a kind of record is (`Stored`): the layers above put and
+//! take typed records and never see a byte. Each value has one spelling, bytes that aren't the spelling
+//! of a value are refused, and keys lie in byte order just as their values do.
+//!
+//! It stands on `repl_types` alone, and spells that crate's types. `repl_records` and `repl_definitions`
+//! have the other kinds of records, each with its spelling, and `site_store` keeps them.
 #![tactic(auto)]
 
-mod code;
-mod defined;
-#[cfg(test)]
-mod definition_tests;
-mod expr;
 mod key;
 mod laws;
 mod list;
 mod log_record;
+#[cfg(test)]
+mod log_tests;
 mod name;
-mod name_key;
-mod nested;
 mod number;
 mod operation;
+mod option;
 mod part;
 mod parts;
-mod predicate;
-mod progress;
-mod record_keys;
-#[cfg(test)]
-mod record_tests;
 mod row;
 mod sequence;
-mod set;
-mod source_side;
 mod stored;
 mod table;
+mod table_number;
 mod take_error;
-mod target_side;
 #[cfg(test)]
 mod tests;
 mod value;
 
-pub use laws::{keys_in_byte_order, length_of_a_key, one_spelling_of_a_row, worked_row};
-pub use part::Part;
+pub use key::{Key, PartKey};
+pub use laws::{
+    keys_in_byte_order, length_of_a_key, lengths_of_numbers, one_spelling_of_a_row,
+    rows_of_64_values_are_storable, worked_row,
+};
+pub use part::{Part, take_whole};
+pub use parts::{take_five, take_four, take_six, take_three, take_two};
 pub use row::{put_key, put_row, take_row};
-pub use stored::{Key, Stored};
+pub use stored::Stored;
+pub use table_number::{Table0, Table1, Table2, Table3, TableNumber};
 pub use take_error::TakeError;
+pub use value::put_text;

@@ -1,7 +1,8 @@
 //! Lists with their counts.
 
 ghost use Rattle.row_codec.specs.Spelling.{list_spelling, ListFits};
-ghost use Rattle.row_codec.specs.Values.{one_list};
+ghost use Rattle.row_codec.specs.laws.Again.{list_again};
+ghost use Rattle.row_codec.specs.laws.Values.{one_list};
 
 use crate::part::Part;
 use crate::take_error::TakeError;
@@ -16,6 +17,8 @@ impl<T: Part> Part for List<T> {
     ghost spelling = { list_spelling T.spelling };
 
     ghost one = { one_list T.fits T.spelling T.one };
+
+    ghost again = { list_again T.fits T.has_spelling T.again };
 
     fn put_part(&self, out: &mut Vec<u8>) -> Result<(), AllocError> {
         (self.len() as u16).put_part(out)?;

@@ -3,11 +3,14 @@
 ghost use Rattle.repl_types.specs.declared.area.Area.TheVariants as areas;
 ghost use Rattle.std.specs.Prelude.{◌≡◌, ◌++◌, OnOk};
 ghost use Rattle.row_codec.specs.LogRecords.{change_spelling, IsChange, HasChangeSpelling, log_spelling, IsLogRecord, HasLogSpelling};
-ghost use Rattle.row_codec.specs.LogRecordLaws.{one_log_record};
+ghost use Rattle.row_codec.specs.Storable.{IsStorable};
+ghost use Rattle.row_codec.specs.laws.Again.{log_again};
+ghost use Rattle.row_codec.specs.laws.LogRecords.{one_log_record};
 
 use crate::part::Part;
 use crate::parts::{take_four, take_three, take_two};
 use crate::stored::Stored;
+use crate::table_number::Table0;
 use crate::take_error::TakeError;
 use repl_types::{Area, Change, LogRecord, Name, Row, SetId};
 use std::alloc::{AllocError, Global};
@@ -20,6 +23,8 @@ impl Part for LogRecord {
     ghost spelling = { log_spelling };
 
     ghost one = { one_log_record };
+
+    ghost again = { log_again };
 
     fn put_part(&self, out: &mut Vec<u8>) -> Result<(), AllocError> {
         match self {
@@ -100,9 +105,19 @@ impl Part for LogRecord {
 impl Stored for LogRecord {
     type Key = u64;
 
+    type Table = Table0;
+
     const AREA: Area = Area::Log;
 
     ghost AREA = { areas.Log };
+
+    ghost storable = { IsStorable HasLogSpelling log_spelling };
+
+    ghost spelled = { λ _ storable. storable.0 };
+
+    ghost sized = { λ _ _ storable. storable.1 };
+
+    ghost again_stored = { λ x fits sized. (log_again x fits, sized) };
 }
 
 /// Appends the spelling of a change of a transaction.

@@ -1,7 +1,7 @@
 //! Names, and the names of sets.
 
-ghost use Rattle.row_codec.specs.Spelling.{Any, short_text, set_spelling, origin, IsName, IsSet, IsOrigin};
-ghost use Rattle.row_codec.specs.Names.{one_name, one_set, one_origin};
+ghost use Rattle.row_codec.specs.Spelling.{Any, short_text, set_spelling, IsName, IsSet};
+ghost use Rattle.row_codec.specs.laws.Names.{one_name, one_set};
 
 use crate::part::Part;
 use crate::parts::take_two;
@@ -17,6 +17,8 @@ impl Part for Name {
     ghost spelling = { short_text };
 
     ghost one = { one_name };
+
+    ghost again = { λ _ _. tt };
 
     fn put_part(&self, out: &mut Vec<u8>) -> Result<(), AllocError> {
         let text = self.as_str();
@@ -49,6 +51,8 @@ impl Part for SetId {
 
     ghost one = { one_set };
 
+    ghost again = { λ _ _. tt };
+
     fn put_part(&self, out: &mut Vec<u8>) -> Result<(), AllocError> {
         self.qual.put_part(out)?;
         self.name.put_part(out)
@@ -57,36 +61,5 @@ impl Part for SetId {
     fn take_part(alloc: Global, bytes: &[u8]) -> Result<(SetId, &[u8]), TakeError> {
         let (qual, name, rest) = take_two::<Name, Name>(alloc, bytes)?;
         Ok((SetId { qual, name }, rest))
-    }
-}
-
-impl Part for Option<SetId> {
-    ghost fits = { IsOrigin };
-
-    ghost has_spelling = { Any };
-
-    ghost spelling = { origin };
-
-    ghost one = { one_origin };
-
-    fn put_part(&self, out: &mut Vec<u8>) -> Result<(), AllocError> {
-        match self {
-            None => Ok(out.push(0)?),
-            Some(set) => {
-                out.push(1)?;
-                set.put_part(out)
-            }
-        }
-    }
-
-    fn take_part(alloc: Global, bytes: &[u8]) -> Result<(Option<SetId>, &[u8]), TakeError> {
-        match bytes {
-            [0, rest @ ..] => Ok((None, rest)),
-            [1, rest @ ..] => {
-                let (set, rest) = SetId::take_part(alloc, rest)?;
-                Ok((Some(set), rest))
-            }
-            _ => Err(TakeError::Spelling),
-        }
     }
 }

@@ -1,7 +1,7 @@
 //! Numbers, from the highest byte to the lowest, and flags.
 
 ghost use Rattle.row_codec.specs.Spelling.{b8, b16, b32, b64, flag, Is8, Is16, Is32, Is64, Any};
-ghost use Rattle.row_codec.specs.Numbers.{one8, one16, one32, one64, one_flag};
+ghost use Rattle.row_codec.specs.laws.Numbers.{one8, one16, one32, one64, one_flag};
 
 use crate::part::Part;
 use crate::take_error::TakeError;
@@ -15,6 +15,8 @@ impl Part for u8 {
     ghost spelling = { b8 };
 
     ghost one = { one8 };
+
+    ghost again = { λ _ _. tt };
 
     fn put_part(&self, out: &mut Vec<u8>) -> Result<(), AllocError> {
         Ok(out.push(*self)?)
@@ -36,6 +38,8 @@ impl Part for u16 {
     ghost spelling = { b16 };
 
     ghost one = { one16 };
+
+    ghost again = { λ _ _. tt };
 
     #[tactic(auto, unfolding(crate::specs::Spelling::b16))]
     fn put_part(&self, out: &mut Vec<u8>) -> Result<(), AllocError> {
@@ -60,6 +64,8 @@ impl Part for u32 {
 
     ghost one = { one32 };
 
+    ghost again = { λ _ _. tt };
+
     #[tactic(auto, unfolding(crate::specs::Spelling::b32))]
     fn put_part(&self, out: &mut Vec<u8>) -> Result<(), AllocError> {
         out.extend_from_slice(&self.to_be_bytes())
@@ -82,6 +88,8 @@ impl Part for u64 {
     ghost spelling = { b64 };
 
     ghost one = { one64 };
+
+    ghost again = { λ _ _. tt };
 
     #[tactic(auto, unfolding(crate::specs::Spelling::b64))]
     fn put_part(&self, out: &mut Vec<u8>) -> Result<(), AllocError> {
@@ -108,6 +116,8 @@ impl Part for bool {
     ghost spelling = { flag };
 
     ghost one = { one_flag };
+
+    ghost again = { λ _ _. tt };
 
     fn put_part(&self, out: &mut Vec<u8>) -> Result<(), AllocError> {
         Ok(out.push(u8::from(*self))?)

@@ -1,8 +1,7 @@
 //! Operations of change rows.
 
-ghost use Rattle.row_codec.specs.Spelling.{Any};
-ghost use Rattle.row_codec.specs.Records.{op_spelling};
-ghost use Rattle.row_codec.specs.RecordLaws.{one_op};
+ghost use Rattle.row_codec.specs.Spelling.{Any, op_spelling};
+ghost use Rattle.row_codec.specs.laws.Names.{one_op};
 
 use crate::part::Part;
 use crate::take_error::TakeError;
@@ -17,6 +16,8 @@ impl Part for Op {
     ghost spelling = { op_spelling };
 
     ghost one = { one_op };
+
+    ghost again = { λ _ _. tt };
 
     fn put_part(&self, out: &mut Vec<u8>) -> Result<(), AllocError> {
         let letter = match self {

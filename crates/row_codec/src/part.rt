@@ -2,7 +2,8 @@
 
 ghost use Rattle.std.specs.Prelude.{◌≡◌, ◌++◌, ℕ, List, OnOk, IfOk};
 ghost use Rattle.row_codec.specs.Takes.{NoFront, NoSpelling, One, PairFits, pair_spelling};
-ghost use Rattle.row_codec.specs.Ones.{one_pair};
+ghost use Rattle.row_codec.specs.laws.Again.{pair_again};
+ghost use Rattle.row_codec.specs.laws.Ones.{one_pair};
 
 use crate::take_error::TakeError;
 use std::alloc::{AllocError, Global};
@@ -18,7 +19,7 @@ pub trait Part: Sized + Drop {
 
     ghost spelling: { Self → List ℕ };
 
-    /// Appends the spelling. Without memory some of it may have been appended.
+    /// Appends the spelling. If memory runs out, some of it may have been appended.
     fn put_part(&self, out: &mut Vec<u8>) -> Result<(), AllocError>
         requires { has_spelling self.now }
         ensures ok { OnOk result (out.new.items ≡ out.old.items ++ spelling self.now) }
@@ -30,6 +31,9 @@ pub trait Part: Sized + Drop {
         ensures spelling { result ≡ Err TakeError.Spelling → NoFront fits spelling bytes.now };
 
     ghost one: { One fits spelling };
+
+    /// What was taken can be put again.
+    ghost again: { (x : Self) → fits x → has_spelling x };
 }
 
 impl<A: Part, B: Part> Part for (A, B) {
@@ -40,6 +44,8 @@ impl<A: Part, B: Part> Part for (A, B) {
     ghost spelling = { pair_spelling A.spelling B.spelling };
 
     ghost one = { one_pair A.fits B.fits A.spelling B.spelling A.one B.one };
+
+    ghost again = { pair_again A.fits B.fits A.has_spelling B.has_spelling A.again B.again };
 
     fn put_part(&self, out: &mut Vec<u8>) -> Result<(), AllocError> {
         self.0.put_part(out)?;
@@ -54,7 +60,7 @@ impl<A: Part, B: Part> Part for (A, B) {
 }
 
 /// The value whose spelling the bytes are, up to the last.
-pub(crate) fn take_whole<T: Part>(alloc: Global, bytes: &[u8]) -> Result<T, TakeError>
+pub fn take_whole<T: Part>(alloc: Global, bytes: &[u8]) -> Result<T, TakeError>
     ensures ok { IfOk result (λ value. T.fits value × (bytes.now ≡ T.spelling value)) }
     ensures spelling { result ≡ Err TakeError.Spelling → NoSpelling T.fits T.spelling bytes.now }
 {

@@ -7,7 +7,7 @@ use crate::take_error::TakeError;
 use std::alloc::Global;
 
 /// Two parts from the front of the bytes, and the bytes after them.
-pub(crate) fn take_two<A: Part, B: Part>(
+pub fn take_two<A: Part, B: Part>(
     alloc: Global,
     bytes: &[u8],
 ) -> Result<(A, B, &[u8]), TakeError>
@@ -19,7 +19,7 @@ pub(crate) fn take_two<A: Part, B: Part>(
 }
 
 /// Three parts, likewise.
-pub(crate) fn take_three<A: Part, B: Part, C: Part>(
+pub fn take_three<A: Part, B: Part, C: Part>(
     alloc: Global,
     bytes: &[u8],
 ) -> Result<(A, B, C, &[u8]), TakeError>
@@ -31,7 +31,7 @@ pub(crate) fn take_three<A: Part, B: Part, C: Part>(
 }
 
 /// Four parts, likewise.
-pub(crate) fn take_four<A: Part, B: Part, C: Part, D: Part>(
+pub fn take_four<A: Part, B: Part, C: Part, D: Part>(
     alloc: Global,
     bytes: &[u8],
 ) -> Result<(A, B, C, D, &[u8]), TakeError>
@@ -43,7 +43,7 @@ pub(crate) fn take_four<A: Part, B: Part, C: Part, D: Part>(
 }
 
 /// Five parts, likewise.
-pub(crate) fn take_five<A: Part, B: Part, C: Part, D: Part, E: Part>(
+pub fn take_five<A: Part, B: Part, C: Part, D: Part, E: Part>(
     alloc: Global,
     bytes: &[u8],
 ) -> Result<(A, B, C, D, E, &[u8]), TakeError>
@@ -55,7 +55,7 @@ pub(crate) fn take_five<A: Part, B: Part, C: Part, D: Part, E: Part>(
 }
 
 /// Six parts, likewise.
-pub(crate) fn take_six<A: Part, B: Part, C: Part, D: Part, E: Part, F: Part>(
+pub fn take_six<A: Part, B: Part, C: Part, D: Part, E: Part, F: Part>(
     alloc: Global,
     bytes: &[u8],
 ) -> Result<(A, B, C, D, E, F, &[u8]), TakeError>

@@ -2,13 +2,14 @@
 
 ghost use Rattle.std.specs.Prelude.{◌≡◌, ◌++◌, ◌<◌, length, OnOk, IfOk};
 ghost use Rattle.std.specs.List.{All};
+ghost use Rattle.repl_types.specs.Sizes.{IsKeySize};
 ghost use Rattle.repl_types.specs.Value.{key_cmp, images};
 ghost use Rattle.row_codec.specs.Takes.{NoSpelling};
 ghost use Rattle.row_codec.specs.Spelling.{IsCounted, IsRow, IsKey, row_spelling, key_spelling};
-ghost use Rattle.row_codec.specs.Values.{one_key, order_key};
+ghost use Rattle.row_codec.specs.laws.Values.{one_key, order_key};
 
 use crate::part::{Part, take_whole};
-use crate::stored::Key;
+use crate::key::Key;
 use crate::take_error::TakeError;
 use repl_types::{List, Row, Value};
 use std::alloc::{AllocError, Global};
@@ -53,9 +54,15 @@ impl Key for List<Value> {
 
     ghost cmp = { key_cmp };
 
+    ghost storable = { λ key. IsKeySize (key_spelling key) };
+
     ghost one = { one_key };
 
     ghost order = { order_key };
+
+    ghost sized = { λ _ _ sized. sized };
+
+    ghost again = { λ _ _ sized. sized };
 
     fn put_key(&self, out: &mut Vec<u8>) -> Result<(), AllocError> {
         for value in self.as_slice() {

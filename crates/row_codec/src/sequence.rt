@@ -1,8 +1,7 @@
 //! Places in a log.
 
-ghost use Rattle.row_codec.specs.Spelling.{Any};
-ghost use Rattle.row_codec.specs.RecordKeys.{sequence_spelling, IsSequence};
-ghost use Rattle.row_codec.specs.KeyOrder.{one_sequence};
+ghost use Rattle.row_codec.specs.Spelling.{Any, sequence_spelling, IsSequence};
+ghost use Rattle.row_codec.specs.laws.Names.{one_sequence};
 
 use crate::part::Part;
 use crate::parts::take_two;
@@ -18,6 +17,8 @@ impl Part for Sequence {
     ghost spelling = { sequence_spelling };
 
     ghost one = { one_sequence };
+
+    ghost again = { λ _ _. tt };
 
     fn put_part(&self, out: &mut Vec<u8>) -> Result<(), AllocError> {
         self.position.put_part(out)?;

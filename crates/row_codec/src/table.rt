@@ -3,7 +3,8 @@
 ghost use Rattle.std.specs.Prelude.{◌≡◌, ◌++◌, OnOk};
 ghost use Rattle.row_codec.specs.Spelling.{Any, b16, Is16, list_spelling, ListFits};
 ghost use Rattle.row_codec.specs.Definitions.{kind_spelling, column_spelling, IsColumn, table_spelling, IsTable, HasTableSpelling, registration_spelling, IsRegistration, HasRegistrationSpelling};
-ghost use Rattle.row_codec.specs.DefinitionLaws.{one_places, one_kind, one_column, one_table, one_registration};
+ghost use Rattle.row_codec.specs.laws.Again.{table_again, registration_again};
+ghost use Rattle.row_codec.specs.laws.Definitions.{one_places, one_kind, one_column, one_table, one_registration};
 
 use crate::part::Part;
 use crate::parts::{take_four, take_six, take_three};
@@ -34,6 +35,8 @@ impl Part for Places {
     ghost spelling = { list_spelling b16 };
 
     ghost one = { one_places };
+
+    ghost again = { λ _ fits. fits };
 
     fn put_part(&self, out: &mut Vec<u8>) -> Result<(), AllocError> {
         put_places(&self.list, out)
@@ -70,6 +73,8 @@ impl Part for Kind {
 
     ghost one = { one_kind };
 
+    ghost again = { λ _ _. tt };
+
     fn put_part(&self, out: &mut Vec<u8>) -> Result<(), AllocError> {
         let number = match self {
             Kind::Int => 1,
@@ -96,6 +101,8 @@ impl Part for ColumnDef {
 
     ghost one = { one_column };
 
+    ghost again = { λ _ _. tt };
+
     fn put_part(&self, out: &mut Vec<u8>) -> Result<(), AllocError> {
         self.name.put_part(out)?;
         self.kind.put_part(out)?;
@@ -121,6 +128,8 @@ impl Part for TableDef {
     ghost spelling = { table_spelling };
 
     ghost one = { one_table };
+
+    ghost again = { table_again };
 
     fn put_part(&self, out: &mut Vec<u8>) -> Result<(), AllocError> {
         self.name.put_part(out)?;
@@ -151,6 +160,8 @@ impl Part for Registration {
     ghost spelling = { registration_spelling };
 
     ghost one = { one_registration };
+
+    ghost again = { registration_again };
 
     fn put_part(&self, out: &mut Vec<u8>) -> Result<(), AllocError> {
         self.table.put_part(out)?;

@@ -1,8 +1,8 @@
 //! Rows and keys by hand.
 
 use crate::{
-    Key, TakeError, keys_in_byte_order, length_of_a_key, one_spelling_of_a_row, put_key, put_row,
-    take_row, worked_row,
+    Key, TakeError, keys_in_byte_order, length_of_a_key, lengths_of_numbers, one_spelling_of_a_row,
+    put_key, put_row, rows_of_64_values_are_storable, take_row, worked_row,
 };
 use repl_types::{List, Row, Text, Value};
 use std::alloc::Global;
@@ -139,4 +139,6 @@ fn laws_are_called(_: HostRuntime) {
     length_of_a_key();
     one_spelling_of_a_row();
     worked_row();
+    lengths_of_numbers();
+    rows_of_64_values_are_storable();
 }

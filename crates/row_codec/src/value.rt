@@ -3,7 +3,7 @@
 ghost use Rattle.std.specs.Prelude.{◌≡◌, ◌≢◌, ◌++◌, ◌∷◌, ℕ, List, [], length, OnOk, IfOk, IfSome};
 ghost use Rattle.repl_types.specs.ValueText.{IsValue};
 ghost use Rattle.row_codec.specs.Spelling.{Any, marked_byte, zeros_marked, shifted, value_spelling, IsText};
-ghost use Rattle.row_codec.specs.Values.{one_value};
+ghost use Rattle.row_codec.specs.laws.Values.{one_value};
 
 use crate::part::Part;
 use crate::take_error::TakeError;
@@ -34,7 +34,7 @@ fn put_byte(byte: u8, out: &mut Vec<u8>) -> Result<(), AllocError>
 }
 
 /// Appends the spelling of the value that is this text.
-pub(crate) fn put_text(text: &Text, out: &mut Vec<u8>) -> Result<(), AllocError>
+pub fn put_text(text: &Text, out: &mut Vec<u8>) -> Result<(), AllocError>
     ensures ok { OnOk result (out.new.items ≡ out.old.items ++ 2 ∷ zeros_marked text.now ++ 0 ∷ 0 ∷ []) }
     ensures fits { OnOk result (IsText text.now) }
 {
@@ -120,6 +120,8 @@ impl Part for Value {
     ghost spelling = { value_spelling };
 
     ghost one = { one_value };
+
+    ghost again = { λ _ _. tt };
 
     fn put_part(&self, out: &mut Vec<u8>) -> Result<(), AllocError> {
         match self {

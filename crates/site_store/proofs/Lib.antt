@@ -2,4 +2,3 @@ pub mod Called
 pub mod Counting
 pub mod Names
 pub mod Replaced
-pub mod Worked

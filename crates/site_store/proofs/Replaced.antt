@@ -1,5 +1,5 @@
 -- One server's keeper is replaced.
-use Rattle.std.proofs.Common.{◌≡◌, ◌≢◌, ℕ, ◌-◌, ◌^◌, ◌<◌, ◌≤◌, List, length, map, get_or, sym, ap, subst, ◌∙◌, arith, inl, inr}
+use Rattle.std.proofs.Common.{◌≡◌, ◌≢◌, ℕ, ◌+◌, ◌-◌, ◌^◌, ◌<◌, ◌≤◌, List, length, map, get_or, sym, ap, subst, ◌∙◌, arith, inl, inr}
 use Rattle.std.proofs.Math.ListN.{set}
 use Rattle.std.proofs.Math.Seq.{map-set_same}
 use Rattle.std.proofs.lemmas.Bool.{cases_eq}
@@ -10,10 +10,10 @@ use Rattle.site_store.specs.Servers.{names_of}
 use Rattle.site_store.specs.Calls.{NoneFell, NoneBack}
 
 -- what holds of each other element, and of the new one
-set_holds : (P : ℕ → ℕ → Type 0) (old : List ℕ) (s n q : ℕ) → s < length old → ((m : ℕ) → P m m) → P (get_or old s 0) n → P (get_or old q 0) (get_or (set old s n) q 0)
+set_holds : (P : ℕ → ℕ → ℕ → Type 0) (old : List ℕ) (s n q : ℕ) → s < length old → ((p m : ℕ) → P p m m) → P s (get_or old s 0) n → P q (get_or old q 0) (get_or (set old s n) q 0)
 set_holds P old s n q lt same here = elim (cases_eq q s) [
-  | inl e ↦ subst (λ (k : ℕ). P (get_or old k 0) (get_or (set old s n) k 0)) (sym e) (subst (P (get_or old s 0)) (sym (get_or-set_same old s n 0 lt)) here)
-  | inr ne ↦ subst (P (get_or old q 0)) (sym (get_or-set_other old s q n 0 ne)) (same (get_or old q 0))
+  | inl e ↦ subst (λ (k : ℕ). P k (get_or old k 0) (get_or (set old s n) k 0)) (sym e) (subst (P s (get_or old s 0)) (sym (get_or-set_same old s n 0 lt)) here)
+  | inr ne ↦ subst (P q (get_or old q 0)) (sym (get_or-set_other old s q n 0 ne)) (same q (get_or old q 0))
 ]
 
 -- the servers with a new keeper at one
@@ -45,16 +45,20 @@ module _ {K : Type 0} (kept : K → Kept) (xs : List (Site K)) (s : ℕ) (site :
   pub has_else : {X : Type 0} (f : Kept → X) (d : X) (q : ℕ) → q ≢ s → get_or (map (λ x. f (kept x.keeper)) (swapped xs s site new)) q d ≡ get_or (map (λ x. f (kept x.keeper)) xs) q d
   has_else {X} f d q ne = ap (λ (l : List X). get_or l q d) (map-set (λ x. f (kept x.keeper)) xs s _) ∙ get_or-set_other (map (λ x. f (kept x.keeper)) xs) s q (f (kept new)) d ne
 
-  -- a relation of counts holds everywhere where it holds at the server
-  grown : (P : ℕ → ℕ → Type 0) (f : Kept → ℕ) → ((m : ℕ) → P m m) → P (f (kept site.keeper)) (f (kept new)) → (q : ℕ) → P (get_or (map (λ x. f (kept x.keeper)) xs) q 0) (get_or (map (λ x. f (kept x.keeper)) (swapped xs s site new)) q 0)
+  -- a relation of counts holds everywhere if it holds at the server
+  pub grown : (P : ℕ → ℕ → ℕ → Type 0) (f : Kept → ℕ) → ((p m : ℕ) → P p m m) → P s (f (kept site.keeper)) (f (kept new)) → (q : ℕ) → P q (get_or (map (λ x. f (kept x.keeper)) xs) q 0) (get_or (map (λ x. f (kept x.keeper)) (swapped xs s site new)) q 0)
   grown P f same here q =
       let ys = map (λ (x : Site K). f (kept x.keeper)) xs in
-      subst (λ (l : List ℕ). P (get_or ys q 0) (get_or l q 0)) (sym (map-set (λ x. f (kept x.keeper)) xs s _)) (set_holds P ys s (f (kept new)) q (rw length-map lt) same (subst (λ (n : ℕ). P n (f (kept new))) (sym (had f 0)) here))
+      subst (λ (l : List ℕ). P q (get_or ys q 0) (get_or l q 0)) (sym (map-set (λ x. f (kept x.keeper)) xs s _)) (set_holds P ys s (f (kept new)) q (rw length-map lt) same (subst (λ (n : ℕ). P s n (f (kept new))) (sym (had f 0)) here))
 
-  -- no count fell where the server's didn't
+  -- no count fell if the server's didn't
   pub none_fell : (f : Kept → ℕ) → f (kept site.keeper) ≤ f (kept new) → NoneFell (map (λ x. f (kept x.keeper)) xs) (map (λ x. f (kept x.keeper)) (swapped xs s site new))
-  none_fell f here = grown (λ m n. m ≤ n) f (λ m. omega arith) here
+  none_fell f here = grown (λ q m n. m ≤ n) f (λ q m. omega arith) here
 
-  -- no count fell, or one stands at its last value, where the server's does so
+  -- no count fell, or one has reached its maximum, if the server's did so
   pub none_back : (f : Kept → ℕ) → (f (kept new) < 2 ^ 64 - 1 → f (kept site.keeper) ≤ f (kept new)) → NoneBack (map (λ x. f (kept x.keeper)) xs) (map (λ x. f (kept x.keeper)) (swapped xs s site new))
-  none_back f here = grown (λ m n. n < 2 ^ 64 - 1 → m ≤ n) f (λ m lt. omega arith) here
+  none_back f here = grown (λ q m n. n < 2 ^ 64 - 1 → m ≤ n) f (λ q m lt. omega arith) here
+
+  -- each count rose by at most so much if the server's did
+  pub within : (most : ℕ → ℕ) (f : Kept → ℕ) → f (kept new) ≤ f (kept site.keeper) + most s → (q : ℕ) → get_or (map (λ x. f (kept x.keeper)) (swapped xs s site new)) q 0 ≤ get_or (map (λ x. f (kept x.keeper)) xs) q 0 + most q
+  within most f here = grown (λ q m n. n ≤ m + most q) f (λ q m. omega arith) here

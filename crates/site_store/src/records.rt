@@ -2,16 +2,17 @@
 //!
 //! These calls leave a transaction open at a fault: who calls them rolls it back.
 
-ghost use Rattle.std.specs.Prelude.{◌≡◌, ◌<◌, ◌≤◌, length, OnOk, IfOk, IfErr, OnErr, IfSome};
+ghost use Rattle.std.specs.Prelude.{◌≡◌, OnOk, IfOk, IfErr, IfSome};
 ghost use Rattle.std.specs.Option.{option_copied};
+ghost use Rattle.repl_types.specs.Sizes.{IsKeySize, IsValueSize};
 ghost use Rattle.repl_types.specs.declared.area.Area.TheVariants.{Spill};
 ghost use Rattle.keep_core.specs.Kept.{Kept, IsOpen, IsClosed, opened, committed, after_read, after_write, after_put, after_remove, seen, WasThere, NextIs, GivesNext};
-ghost use Rattle.site_store.specs.Records.{RowIs, IsRow, after_key, NextRowIs, Follows, Misspelt, MisspeltNext, FailsFor, CauseFor, fault_from, Halts, MayHalt};
+ghost use Rattle.site_store.specs.Records.{RowIs, IsRow, after_key, NextRowIs, Follows, NoDamage, Misread, Misspelt, MisspeltNext, fault_from, Halts, MayHalt};
 
+use faults::Fault;
 use keep_core::{KeepError, Keeper};
-use repl_records::Fault;
 use repl_types::{Area, DamageCause, List};
-use row_codec::{Stored, TakeError};
+use row_codec::{Stored, TableNumber, TakeError};
 use std::alloc::{AllocError, Global};
 
 /// How many bytes there is room for at once, which most keys and records of numbers need at most.
@@ -42,19 +43,19 @@ pub(crate) fn get_record<K: Keeper, R: Stored>(
     alloc: Global,
     server: u32,
     keeper: &mut K,
-    table: u32,
+    table: R::Table,
     key: &R::Key,
 ) -> Result<Option<R>, Fault>
     ensures ok { OnOk result (K.kept keeper.new ≡ after_read (K.kept keeper.old) R.AREA) }
-    ensures row { IfOk result (λ row. IfSome (seen (K.kept keeper.old)) (RowIs R.spelling R.AREA table (R.Key.spelling key.now) row)) }
+    ensures row { IfOk result (λ row. IfSome (seen (K.kept keeper.old)) (RowIs R.spelling R.AREA (R.Table.number table) (R.Key.spelling key.now) row)) }
     ensures fits { IfOk result (λ row. IfSome row (IsRow R.fits R.spelling)) }
-    ensures err { OnErr result (Halts (K.kept keeper.old) (after_read (K.kept keeper.old) R.AREA) (K.kept keeper.new)) }
-    ensures cause { IfErr result (CauseFor server R.AREA (K.kept keeper.old) (K.kept keeper.new) (Misspelt R.fits R.spelling R.AREA table (R.Key.spelling key.now))) }
+    ensures fault { let damaged = Misspelt R.fits R.spelling R.AREA (R.Table.number table) (R.Key.spelling key.now) (seen (K.kept keeper.old)) in
+        IfErr result (Halts server (K.kept keeper.old) (after_read (K.kept keeper.old) R.AREA) (K.kept keeper.new) (Misread R.AREA damaged)) }
 {
     let mut spelled = Vec::with_capacity(alloc, ROOM)?;
     R::put_key(key, &mut spelled)?;
     let mut out = Vec::new(alloc);
-    match keeper.get(R::AREA, table, &spelled, &mut out) {
+    match keeper.get(R::AREA, table.table_number(), &spelled, &mut out) {
         Ok(true) => match R::take(alloc, &out) {
             Ok(row) => Ok(Some(row)),
             Err(TakeError::Memory) => Err(Fault::Memory),
@@ -81,19 +82,20 @@ pub(crate) fn next_record<K: Keeper, R: Stored>(
     alloc: Global,
     server: u32,
     keeper: &mut K,
-    table: u32,
+    table: R::Table,
     after: Option<&R::Key>,
 ) -> Result<Option<(R::Key, R)>, Fault>
     ensures ok { OnOk result (K.kept keeper.new ≡ after_read (K.kept keeper.old) R.AREA) }
-    ensures row { IfOk result (λ row. IfSome (seen (K.kept keeper.old)) (NextRowIs R.Key.spelling R.spelling R.AREA table (after_key R.Key.spelling (option_copied after.entry)) row)) }
+    ensures row { IfOk result (λ row. IfSome (seen (K.kept keeper.old)) (NextRowIs R.Key.spelling R.spelling R.AREA (R.Table.number table) (after_key R.Key.spelling (option_copied after.entry)) row)) }
     ensures rises { IfOk result (λ row. IfSome row (Follows R.Key.fits R.Key.spelling R.fits R.spelling (after_key R.Key.spelling (option_copied after.entry)))) }
-    ensures err { OnErr result (Halts (K.kept keeper.old) (after_read (K.kept keeper.old) R.AREA) (K.kept keeper.new)) }
-    ensures cause { IfErr result (CauseFor server R.AREA (K.kept keeper.old) (K.kept keeper.new) (MisspeltNext R.Key.fits R.Key.spelling R.fits R.spelling R.AREA table (after_key R.Key.spelling (option_copied after.entry)))) }
+    ensures fault { let from = after_key R.Key.spelling (option_copied after.entry) in
+        let damaged = MisspeltNext R.Key.fits R.Key.spelling R.fits R.spelling R.AREA (R.Table.number table) from (seen (K.kept keeper.old)) in
+        IfErr result (Halts server (K.kept keeper.old) (after_read (K.kept keeper.old) R.AREA) (K.kept keeper.new) (Misread R.AREA damaged)) }
 {
     let spelled = spell_after::<R>(alloc, after)?;
     let mut key = Vec::new(alloc);
     let mut out = Vec::new(alloc);
-    match keeper.next(R::AREA, table, &spelled, &mut key, &mut out) {
+    match keeper.next(R::AREA, table.table_number(), &spelled, &mut key, &mut out) {
         Ok(true) => match R::take_key(alloc, &key) {
             Ok(next) => match R::take(alloc, &out) {
                 Ok(row) => Ok(Some((next, row))),
@@ -113,24 +115,21 @@ pub(crate) fn put_record<K: Keeper, R: Stored>(
     alloc: Global,
     server: u32,
     keeper: &mut K,
-    table: u32,
+    table: R::Table,
     key: &R::Key,
     value: &R,
 ) -> Result<(), Fault>
     requires open { IsOpen (K.kept keeper.old) }
-    requires spelling { R.has_spelling value.now }
-    requires some { 0 < length (R.Key.spelling key.now) }
-    requires short { length (R.Key.spelling key.now) ≤ 1024 }
-    requires value { length (R.spelling value.now) ≤ 262144 }
-    ensures ok { OnOk result (K.kept keeper.new ≡ after_put (K.kept keeper.old) R.AREA table (R.Key.spelling key.now) (R.spelling value.now)) }
-    ensures err { OnErr result (Halts (K.kept keeper.old) (after_write (K.kept keeper.old) R.AREA) (K.kept keeper.new)) }
-    ensures cause { IfErr result (FailsFor server (K.kept keeper.old) (K.kept keeper.new)) }
+    requires key { R.Key.storable key.now }
+    requires value { R.storable value.now }
+    ensures ok { OnOk result (K.kept keeper.new ≡ after_put (K.kept keeper.old) R.AREA (R.Table.number table) (R.Key.spelling key.now) (R.spelling value.now)) }
+    ensures fault { IfErr result (Halts server (K.kept keeper.old) (after_write (K.kept keeper.old) R.AREA) (K.kept keeper.new) NoDamage) }
 {
     let mut spelled = Vec::with_capacity(alloc, ROOM)?;
     R::put_key(key, &mut spelled)?;
     let mut out = Vec::with_capacity(alloc, ROOM)?;
     value.put(&mut out)?;
-    match keeper.put(R::AREA, table, &spelled, &out) {
+    match keeper.put(R::AREA, table.table_number(), &spelled, &out) {
         Ok(()) => Ok(()),
         Err(e) => Err(fault_of(server, e)),
     }
@@ -141,18 +140,17 @@ pub(crate) fn remove_record<K: Keeper, R: Stored>(
     alloc: Global,
     server: u32,
     keeper: &mut K,
-    table: u32,
+    table: R::Table,
     key: &R::Key,
 ) -> Result<bool, Fault>
     requires { IsOpen (K.kept keeper.old) }
-    ensures ok { OnOk result (K.kept keeper.new ≡ after_remove (K.kept keeper.old) R.AREA table (R.Key.spelling key.now)) }
-    ensures found { IfOk result (λ found. IfSome (seen (K.kept keeper.old)) (WasThere R.AREA table (R.Key.spelling key.now) found)) }
-    ensures err { OnErr result (Halts (K.kept keeper.old) (after_write (K.kept keeper.old) R.AREA) (K.kept keeper.new)) }
-    ensures cause { IfErr result (FailsFor server (K.kept keeper.old) (K.kept keeper.new)) }
+    ensures ok { OnOk result (K.kept keeper.new ≡ after_remove (K.kept keeper.old) R.AREA (R.Table.number table) (R.Key.spelling key.now)) }
+    ensures found { IfOk result (λ found. IfSome (seen (K.kept keeper.old)) (WasThere R.AREA (R.Table.number table) (R.Key.spelling key.now) found)) }
+    ensures fault { IfErr result (Halts server (K.kept keeper.old) (after_write (K.kept keeper.old) R.AREA) (K.kept keeper.new) NoDamage) }
 {
     let mut spelled = Vec::with_capacity(alloc, ROOM)?;
     R::put_key(key, &mut spelled)?;
-    match keeper.remove(R::AREA, table, &spelled) {
+    match keeper.remove(R::AREA, table.table_number(), &spelled) {
         Ok(found) => Ok(found),
         Err(e) => Err(fault_of(server, e)),
     }
@@ -162,8 +160,7 @@ pub(crate) fn remove_record<K: Keeper, R: Stored>(
 pub(crate) fn begin_at<K: Keeper>(server: u32, keeper: &mut K) -> Result<(), Fault>
     requires { IsClosed (K.kept keeper.old) }
     ensures ok { OnOk result (K.kept keeper.new ≡ opened (K.kept keeper.old)) }
-    ensures err { OnErr result (Halts (K.kept keeper.old) (K.kept keeper.old) (K.kept keeper.new)) }
-    ensures cause { IfErr result (FailsFor server (K.kept keeper.old) (K.kept keeper.new)) }
+    ensures fault { IfErr result (Halts server (K.kept keeper.old) (K.kept keeper.old) (K.kept keeper.new) NoDamage) }
 {
     match keeper.begin() {
         Ok(()) => Ok(()),
@@ -175,8 +172,7 @@ pub(crate) fn begin_at<K: Keeper>(server: u32, keeper: &mut K) -> Result<(), Fau
 pub(crate) fn commit_at<K: Keeper>(server: u32, keeper: &mut K) -> Result<(), Fault>
     requires { IsOpen (K.kept keeper.old) }
     ensures ok { OnOk result (K.kept keeper.new ≡ committed (K.kept keeper.old)) }
-    ensures err { IfErr result (MayHalt server (K.kept keeper.old) (K.kept keeper.new)) }
-    ensures cause { IfErr result (FailsFor server (K.kept keeper.old) (K.kept keeper.new)) }
+    ensures fault { IfErr result (MayHalt server (K.kept keeper.old) (K.kept keeper.new)) }
 {
     match keeper.commit() {
         Ok(()) => Ok(()),
@@ -192,12 +188,10 @@ pub(crate) fn put_spill_at<K: Keeper>(
     value: &[u8],
 ) -> Result<(), Fault>
     requires open { IsOpen (K.kept keeper.old) }
-    requires some { 0 < length key.now }
-    requires short { length key.now ≤ 1024 }
-    requires value { length value.now ≤ 262144 }
+    requires key { IsKeySize key.now }
+    requires value { IsValueSize value.now }
     ensures ok { OnOk result (K.kept keeper.new ≡ after_put (K.kept keeper.old) Spill 0 key.now value.now) }
-    ensures err { OnErr result (Halts (K.kept keeper.old) (after_write (K.kept keeper.old) Spill) (K.kept keeper.new)) }
-    ensures cause { IfErr result (FailsFor server (K.kept keeper.old) (K.kept keeper.new)) }
+    ensures fault { IfErr result (Halts server (K.kept keeper.old) (after_write (K.kept keeper.old) Spill) (K.kept keeper.new) NoDamage) }
 {
     match keeper.put(Area::Spill, 0, key, value) {
         Ok(()) => Ok(()),
@@ -216,8 +210,7 @@ pub(crate) fn next_spill_at<K: Keeper>(
     ensures ok { OnOk result (K.kept keeper.new ≡ after_read (K.kept keeper.old) Spill) }
     ensures found { IfOk result (λ found. IfSome (seen (K.kept keeper.old)) (NextIs Spill 0 after.now found key.new.items out.new.items)) }
     ensures gives { IfOk result (λ found. GivesNext after.now found key.new.items out.new.items) }
-    ensures err { OnErr result (Halts (K.kept keeper.old) (after_read (K.kept keeper.old) Spill) (K.kept keeper.new)) }
-    ensures cause { IfErr result (FailsFor server (K.kept keeper.old) (K.kept keeper.new)) }
+    ensures fault { IfErr result (Halts server (K.kept keeper.old) (after_read (K.kept keeper.old) Spill) (K.kept keeper.new) NoDamage) }
 {
     match keeper.next(Area::Spill, 0, after, key, out) {
         Ok(found) => Ok(found),
@@ -235,8 +228,7 @@ pub(crate) fn remove_spill_at<K: Keeper>(
     requires { IsOpen (K.kept keeper.old) }
     ensures ok { OnOk result (K.kept keeper.new ≡ after_remove (K.kept keeper.old) Spill 0 key.now) }
     ensures found { IfOk result (λ found. IfSome (seen (K.kept keeper.old)) (WasThere Spill 0 key.now found)) }
-    ensures err { OnErr result (Halts (K.kept keeper.old) (after_write (K.kept keeper.old) Spill) (K.kept keeper.new)) }
-    ensures cause { IfErr result (FailsFor server (K.kept keeper.old) (K.kept keeper.new)) }
+    ensures fault { IfErr result (Halts server (K.kept keeper.old) (after_write (K.kept keeper.old) Spill) (K.kept keeper.new) NoDamage) }
 {
     match keeper.remove(Area::Spill, 0, key) {
         Ok(found) => Ok(found),

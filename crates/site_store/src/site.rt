@@ -1,12 +1,12 @@
 //! One server: its name and its keeper.
 
-ghost use Rattle.std.specs.Prelude.{◌≡◌, ◌<◌, ◌≤◌, length, OnOk, IfOk, IfErr, OnErr, IfSome};
+ghost use Rattle.std.specs.Prelude.{◌≡◌, OnOk, IfOk, IfErr, OnErr, IfSome};
 ghost use Rattle.std.specs.Option.{option_copied};
-ghost use Rattle.keep_core.specs.Kept.{IsOpen, IsClosed, opened, closed, committed, after_read, after_write, after_put, after_remove, seen, WasThere};
+ghost use Rattle.keep_core.specs.Kept.{IsOpen, IsClosed, opened, committed, after_read, after_write, after_put, after_remove, seen, WasThere, Closes};
 
 use crate::records::{begin_at, commit_at, get_record, next_record, put_record, remove_record};
+use faults::Fault;
 use keep_core::Keeper;
-use repl_records::Fault;
 use repl_types::Name;
 use row_codec::Stored;
 use std::alloc::Global;
@@ -19,7 +19,7 @@ pub struct Site<K> {
 }
 
 impl<K: Keeper> Site<K> {
-    ghost use Rattle.site_store.specs.Records.{RowIs, IsRow, after_key, NextRowIs, Follows, Misspelt, MisspeltNext, FailsFor, CauseFor, Halts, MayHalt};
+    ghost use Rattle.site_store.specs.Records.{RowIs, IsRow, after_key, NextRowIs, Follows, NoDamage, Misread, Misspelt, MisspeltNext, Halts, MayHalt};
     ghost use Rattle.site_store.specs.Servers.{name_of, keeper_of, state};
 
     /// It takes no memory.
@@ -35,9 +35,8 @@ impl<K: Keeper> Site<K> {
     pub fn begin(&mut self) -> Result<(), Fault>
         requires { IsClosed (state K.kept self.old) }
         ensures ok { OnOk result (state K.kept self.new ≡ opened (state K.kept self.old)) }
-        ensures err { OnErr result (Halts (state K.kept self.old) (state K.kept self.old) (state K.kept self.new)) }
+        ensures fault { IfErr result (Halts 0 (state K.kept self.old) (state K.kept self.old) (state K.kept self.new) NoDamage) }
         ensures closed { OnErr result (IsClosed (state K.kept self.new)) }
-        ensures cause { IfErr result (FailsFor 0 (state K.kept self.old) (state K.kept self.new)) }
         ensures name { name_of self.new ≡ name_of self.old }
     {
         match begin_at(0, &mut self.keeper) {
@@ -54,9 +53,8 @@ impl<K: Keeper> Site<K> {
     pub fn commit(&mut self) -> Result<(), Fault>
         requires { IsOpen (state K.kept self.old) }
         ensures ok { OnOk result (state K.kept self.new ≡ committed (state K.kept self.old)) }
-        ensures err { IfErr result (MayHalt 0 (state K.kept self.old) (state K.kept self.new)) }
+        ensures fault { IfErr result (MayHalt 0 (state K.kept self.old) (state K.kept self.new)) }
         ensures closed { OnErr result (IsClosed (state K.kept self.new)) }
-        ensures cause { IfErr result (FailsFor 0 (state K.kept self.old) (state K.kept self.new)) }
         ensures name { name_of self.new ≡ name_of self.old }
     {
         match commit_at(0, &mut self.keeper) {
@@ -70,7 +68,7 @@ impl<K: Keeper> Site<K> {
 
     /// No transaction is open, and what is held stays.
     pub fn rollback(&mut self)
-        ensures closed { state K.kept self.new ≡ closed (state K.kept self.old) (state K.kept self.old).faults }
+        ensures closes { Closes (state K.kept self.old) (state K.kept self.new) }
         ensures name { name_of self.new ≡ name_of self.old }
     {
         self.keeper.rollback();
@@ -80,15 +78,15 @@ impl<K: Keeper> Site<K> {
     pub fn get<R: Stored>(
         &mut self,
         alloc: Global,
-        table: u32,
+        table: R::Table,
         key: &R::Key,
     ) -> Result<Option<R>, Fault>
         ensures ok { OnOk result (state K.kept self.new ≡ after_read (state K.kept self.old) R.AREA) }
-        ensures row { IfOk result (λ row. IfSome (seen (state K.kept self.old)) (RowIs R.spelling R.AREA table (R.Key.spelling key.now) row)) }
+        ensures row { IfOk result (λ row. IfSome (seen (state K.kept self.old)) (RowIs R.spelling R.AREA (R.Table.number table) (R.Key.spelling key.now) row)) }
         ensures fits { IfOk result (λ row. IfSome row (IsRow R.fits R.spelling)) }
-        ensures err { OnErr result (Halts (state K.kept self.old) (after_read (state K.kept self.old) R.AREA) (state K.kept self.new)) }
+        ensures fault { let damaged = Misspelt R.fits R.spelling R.AREA (R.Table.number table) (R.Key.spelling key.now) (seen (state K.kept self.old)) in
+            IfErr result (Halts 0 (state K.kept self.old) (after_read (state K.kept self.old) R.AREA) (state K.kept self.new) (Misread R.AREA damaged)) }
         ensures closed { OnErr result (IsClosed (state K.kept self.new)) }
-        ensures cause { IfErr result (CauseFor 0 R.AREA (state K.kept self.old) (state K.kept self.new) (Misspelt R.fits R.spelling R.AREA table (R.Key.spelling key.now))) }
         ensures name { name_of self.new ≡ name_of self.old }
     {
         match get_record(alloc, 0, &mut self.keeper, table, key) {
@@ -105,15 +103,16 @@ impl<K: Keeper> Site<K> {
     pub fn next<R: Stored>(
         &mut self,
         alloc: Global,
-        table: u32,
+        table: R::Table,
         after: Option<&R::Key>,
     ) -> Result<Option<(R::Key, R)>, Fault>
         ensures ok { OnOk result (state K.kept self.new ≡ after_read (state K.kept self.old) R.AREA) }
-        ensures row { IfOk result (λ row. IfSome (seen (state K.kept self.old)) (NextRowIs R.Key.spelling R.spelling R.AREA table (after_key R.Key.spelling (option_copied after.entry)) row)) }
+        ensures row { IfOk result (λ row. IfSome (seen (state K.kept self.old)) (NextRowIs R.Key.spelling R.spelling R.AREA (R.Table.number table) (after_key R.Key.spelling (option_copied after.entry)) row)) }
         ensures rises { IfOk result (λ row. IfSome row (Follows R.Key.fits R.Key.spelling R.fits R.spelling (after_key R.Key.spelling (option_copied after.entry)))) }
-        ensures err { OnErr result (Halts (state K.kept self.old) (after_read (state K.kept self.old) R.AREA) (state K.kept self.new)) }
+        ensures fault { let from = after_key R.Key.spelling (option_copied after.entry) in
+            let damaged = MisspeltNext R.Key.fits R.Key.spelling R.fits R.spelling R.AREA (R.Table.number table) from (seen (state K.kept self.old)) in
+            IfErr result (Halts 0 (state K.kept self.old) (after_read (state K.kept self.old) R.AREA) (state K.kept self.new) (Misread R.AREA damaged)) }
         ensures closed { OnErr result (IsClosed (state K.kept self.new)) }
-        ensures cause { IfErr result (CauseFor 0 R.AREA (state K.kept self.old) (state K.kept self.new) (MisspeltNext R.Key.fits R.Key.spelling R.fits R.spelling R.AREA table (after_key R.Key.spelling (option_copied after.entry)))) }
         ensures name { name_of self.new ≡ name_of self.old }
     {
         match next_record(alloc, 0, &mut self.keeper, table, after) {
@@ -129,19 +128,16 @@ impl<K: Keeper> Site<K> {
     pub fn put<R: Stored>(
         &mut self,
         alloc: Global,
-        table: u32,
+        table: R::Table,
         key: &R::Key,
         value: &R,
     ) -> Result<(), Fault>
         requires open { IsOpen (state K.kept self.old) }
-        requires spelling { R.has_spelling value.now }
-        requires some { 0 < length (R.Key.spelling key.now) }
-        requires short { length (R.Key.spelling key.now) ≤ 1024 }
-        requires value { length (R.spelling value.now) ≤ 262144 }
-        ensures ok { OnOk result (state K.kept self.new ≡ after_put (state K.kept self.old) R.AREA table (R.Key.spelling key.now) (R.spelling value.now)) }
-        ensures err { OnErr result (Halts (state K.kept self.old) (after_write (state K.kept self.old) R.AREA) (state K.kept self.new)) }
+        requires key { R.Key.storable key.now }
+        requires value { R.storable value.now }
+        ensures ok { OnOk result (state K.kept self.new ≡ after_put (state K.kept self.old) R.AREA (R.Table.number table) (R.Key.spelling key.now) (R.spelling value.now)) }
+        ensures fault { IfErr result (Halts 0 (state K.kept self.old) (after_write (state K.kept self.old) R.AREA) (state K.kept self.new) NoDamage) }
         ensures closed { OnErr result (IsClosed (state K.kept self.new)) }
-        ensures cause { IfErr result (FailsFor 0 (state K.kept self.old) (state K.kept self.new)) }
         ensures name { name_of self.new ≡ name_of self.old }
     {
         match put_record(alloc, 0, &mut self.keeper, table, key, value) {
@@ -158,15 +154,14 @@ impl<K: Keeper> Site<K> {
     pub fn remove<R: Stored>(
         &mut self,
         alloc: Global,
-        table: u32,
+        table: R::Table,
         key: &R::Key,
     ) -> Result<bool, Fault>
         requires { IsOpen (state K.kept self.old) }
-        ensures ok { OnOk result (state K.kept self.new ≡ after_remove (state K.kept self.old) R.AREA table (R.Key.spelling key.now)) }
-        ensures found { IfOk result (λ found. IfSome (seen (state K.kept self.old)) (WasThere R.AREA table (R.Key.spelling key.now) found)) }
-        ensures err { OnErr result (Halts (state K.kept self.old) (after_write (state K.kept self.old) R.AREA) (state K.kept self.new)) }
+        ensures ok { OnOk result (state K.kept self.new ≡ after_remove (state K.kept self.old) R.AREA (R.Table.number table) (R.Key.spelling key.now)) }
+        ensures found { IfOk result (λ found. IfSome (seen (state K.kept self.old)) (WasThere R.AREA (R.Table.number table) (R.Key.spelling key.now) found)) }
+        ensures fault { IfErr result (Halts 0 (state K.kept self.old) (after_write (state K.kept self.old) R.AREA) (state K.kept self.new) NoDamage) }
         ensures closed { OnErr result (IsClosed (state K.kept self.new)) }
-        ensures cause { IfErr result (FailsFor 0 (state K.kept self.old) (state K.kept self.new)) }
         ensures name { name_of self.new ≡ name_of self.old }
     {
         match remove_record::<K, R>(alloc, 0, &mut self.keeper, table, key) {

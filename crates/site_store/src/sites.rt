@@ -1,6 +1,6 @@
 //! All servers, each at its number.
 
-ghost use Rattle.std.specs.Prelude.{◌≡◌, ◌<◌, ℕ, ◌^◌, ◌↔◌, IsTrue, [], slice_index_or, length, IfOk, IfErr, MatchOption, take};
+ghost use Rattle.std.specs.Prelude.{◌≡◌, ◌<◌, ◌≤◌, ℕ, ◌^◌, ◌↔◌, IsTrue, [], slice_index_or, length, IfOk, IfErr, MatchOption, take};
 ghost use Rattle.repl_types.specs.declared.area.Area.{Area};
 ghost use Rattle.site_store.specs.Servers.{names_of, held_of, work_of, faults_of, reads_of, writes_of, AllClosed, AreApart, AreServers, IsPlace, HasNone};
 
@@ -10,6 +10,7 @@ use repl_types::{List, Name};
 use thiserror::Error;
 
 mod calls;
+mod needed;
 mod spill;
 
 /// The most servers.
@@ -61,7 +62,7 @@ fn are_apart<K>(list: &[Site<K>]) -> bool
 fn close_each<K: Keeper>(list: &mut [Site<K>])
     ensures names { names_of list.new ≡ names_of list.old }
     ensures held { held_of K.kept list.new ≡ held_of K.kept list.old }
-    ensures faults { faults_of K.kept list.new ≡ faults_of K.kept list.old }
+    ensures faults { (s : ℕ) → slice_index_or (faults_of K.kept list.old) s 0 ≤ slice_index_or (faults_of K.kept list.new) s 0 }
     ensures reads { (a : Area) → reads_of K.kept a list.new ≡ reads_of K.kept a list.old }
     ensures writes { (a : Area) → writes_of K.kept a list.new ≡ writes_of K.kept a list.old }
     ensures closed { AllClosed (work_of K.kept list.new) }
@@ -72,8 +73,8 @@ fn close_each<K: Keeper>(list: &mut [Site<K>])
 }
 
 impl<K: Keeper> Sites<K> {
-    ghost use Rattle.site_store.specs.Views.{list_of, names, held, work, fault_counts, reads_in, writes_in};
-    ghost use Rattle.site_store.specs.Calls.{Closes, Stops};
+    ghost use Rattle.site_store.specs.Views.{list_of, names};
+    ghost use Rattle.site_store.specs.Calls.{ClosesOne, ClosesAll, no_access};
 
     /// All servers of the list. `BadSites` comes just where there are none, more than 16, or two of one
     /// name. It takes no memory.
@@ -123,10 +124,7 @@ impl<K: Keeper> Sites<K> {
 
     /// No transaction is open at any server, and what is held stays.
     pub fn rollback_all(&mut self)
-        ensures stops { Stops K.kept self.old self.new }
-        ensures faults { fault_counts K.kept self.new ≡ fault_counts K.kept self.old }
-        ensures reads { (a : Area) → reads_in K.kept a self.new ≡ reads_in K.kept a self.old }
-        ensures writes { (a : Area) → writes_in K.kept a self.new ≡ writes_in K.kept a self.old }
+        ensures { ClosesAll K.kept self.old self.new no_access }
     {
         close_each(&mut self.list);
     }
@@ -134,10 +132,7 @@ impl<K: Keeper> Sites<K> {
     /// No transaction is open at the server, and what is held stays.
     pub fn rollback(&mut self, server: u32)
         requires { server < length (names self.old) }
-        ensures closes { Closes K.kept self.old self.new server }
-        ensures faults { fault_counts K.kept self.new ≡ fault_counts K.kept self.old }
-        ensures reads { (a : Area) → reads_in K.kept a self.new ≡ reads_in K.kept a self.old }
-        ensures writes { (a : Area) → writes_in K.kept a self.new ≡ writes_in K.kept a self.old }
+        ensures { ClosesOne K.kept self.old self.new server }
     {
         let site = &mut self.list[server as usize];
         site.keeper.rollback();

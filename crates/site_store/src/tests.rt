@@ -8,7 +8,10 @@ ghost use Rattle.row_codec.specs.Spelling.{b64, Is64, Any};
 ghost use Rattle.row_codec.specs.Numbers.{one64};
 ghost use Rattle.row_codec.specs.Takes.{one_by};
 
-use crate::{Site, Sites, SitesError};
+use crate::{
+    Site, Sites, SitesError, key_bytes_in_order, next_of_rows, row_after_all, row_at_key,
+    row_before_all, rows_between,
+};
 use keep_core::{KeepError, Keeper};
 use repl_records::Fault;
 use repl_types::{Area, DamageCause, List, Name, VALUE_LIMIT};
@@ -291,4 +294,14 @@ fn servers_are_given_back(rt: HostRuntime) -> Result<(), Fail> {
     assert_eq!(rt; sites.name(1).as_str(), "shop");
     assert_eq!(rt; sites.into_list().len(), 2);
     Ok(())
+}
+
+#[test]
+fn laws_are_called(_: HostRuntime) {
+    key_bytes_in_order();
+    next_of_rows::<u64, u64>();
+    rows_between::<u64, u64>();
+    row_after_all::<u64, u64>();
+    row_before_all::<u64, u64>();
+    row_at_key::<u64, u64>();
 }

@@ -1,5 +1,5 @@
 use Rattle.repl_types.specs.Value.{images}
-use Rattle.row_codec.specs.Values.{one_key, order_key}
+use Rattle.row_codec.specs.laws.Values.{one_key, order_key}
 use Rattle.row_codec.proofs.laws.keys_in_byte_order.Goals as goal
 
 pub returns-clause-order : goal.returns-clause-order

@@ -1,6 +1,6 @@
-use Rattle.row_codec.specs.Takes.{one_whole}
+use Rattle.row_codec.specs.laws.Ones.{one_whole}
 use Rattle.row_codec.specs.Spelling.{IsRow, row_spelling}
-use Rattle.row_codec.specs.Values.{one_row}
+use Rattle.row_codec.specs.laws.Values.{one_row}
 use Rattle.row_codec.proofs.laws.one_spelling_of_a_row.Goals as goal
 
 pub returns : goal.returns

@@ -1,7 +1,7 @@
 use Rattle.std.proofs.Common.{◌≡◌, ℕ, true, false, List, [], length, sym, ap, ◌∙◌, append-nil, Err}
 use Rattle.std.specs.Prelude.{◌==◌}
 use Rattle.row_codec.specs.declared.take_error.TakeError.{TakeError}
-use Rattle.row_codec.proofs.Exits.{handed_on}
+use Rattle.row_codec.specs.laws.Exits.{handed_on}
 use Rattle.row_codec.proofs.part.take_whole.Goals as goal
 
 pub returns-in_err-value-clause-spelling : goal.returns-in_err-value-clause-spelling

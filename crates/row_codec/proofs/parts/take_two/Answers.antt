@@ -1,6 +1,6 @@
 use Rattle.std.proofs.Common.{ap, Err}
 use Rattle.row_codec.specs.declared.take_error.TakeError.{TakeError}
-use Rattle.row_codec.proofs.Exits.{handed_on}
+use Rattle.row_codec.specs.laws.Exits.{handed_on}
 use Rattle.row_codec.proofs.parts.take_two.Goals as goal
 
 pub returns-in_err-first-clause-spelling : goal.returns-in_err-first-clause-spelling

@@ -9,5 +9,11 @@ some_next : (saw : Option Contents) (a : Area) (t : â„•) (after key out : List â
 some_next None a t after key out h = tt
 some_next (Some c) a t after key out h = (key, h)
 
-pub returns-in-Ok-clause-cause : goal.returns-in-Ok-clause-cause
-returns-in-Ok-clause-cause g c = rw c.misspelt.ensures (refl, c.AREA-in-Err-Spelling-take.ensures, search rules, inr (search rules, search (rules, some_next)))
+pub returns-in-Ok-clause-fault : goal.returns-in-Ok-clause-fault
+returns-in-Ok-clause-fault g c = rw c.misspelt.ensures (record {
+  held = search rules;
+  reads = search rules;
+  writes = search rules;
+  later = search rules;
+  blames = (refl, search rules, (c.AREA-in-Err-Spelling-take.ensures, inr (search rules, search (rules, some_next))));
+})

@@ -1,6 +1,6 @@
 use Rattle.std.proofs.Common.{ap, Err, arith}
 use Rattle.row_codec.specs.declared.take_error.TakeError.{TakeError}
-use Rattle.row_codec.proofs.Exits.{handed_on}
+use Rattle.row_codec.specs.laws.Exits.{handed_on}
 use Rattle.row_codec.proofs.Lists.{no_list}
 use Rattle.row_codec.proofs.list.ListPart.take_part.Goals as goal
 

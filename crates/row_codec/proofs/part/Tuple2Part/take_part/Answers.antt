@@ -1,6 +1,6 @@
 use Rattle.std.proofs.Common.{sym, ap, ◌∙◌, append_assoc, ◌++◌, Err}
 use Rattle.row_codec.specs.declared.take_error.TakeError.{TakeError}
-use Rattle.row_codec.proofs.Exits.{handed_on}
+use Rattle.row_codec.specs.laws.Exits.{handed_on}
 use Rattle.row_codec.proofs.part.Tuple2Part.take_part.Goals as goal
 
 pub returns-in_err-second-clause-spelling : goal.returns-in_err-second-clause-spelling

@@ -2,7 +2,7 @@ use Rattle.std.proofs.Common.{◌≡◌, ℕ, ◌<◌, false, length, sym, ap, �
 use Rattle.std.specs.Prelude.{◌==◌}
 use Rattle.std.proofs.lemmas.Bool.Decides.{nat_tests}
 use Rattle.row_codec.specs.declared.take_error.TakeError.{TakeError}
-use Rattle.row_codec.proofs.Exits.{handed_on}
+use Rattle.row_codec.specs.laws.Exits.{handed_on}
 use Rattle.row_codec.proofs.Lists.{no_key}
 use Rattle.row_codec.proofs.row.ListValueKey.take_key.Goals as goal
 

@@ -1,40 +1,13 @@
-use Rattle.std.proofs.Common.{◌∙◌, ap, refl}
 use Rattle.std.specs.Option.{option_copied}
-use Rattle.keep_core.specs.Kept.{Kept}
-use Rattle.site_store.specs.Records.{after_key, MisspeltNext}
-use Rattle.site_store.proofs.Called.{servers_stay, goes, stops, cause, blames, reads_stay, writes_stay, reads_once, reads_at_most}
-use Rattle.site_store.proofs.Counting.{counted_other, counted_grows, halts_reads, halts_writes}
+use Rattle.site_store.specs.Records.{after_key, Misread, MisspeltNext}
+use Rattle.site_store.proofs.Called.{servers_stay, reads, read_fails}
 use Rattle.site_store.proofs.sites.Sites.next.Goals as goal
 
 pub invariant_of-self : goal.invariant_of-self
 invariant_of-self g c = record { servers = servers_stay g.K.Keeper.kept c.args.self.now c.args.server c.index_mut-site.result.now c.requires c.index_mut-site.ensures.value c.next_record.new.keeper }
 
 pub returns-in-Ok-clause-ok : goal.returns-in-Ok-clause-ok
-returns-in-Ok-clause-ok g c = goes g.K.Keeper.kept c.args.self.now c.args.server c.index_mut-site.result.now c.requires c.index_mut-site.ensures.value c.next_record.new.keeper _ g.R.Stored.AREA c.in-Ok.ensures.ok
+returns-in-Ok-clause-ok g c = reads g.K.Keeper.kept c.args.self.now c.args.server c.index_mut-site.result.now c.requires c.index_mut-site.ensures.value c.next_record.new.keeper _ g.R.Stored.AREA c.in-Ok.ensures.ok
 
-pub returns-in-Err-clause-err : goal.returns-in-Err-clause-err
-returns-in-Err-clause-err g c = stops g.K.Keeper.kept c.args.self.now c.args.server c.index_mut-site.result.now c.requires c.index_mut-site.ensures.value c.next_record.new.keeper _ _ c.rollback_all.new.self c.in-Err.ensures.err (λ b. counted_grows (g.K.Keeper.kept c.index_mut-site.result.now.keeper).reads g.R.Stored.AREA b) c.rollback_all.ensures.stops
-
-pub returns-in-Err-clause-cause : goal.returns-in-Err-clause-cause
-returns-in-Err-clause-cause g c = cause g.K.Keeper.kept c.args.self.now c.args.server c.index_mut-site.result.now c.requires c.index_mut-site.ensures.value c.next_record.new.keeper g.R.Stored.AREA (MisspeltNext g.R.Key.Key.fits g.R.Key.Key.spelling g.R.Part.fits g.R.Part.spelling g.R.Stored.AREA c.args.table (after_key g.R.Key.Key.spelling (option_copied c.args.after))) c.in-Err.e c.rollback_all.new.self c.rollback_all.ensures.faults (c.rollback_all.ensures.reads g.R.Stored.AREA) c.in-Err.ensures.cause
-
-pub returns-in-Err-clause-blames : goal.returns-in-Err-clause-blames
-returns-in-Err-clause-blames g c = blames g.K.Keeper.kept c.args.self.now c.args.server c.index_mut-site.result.now c.requires c.index_mut-site.ensures.value c.next_record.new.keeper g.R.Stored.AREA (MisspeltNext g.R.Key.Key.fits g.R.Key.Key.spelling g.R.Part.fits g.R.Part.spelling g.R.Stored.AREA c.args.table (after_key g.R.Key.Key.spelling (option_copied c.args.after))) c.in-Err.e c.rollback_all.new.self c.rollback_all.ensures.faults (c.rollback_all.ensures.reads g.R.Stored.AREA) c.in-Err.ensures.cause
-
-pub returns-in-Ok-clause-reads : goal.returns-in-Ok-clause-reads
-returns-in-Ok-clause-reads g c = λ a other. reads_stay g.K.Keeper.kept c.args.self.now c.args.server c.index_mut-site.result.now c.requires c.index_mut-site.ensures.value c.next_record.new.keeper a (ap (λ (k : Kept). k.reads a) c.in-Ok.ensures.ok ∙ counted_other (g.K.Keeper.kept c.index_mut-site.result.now.keeper).reads g.R.Stored.AREA a other)
-
-pub returns-in-Err-clause-reads : goal.returns-in-Err-clause-reads
-returns-in-Err-clause-reads g c = λ a other. c.rollback_all.ensures.reads a ∙ reads_stay g.K.Keeper.kept c.args.self.now c.args.server c.index_mut-site.result.now c.requires c.index_mut-site.ensures.value c.next_record.new.keeper a (halts_reads (g.K.Keeper.kept c.index_mut-site.result.now.keeper) _ (g.K.Keeper.kept c.next_record.new.keeper) c.in-Err.ensures.err a (counted_other (g.K.Keeper.kept c.index_mut-site.result.now.keeper).reads g.R.Stored.AREA a other))
-
-pub returns-in-Ok-clause-once : goal.returns-in-Ok-clause-once
-returns-in-Ok-clause-once g c = reads_once g.K.Keeper.kept c.args.self.now c.args.server c.index_mut-site.result.now c.requires c.index_mut-site.ensures.value c.next_record.new.keeper g.R.Stored.AREA (ap (λ (k : Kept). k.reads) c.in-Ok.ensures.ok)
-
-pub returns-in-Err-clause-at_most : goal.returns-in-Err-clause-at_most
-returns-in-Err-clause-at_most g c = reads_at_most g.K.Keeper.kept c.args.self.now c.args.server c.index_mut-site.result.now c.requires c.index_mut-site.ensures.value c.next_record.new.keeper g.R.Stored.AREA c.in-Err.ensures.err.reads (c.rollback_all.ensures.reads g.R.Stored.AREA)
-
-pub returns-in-Ok-clause-writes : goal.returns-in-Ok-clause-writes
-returns-in-Ok-clause-writes g c = λ a. writes_stay g.K.Keeper.kept c.args.self.now c.args.server c.index_mut-site.result.now c.requires c.index_mut-site.ensures.value c.next_record.new.keeper a (ap (λ (k : Kept). k.writes a) c.in-Ok.ensures.ok)
-
-pub returns-in-Err-clause-writes : goal.returns-in-Err-clause-writes
-returns-in-Err-clause-writes g c = λ a. c.rollback_all.ensures.writes a ∙ writes_stay g.K.Keeper.kept c.args.self.now c.args.server c.index_mut-site.result.now c.requires c.index_mut-site.ensures.value c.next_record.new.keeper a (halts_writes (g.K.Keeper.kept c.index_mut-site.result.now.keeper) _ (g.K.Keeper.kept c.next_record.new.keeper) c.in-Err.ensures.err a refl)
+pub returns-in-Err-clause-fault : goal.returns-in-Err-clause-fault
+returns-in-Err-clause-fault g c = read_fails g.K.Keeper.kept c.args.self.now c.args.server c.index_mut-site.result.now c.requires c.index_mut-site.ensures.value c.next_record.new.keeper _ c.rollback_all.new.self c.rollback_all.ensures g.R.Stored.AREA (λ saw. Misread g.R.Stored.AREA (MisspeltNext g.R.Key.Key.fits g.R.Key.Key.spelling g.R.Part.fits g.R.Part.spelling g.R.Stored.AREA (g.R.Table.TableNumber.number c.args.table) (after_key g.R.Key.Key.spelling (option_copied c.args.after)) saw)) c.in-Err.e c.in-Err.ensures.fault

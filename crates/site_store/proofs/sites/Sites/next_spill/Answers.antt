@@ -1,39 +1,13 @@
-use Rattle.std.proofs.Common.{◌∙◌, ap, refl}
 use Rattle.repl_types.specs.declared.area.Area.TheVariants as areas
-use Rattle.keep_core.specs.Kept.{Kept}
-use Rattle.site_store.proofs.Called.{servers_stay, goes, stops, fails, blames_failed, reads_stay, writes_stay, reads_once, reads_at_most}
-use Rattle.site_store.proofs.Counting.{counted_other, counted_grows, halts_reads, halts_writes}
+use Rattle.site_store.specs.Records.{NoDamage}
+use Rattle.site_store.proofs.Called.{servers_stay, reads, read_fails}
 use Rattle.site_store.proofs.sites.Sites.next_spill.Goals as goal
 
 pub invariant_of-self : goal.invariant_of-self
 invariant_of-self g c = record { servers = servers_stay g.K.Keeper.kept c.args.self.now c.args.server c.index_mut-site.result.now c.requires c.index_mut-site.ensures.value c.next_spill_at.new.keeper }
 
 pub returns-in-Ok-clause-ok : goal.returns-in-Ok-clause-ok
-returns-in-Ok-clause-ok g c = goes g.K.Keeper.kept c.args.self.now c.args.server c.index_mut-site.result.now c.requires c.index_mut-site.ensures.value c.next_spill_at.new.keeper _ areas.Spill c.in-Ok.ensures.ok
+returns-in-Ok-clause-ok g c = reads g.K.Keeper.kept c.args.self.now c.args.server c.index_mut-site.result.now c.requires c.index_mut-site.ensures.value c.next_spill_at.new.keeper _ areas.Spill c.in-Ok.ensures.ok
 
-pub returns-in-Err-clause-err : goal.returns-in-Err-clause-err
-returns-in-Err-clause-err g c = stops g.K.Keeper.kept c.args.self.now c.args.server c.index_mut-site.result.now c.requires c.index_mut-site.ensures.value c.next_spill_at.new.keeper _ _ c.rollback_all.new.self c.in-Err.ensures.err (λ b. counted_grows (g.K.Keeper.kept c.index_mut-site.result.now.keeper).reads areas.Spill b) c.rollback_all.ensures.stops
-
-pub returns-in-Err-clause-cause : goal.returns-in-Err-clause-cause
-returns-in-Err-clause-cause g c = fails g.K.Keeper.kept c.args.self.now c.args.server c.index_mut-site.result.now c.requires c.index_mut-site.ensures.value c.next_spill_at.new.keeper c.in-Err.e c.rollback_all.new.self c.rollback_all.ensures.faults c.in-Err.ensures.cause
-
-pub returns-in-Err-clause-blames : goal.returns-in-Err-clause-blames
-returns-in-Err-clause-blames g c = blames_failed g.K.Keeper.kept c.args.self.now c.args.server c.index_mut-site.result.now c.requires c.index_mut-site.ensures.value c.next_spill_at.new.keeper c.in-Err.e c.rollback_all.new.self c.rollback_all.ensures.faults c.in-Err.ensures.cause
-
-pub returns-in-Ok-clause-reads : goal.returns-in-Ok-clause-reads
-returns-in-Ok-clause-reads g c = λ a other. reads_stay g.K.Keeper.kept c.args.self.now c.args.server c.index_mut-site.result.now c.requires c.index_mut-site.ensures.value c.next_spill_at.new.keeper a (ap (λ (k : Kept). k.reads a) c.in-Ok.ensures.ok ∙ counted_other (g.K.Keeper.kept c.index_mut-site.result.now.keeper).reads areas.Spill a other)
-
-pub returns-in-Err-clause-reads : goal.returns-in-Err-clause-reads
-returns-in-Err-clause-reads g c = λ a other. c.rollback_all.ensures.reads a ∙ reads_stay g.K.Keeper.kept c.args.self.now c.args.server c.index_mut-site.result.now c.requires c.index_mut-site.ensures.value c.next_spill_at.new.keeper a (halts_reads (g.K.Keeper.kept c.index_mut-site.result.now.keeper) _ (g.K.Keeper.kept c.next_spill_at.new.keeper) c.in-Err.ensures.err a (counted_other (g.K.Keeper.kept c.index_mut-site.result.now.keeper).reads areas.Spill a other))
-
-pub returns-in-Ok-clause-once : goal.returns-in-Ok-clause-once
-returns-in-Ok-clause-once g c = reads_once g.K.Keeper.kept c.args.self.now c.args.server c.index_mut-site.result.now c.requires c.index_mut-site.ensures.value c.next_spill_at.new.keeper areas.Spill (ap (λ (k : Kept). k.reads) c.in-Ok.ensures.ok)
-
-pub returns-in-Err-clause-at_most : goal.returns-in-Err-clause-at_most
-returns-in-Err-clause-at_most g c = reads_at_most g.K.Keeper.kept c.args.self.now c.args.server c.index_mut-site.result.now c.requires c.index_mut-site.ensures.value c.next_spill_at.new.keeper areas.Spill c.in-Err.ensures.err.reads (c.rollback_all.ensures.reads areas.Spill)
-
-pub returns-in-Ok-clause-writes : goal.returns-in-Ok-clause-writes
-returns-in-Ok-clause-writes g c = λ a. writes_stay g.K.Keeper.kept c.args.self.now c.args.server c.index_mut-site.result.now c.requires c.index_mut-site.ensures.value c.next_spill_at.new.keeper a (ap (λ (k : Kept). k.writes a) c.in-Ok.ensures.ok)
-
-pub returns-in-Err-clause-writes : goal.returns-in-Err-clause-writes
-returns-in-Err-clause-writes g c = λ a. c.rollback_all.ensures.writes a ∙ writes_stay g.K.Keeper.kept c.args.self.now c.args.server c.index_mut-site.result.now c.requires c.index_mut-site.ensures.value c.next_spill_at.new.keeper a (halts_writes (g.K.Keeper.kept c.index_mut-site.result.now.keeper) _ (g.K.Keeper.kept c.next_spill_at.new.keeper) c.in-Err.ensures.err a refl)
+pub returns-in-Err-clause-fault : goal.returns-in-Err-clause-fault
+returns-in-Err-clause-fault g c = read_fails g.K.Keeper.kept c.args.self.now c.args.server c.index_mut-site.result.now c.requires c.index_mut-site.ensures.value c.next_spill_at.new.keeper _ c.rollback_all.new.self c.rollback_all.ensures areas.Spill (λ saw. NoDamage) c.in-Err.e c.in-Err.ensures.fault

@@ -1,42 +1,12 @@
-use Rattle.std.proofs.Common.{◌∙◌, ap, refl, arith}
 use Rattle.std.specs.Prelude.{None}
-use Rattle.keep_core.specs.Kept.{Kept}
-use Rattle.site_store.proofs.Called.{servers_stay, puts, stops, fails, blames_failed, works, reads_stay, writes_stay, writes_once, writes_at_most}
-use Rattle.site_store.proofs.Counting.{counted_other, halts_reads, halts_writes}
+use Rattle.site_store.proofs.Called.{servers_stay, puts, write_fails}
 use Rattle.site_store.proofs.sites.Sites.remove.Goals as goal
 
 pub invariant_of-self : goal.invariant_of-self
 invariant_of-self g c = record { servers = servers_stay g.K.Keeper.kept c.args.self.now c.args.server c.index_mut-site.result.now c.requires.server c.index_mut-site.ensures.value c.remove_record.new.keeper }
 
 pub returns-in-Ok-clause-ok : goal.returns-in-Ok-clause-ok
-returns-in-Ok-clause-ok g c = puts g.K.Keeper.kept c.args.self.now c.args.server c.index_mut-site.result.now c.requires.server c.index_mut-site.ensures.value c.remove_record.new.keeper _ g.R.Stored.AREA c.args.table (g.R.Key.Key.spelling c.args.key.now) None c.in-Ok.ensures.ok
+returns-in-Ok-clause-ok g c = puts g.K.Keeper.kept c.args.self.now c.args.server c.index_mut-site.result.now c.requires.server c.index_mut-site.ensures.value c.remove_record.new.keeper _ g.R.Stored.AREA (g.R.Table.TableNumber.number c.args.table) (g.R.Key.Key.spelling c.args.key.now) None c.requires.open c.in-Ok.ensures.ok
 
-pub returns-in-Ok-clause-works : goal.returns-in-Ok-clause-works
-returns-in-Ok-clause-works g c = works g.K.Keeper.kept c.args.self.now c.args.server c.index_mut-site.result.now c.requires.server c.index_mut-site.ensures.value c.remove_record.new.keeper g.R.Stored.AREA c.args.table (g.R.Key.Key.spelling c.args.key.now) None c.requires.open c.in-Ok.ensures.ok
-
-pub returns-in-Err-clause-err : goal.returns-in-Err-clause-err
-returns-in-Err-clause-err g c = stops g.K.Keeper.kept c.args.self.now c.args.server c.index_mut-site.result.now c.requires.server c.index_mut-site.ensures.value c.remove_record.new.keeper _ _ c.rollback_all.new.self c.in-Err.ensures.err (λ b lt. omega arith) c.rollback_all.ensures.stops
-
-pub returns-in-Err-clause-cause : goal.returns-in-Err-clause-cause
-returns-in-Err-clause-cause g c = fails g.K.Keeper.kept c.args.self.now c.args.server c.index_mut-site.result.now c.requires.server c.index_mut-site.ensures.value c.remove_record.new.keeper c.in-Err.e c.rollback_all.new.self c.rollback_all.ensures.faults c.in-Err.ensures.cause
-
-pub returns-in-Err-clause-blames : goal.returns-in-Err-clause-blames
-returns-in-Err-clause-blames g c = blames_failed g.K.Keeper.kept c.args.self.now c.args.server c.index_mut-site.result.now c.requires.server c.index_mut-site.ensures.value c.remove_record.new.keeper c.in-Err.e c.rollback_all.new.self c.rollback_all.ensures.faults c.in-Err.ensures.cause
-
-pub returns-in-Ok-clause-reads : goal.returns-in-Ok-clause-reads
-returns-in-Ok-clause-reads g c = λ a. reads_stay g.K.Keeper.kept c.args.self.now c.args.server c.index_mut-site.result.now c.requires.server c.index_mut-site.ensures.value c.remove_record.new.keeper a (ap (λ (k : Kept). k.reads a) c.in-Ok.ensures.ok)
-
-pub returns-in-Err-clause-reads : goal.returns-in-Err-clause-reads
-returns-in-Err-clause-reads g c = λ a. c.rollback_all.ensures.reads a ∙ reads_stay g.K.Keeper.kept c.args.self.now c.args.server c.index_mut-site.result.now c.requires.server c.index_mut-site.ensures.value c.remove_record.new.keeper a (halts_reads (g.K.Keeper.kept c.index_mut-site.result.now.keeper) _ (g.K.Keeper.kept c.remove_record.new.keeper) c.in-Err.ensures.err a refl)
-
-pub returns-in-Ok-clause-writes : goal.returns-in-Ok-clause-writes
-returns-in-Ok-clause-writes g c = λ a other. writes_stay g.K.Keeper.kept c.args.self.now c.args.server c.index_mut-site.result.now c.requires.server c.index_mut-site.ensures.value c.remove_record.new.keeper a (ap (λ (k : Kept). k.writes a) c.in-Ok.ensures.ok ∙ counted_other (g.K.Keeper.kept c.index_mut-site.result.now.keeper).writes g.R.Stored.AREA a other)
-
-pub returns-in-Err-clause-writes : goal.returns-in-Err-clause-writes
-returns-in-Err-clause-writes g c = λ a other. c.rollback_all.ensures.writes a ∙ writes_stay g.K.Keeper.kept c.args.self.now c.args.server c.index_mut-site.result.now c.requires.server c.index_mut-site.ensures.value c.remove_record.new.keeper a (halts_writes (g.K.Keeper.kept c.index_mut-site.result.now.keeper) _ (g.K.Keeper.kept c.remove_record.new.keeper) c.in-Err.ensures.err a (counted_other (g.K.Keeper.kept c.index_mut-site.result.now.keeper).writes g.R.Stored.AREA a other))
-
-pub returns-in-Ok-clause-once : goal.returns-in-Ok-clause-once
-returns-in-Ok-clause-once g c = writes_once g.K.Keeper.kept c.args.self.now c.args.server c.index_mut-site.result.now c.requires.server c.index_mut-site.ensures.value c.remove_record.new.keeper g.R.Stored.AREA (ap (λ (k : Kept). k.writes) c.in-Ok.ensures.ok)
-
-pub returns-in-Err-clause-at_most : goal.returns-in-Err-clause-at_most
-returns-in-Err-clause-at_most g c = writes_at_most g.K.Keeper.kept c.args.self.now c.args.server c.index_mut-site.result.now c.requires.server c.index_mut-site.ensures.value c.remove_record.new.keeper g.R.Stored.AREA c.in-Err.ensures.err.writes (c.rollback_all.ensures.writes g.R.Stored.AREA)
+pub returns-in-Err-clause-fault : goal.returns-in-Err-clause-fault
+returns-in-Err-clause-fault g c = write_fails g.K.Keeper.kept c.args.self.now c.args.server c.index_mut-site.result.now c.requires.server c.index_mut-site.ensures.value c.remove_record.new.keeper _ c.rollback_all.new.self c.rollback_all.ensures g.R.Stored.AREA c.in-Err.e c.in-Err.ensures.fault

@@ -1,0 +1,10 @@
+pub mod Defined
+pub mod Exprs
+pub mod Forests
+pub mod Members
+pub mod PendingTrees
+pub mod Predicates
+pub mod Sets
+pub mod Weights
+pub mod formers
+pub mod laws

@@ -1,5 +1,0 @@
-use Rattle.repl_records.specs.Weights.{predicate_weight}
-use Rattle.repl_records.proofs.tree.Predicate.drop.Given as goal
-
-abbrev pub decreases-loop-self : goal.decreases-loop-self
-decreases-loop-self l = predicate_weight l.self

@@ -1,0 +1,12 @@
+pub mod Again
+pub mod Definitions
+pub mod Exits
+pub mod Lengths
+pub mod LogRecords
+pub mod Names
+pub mod Numbers
+pub mod Ones
+pub mod Orders
+pub mod Sizes
+pub mod Tags
+pub mod Values

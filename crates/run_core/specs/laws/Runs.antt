@@ -1,0 +1,126 @@
+-- Laws of runs, which follow one another: proofs, and nothing to believe.
+use Rattle.std.proofs.Common.{◌≡◌, ℕ, List, [], ◌∷◌, ◌++◌, refl, sym, ap, subst, ◌∙◌, append_assoc}
+use Rattle.std.specs.Prelude.{Option}
+use Rattle.std.proofs.lemmas.List.{append-nil}
+use Rattle.keep_core.specs.Contents.{Contents}
+use Rattle.keep_core.specs.Told.{Takes, TakesFront}
+use Rattle.keep_core.specs.laws.Told.{takes_nothing, takes_both}
+use Rattle.run_core.specs.Runs.{Event, commits, writes, last_world, lines_of, IsPartOf, Went, Stopped, Going}
+
+-- ---- lists of events
+
+-- the lines of some events, and then those of others
+pub lines_append : {W : Type 0} (xs ys : List (Event W)) → lines_of (xs ++ ys) ≡ lines_of xs ++ lines_of ys
+lines_append [] ys = refl
+lines_append (commits w ∷ xs) ys = lines_append xs ys
+lines_append (writes l ∷ xs) ys = ap (λ (x : List ℕ). l ++ x) (lines_append xs ys) ∙ sym (append_assoc l (lines_of xs) (lines_of ys))
+
+-- the last world of some events, and then of others
+pub last_append : {W : Type 0} (w : W) (xs ys : List (Event W)) → last_world w (xs ++ ys) ≡ last_world (last_world w xs) ys
+last_append w [] ys = refl
+last_append w (commits v ∷ xs) ys = last_append v xs ys
+last_append w (writes l ∷ xs) ys = last_append w xs ys
+
+-- a part of the line that comes next is so with more events after it
+part_of_more : {W : Type 0} (part : List ℕ) (rest more : List (Event W)) → IsPartOf part rest → IsPartOf part (rest ++ more)
+part_of_more part [] [] is = is
+part_of_more part [] (commits w ∷ more) is = is
+part_of_more part [] (writes l ∷ more) is = (l, sym (ap (λ (p : List ℕ). p ++ l) is))
+part_of_more part (commits w ∷ rest) more is = is
+part_of_more part (writes l ∷ rest) more is = is
+
+-- no byte is a part of whatever comes next
+no_part : {W : Type 0} (events : List (Event W)) → IsPartOf [] events
+no_part [] = refl
+no_part (commits w ∷ events) = refl
+no_part (writes line ∷ events) = (line, refl)
+
+module _ {W : Type 0} (Stands : List (Option Contents) → W → Type 0) where
+  -- ---- one event
+
+  -- nothing is left to do, and nothing happened
+  pub went_nowhere : (w : W) (h : List (Option Contents)) (t : Option (List ℕ)) → Stands h w → Went Stands [] w h t t
+  went_nowhere w h t at = record { stands = at; bytes = takes_nothing t }
+
+  -- a commit took place
+  pub went_commit : (w v : W) (h : List (Option Contents)) (t : Option (List ℕ)) → Stands h v → Went Stands (commits v ∷ []) w h t t
+  went_commit w v h t at = record { stands = at; bytes = takes_nothing t }
+
+  -- a line was written
+  pub went_line : (w : W) (line : List ℕ) (h : List (Option Contents)) (t u : Option (List ℕ)) → Stands h w → Takes t u line → Went Stands (writes line ∷ []) w h t u
+  went_line w line h t u at took = record { stands = at; bytes = subst (Takes t u) (sym (append-nil line)) took }
+
+  -- a run stopped before its first event
+  pub stopped_before : (w : W) (events : List (Event W)) (h : List (Option Contents)) (t : Option (List ℕ)) → Stands h w → Stopped Stands events w h t t
+  stopped_before w events h t at = record {
+    done = [];
+    rest = events;
+    part = [];
+    split = refl;
+    stands = at;
+    bytes = takes_nothing t;
+    is_part = no_part events;
+  }
+
+  -- a run stopped after its first event, which was a commit
+  pub stopped_after : (w v : W) (events : List (Event W)) (h : List (Option Contents)) (t : Option (List ℕ)) → Stands h v → Stopped Stands (commits v ∷ events) w h t t
+  stopped_after w v events h t at = record {
+    done = commits v ∷ [];
+    rest = events;
+    part = [];
+    split = refl;
+    stands = at;
+    bytes = takes_nothing t;
+    is_part = no_part events;
+  }
+
+  -- a run stopped in its first event, which was a line
+  pub stopped_in_line : (w : W) (line : List ℕ) (events : List (Event W)) (h : List (Option Contents)) (t u : Option (List ℕ)) → Stands h w → TakesFront t u line → Stopped Stands (writes line ∷ events) w h t u
+  stopped_in_line w line events h t u at took = record {
+    done = [];
+    rest = writes line ∷ events;
+    part = took.front;
+    split = refl;
+    stands = at;
+    bytes = took.taken;
+    is_part = (took.rest, took.parts);
+  }
+
+  -- ---- one run after another
+
+  -- the start of a run
+  pub going_start : (w : W) (left : W → List (Event W)) (h : List (Option Contents)) (t : Option (List ℕ)) → Stands h w → Going Stands (left w) w left h t t
+  going_start w left h t at = record { done = []; split = refl; stands = at; bytes = takes_nothing t }
+
+  module _ (events : List (Event W)) (w : W) (h h2 : List (Option Contents)) (before now now2 : Option (List ℕ)) (one : W → List (Event W)) (left : W → List (Event W)) (going : Going Stands events w (λ v. one v ++ left (last_world v (one v))) h before now) where
+    -- the next part of a run goes on past its events
+    pub goes_on : Went Stands (one (last_world w going.done)) (last_world w going.done) h2 now now2 → Going Stands events w left h2 before now2
+    goes_on went =
+        let v = last_world w going.done in record {
+          done = going.done ++ one v;
+          split = going.split ∙ sym (append_assoc going.done (one v) (left (last_world v (one v)))) ∙ ap (λ (u : W). (going.done ++ one v) ++ left u) (sym (last_append w going.done (one v)));
+          stands = subst (Stands h2) (sym (last_append w going.done (one v))) went.stands;
+          bytes = subst (Takes before now2) (sym (lines_append going.done (one v))) (takes_both before now now2 (lines_of going.done) (lines_of (one v)) going.bytes went.bytes);
+        }
+
+    -- or stops in them
+    pub stops_in : Stopped Stands (one (last_world w going.done)) (last_world w going.done) h2 now now2 → Stopped Stands events w h2 before now2
+    stops_in stopped =
+        let v = last_world w going.done in
+        let later = left (last_world v (one v)) in record {
+          done = going.done ++ stopped.done;
+          rest = stopped.rest ++ later;
+          part = stopped.part;
+          split = going.split ∙ ap (λ (x : List (Event W)). going.done ++ (x ++ later)) stopped.split ∙ ap (λ (x : List (Event W)). going.done ++ x) (append_assoc stopped.done stopped.rest later) ∙ sym (append_assoc going.done stopped.done (stopped.rest ++ later));
+          stands = subst (Stands h2) (sym (last_append w going.done stopped.done)) stopped.stands;
+          bytes = subst (Takes before now2) (sym (append_assoc (lines_of going.done) (lines_of stopped.done) stopped.part) ∙ ap (λ (x : List ℕ). x ++ stopped.part) (sym (lines_append going.done stopped.done))) (takes_both before now now2 (lines_of going.done) (lines_of stopped.done ++ stopped.part) going.bytes stopped.bytes);
+          is_part = part_of_more stopped.part stopped.rest later stopped.is_part;
+        }
+
+  -- nothing is left
+  pub going_end : (events : List (Event W)) (w : W) (h : List (Option Contents)) (before now : Option (List ℕ)) → Going Stands events w (λ v. []) h before now → Went Stands events w h before now
+  going_end events w h before now going =
+      let all : events ≡ going.done = going.split ∙ append-nil going.done in record {
+        stands = subst (λ (x : List (Event W)). Stands h (last_world w x)) (sym all) going.stands;
+        bytes = subst (λ (x : List (Event W)). Takes before now (lines_of x)) (sym all) going.bytes;
+      }

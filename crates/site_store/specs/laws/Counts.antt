@@ -1,0 +1,61 @@
+-- Laws of what calls keep and how often they read and write: proofs, and nothing to believe.
+use Rattle.std.proofs.Common.{◌≡◌, ℕ, ◌+◌, ◌≤◌, ◌∙◌, refl, arith}
+use Rattle.repl_types.specs.declared.area.Area.{Area}
+use Rattle.keep_core.specs.Kept.{Kept}
+use Rattle.site_store.specs.declared.sites.Sites.{Sites}
+use Rattle.site_store.specs.Calls.{Bounds, no_access, both, IsWithin, Passes, Stays, ClosesAll}
+
+-- The one bounds allow no more than the others.
+pub record IsAtMost (x y : Bounds) : Type 0 where
+  pub reads : (s : ℕ) (a : Area) → x.reads s a ≤ y.reads s a
+  pub writes : (s : ℕ) (a : Area) → x.writes s a ≤ y.writes s a
+
+-- nothing allows no more than anything
+pub none_at_most : (x : Bounds) → IsAtMost no_access x
+none_at_most x = record { reads = λ s a. omega arith; writes = λ s a. omega arith }
+
+-- bounds are at most themselves
+pub at_most_itself : (x : Bounds) → IsAtMost x x
+at_most_itself x = record { reads = λ s a. omega arith; writes = λ s a. omega arith }
+
+module _ {K : Type 0} (kept : K → Kept) where
+  -- wider bounds hold too
+  pub passes_within : (s0 s1 : Sites K) (x y : Bounds) → Passes kept s0 s1 x → IsAtMost x y → Passes kept s0 s1 y
+  passes_within s0 s1 x y p most = record {
+    names = p.names;
+    faults = p.faults;
+    reads = p.reads;
+    within = record {
+      reads = λ s a. omega (arith, p.within.reads s a, most.reads s a);
+      writes = λ s a. omega (arith, p.within.writes s a, most.writes s a);
+    };
+  }
+
+  -- one call after another, within any bounds that allow both
+  pub passes_then : (s0 s1 s2 : Sites K) (x y z : Bounds) → Passes kept s0 s1 x → Passes kept s1 s2 y → IsAtMost (both x y) z → Passes kept s0 s2 z
+  passes_then s0 s1 s2 x y z p q most = record {
+    names = q.names ∙ p.names;
+    faults = λ s. omega (arith, p.faults s, q.faults s);
+    reads = λ a s lt. let more = q.reads a s lt in let less = p.reads a s (omega (arith, more, lt)) in omega (arith, more, less);
+    within = record {
+      reads = λ s a. omega (arith, p.within.reads s a, q.within.reads s a, most.reads s a);
+      writes = λ s a. omega (arith, p.within.writes s a, q.within.writes s a, most.writes s a);
+    };
+  }
+
+  -- nothing was called
+  pub passes_none : (s0 : Sites K) (x : Bounds) → Passes kept s0 s0 x
+  passes_none s0 x = record {
+    names = refl;
+    faults = λ s. omega arith;
+    reads = λ a s lt. omega arith;
+    within = record { reads = λ s a. omega arith; writes = λ s a. omega arith };
+  }
+
+  -- calls that leave all as it is, one after another
+  pub stays_then : (s0 s1 s2 : Sites K) (x y z : Bounds) → Stays kept s0 s1 x → Stays kept s1 s2 y → IsAtMost (both x y) z → Stays kept s0 s2 z
+  stays_then s0 s1 s2 x y z a b most = record {
+    passes = passes_then s0 s1 s2 x y z a.passes b.passes most;
+    held = b.held ∙ a.held;
+    work = b.work ∙ a.work;
+  }

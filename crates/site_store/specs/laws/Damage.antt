@@ -1,0 +1,149 @@
+-- Laws of evidence for damage: proofs, and nothing to believe.
+use Rattle.std.proofs.Common.{◌≡◌, ◌≢◌, ℕ, ◌<◌, Bool, true, false, cond, List, length, get_or, refl, sym, ap, subst, ◌∙◌, arith, inl, inr}
+use Rattle.std.specs.Prelude.{◌⊎◌, ◌&&◌, ◌==◌, Option, Some, None, IsSome, IfSome}
+use Rattle.std.proofs.lemmas.Bool.{cases_eq}
+use Rattle.std.proofs.lemmas.List.{get_or-set_same, get_or-set_other, length-map}
+use Rattle.std.proofs.lemmas.Bool.Decides.{nat_tests}
+use Rattle.repl_types.specs.Area.{same_area, area_number}
+use Rattle.repl_types.specs.Bytes.{bytes_cmp}
+use Rattle.repl_types.specs.declared.area.Area.{Area}
+use Rattle.repl_types.specs.declared.status.DamageCause.{DamageCause}
+use Rattle.repl_types.specs.declared.status.DamageCause.TheVariants as causes
+use Rattle.faults.specs.declared.fault.Fault.{Fault}
+use Rattle.faults.specs.declared.fault.Fault.TheVariants as faults
+use Rattle.keep_core.specs.Contents.{Contents, same_key, put_at, IsNext}
+use Rattle.keep_core.specs.Kept.{Kept, seen_of}
+use Rattle.keep_core.specs.Told.{Rises}
+use Rattle.row_codec.specs.Takes.{NoSpelling}
+use Rattle.site_store.specs.declared.sites.Sites.{Sites}
+use Rattle.site_store.specs.Records.{Misread, Misspelt, MisspeltNext}
+use Rattle.site_store.specs.Views.{names, held, work, sees, fault_counts, reads_in, IsOpenAt}
+use Rattle.site_store.specs.Works.{Works}
+use Rattle.site_store.specs.Calls.{Bounds, both, Passes, Stays, ClosesAll, AtServer, Blames, IsRead, Fails}
+use Rattle.site_store.specs.Damage.{Rules, Shows, ShowsMisspelt, Damages, IsSpelt, AddsOnlySpelt, ShownBefore}
+use Rattle.site_store.specs.laws.Counts.{IsAtMost, passes_then}
+
+-- what isn't seen shows no less
+pub shown_unseen : (rules : Rules) (a : Area) (cause : DamageCause) (saw : Option Contents) → Shows rules a cause saw → Shows rules a cause None
+shown_unseen rules a (causes.Spelling bytes) saw h = elim h.1 [
+  | inl k ↦ (h.0, inl (k.0, tt))
+  | inr v ↦ (h.0, inr (v.0, tt))
+]
+shown_unseen rules a (causes.Absent key) saw h = (h.0, tt)
+shown_unseen rules a (causes.Unfit bytes) saw h = (h.0, tt)
+shown_unseen rules a (causes.NoRest steps) saw h = h
+
+-- ---- from the bytes of one kind of record
+
+-- bytes that are no record's of a kind show damage where only records of the kind are values
+pub misspelt_shows : {X : Type 0} (fits : X → Type 0) (spelling : X → List ℕ) (rules : Rules) (a b : Area) (t : ℕ) (key : List ℕ) (saw : Option Contents) (cause : DamageCause) → ((bytes : List ℕ) → rules.is_value a t bytes → (x : X) × fits x × (bytes ≡ spelling x)) → Misread a (Misspelt fits spelling a t key saw) b cause → Shows rules b cause saw
+misspelt_shows fits spelling rules a b t key saw (causes.Spelling bytes) only h =
+    let wrong : rules.is_value a t bytes → ⊥ = λ is. let x = only bytes is in h.1.0 x.0 x.1 x.2 in
+    subst (λ (area : Area). ShowsMisspelt rules area bytes saw) (sym h.0) (t, inr (wrong, there saw h.1.1))
+  where
+    there : (saw : Option Contents) → IfSome saw (λ c. c a t key ≡ Some bytes) → IfSome saw (λ c. (k : List ℕ) × (c a t k ≡ Some bytes))
+    there None h = tt
+    there (Some c) h = (key, h)
+misspelt_shows fits spelling rules a b t key saw (causes.Absent bytes) only h = absurd h
+misspelt_shows fits spelling rules a b t key saw (causes.Unfit bytes) only h = absurd h
+misspelt_shows fits spelling rules a b t key saw (causes.NoRest steps) only h = absurd h
+
+-- the same of a key and a value that a search gave
+pub misspelt_next_shows : {Y X : Type 0} (key_fits : Y → Type 0) (key_spelling : Y → List ℕ) (fits : X → Type 0) (spelling : X → List ℕ) (rules : Rules) (a b : Area) (t : ℕ) (after : List ℕ) (saw : Option Contents) (cause : DamageCause) → ((bytes : List ℕ) → rules.is_key a t bytes → (y : Y) × key_fits y × (bytes ≡ key_spelling y)) → ((bytes : List ℕ) → rules.is_value a t bytes → (x : X) × fits x × (bytes ≡ spelling x)) → Misread a (MisspeltNext key_fits key_spelling fits spelling a t after saw) b cause → Shows rules b cause saw
+misspelt_next_shows key_fits key_spelling fits spelling rules a b t after saw (causes.Spelling bytes) only_key only h =
+    subst (λ (area : Area). ShowsMisspelt rules area bytes saw) (sym h.0) (elim h.1 [
+      | inl k ↦ (t, inl ((λ is. let y = only_key bytes is in k.0 y.0 y.1 y.2), at_key saw k.1))
+      | inr v ↦ (t, inr ((λ is. let x = only bytes is in v.0 x.0 x.1 x.2), at_value saw v.1))
+    ])
+  where
+    at_key : (saw : Option Contents) → IfSome saw (λ c. (value : List ℕ) × IsNext (c a t) after bytes value) → IfSome saw (λ c. (value : List ℕ) × (c a t bytes ≡ Some value))
+    at_key None h = tt
+    at_key (Some c) h = (h.0, h.1.has)
+
+    at_value : (saw : Option Contents) → IfSome saw (λ c. (key : List ℕ) × IsNext (c a t) after key bytes) → IfSome saw (λ c. (key : List ℕ) × (c a t key ≡ Some bytes))
+    at_value None h = tt
+    at_value (Some c) h = (h.0, h.1.has)
+misspelt_next_shows key_fits key_spelling fits spelling rules a b t after saw (causes.Absent bytes) only_key only h = absurd h
+misspelt_next_shows key_fits key_spelling fits spelling rules a b t after saw (causes.Unfit bytes) only_key only h = absurd h
+misspelt_next_shows key_fits key_spelling fits spelling rules a b t after saw (causes.NoRest steps) only_key only h = absurd h
+
+-- ---- what contents show
+
+-- contents of which each entry is spelt show no bytes that aren't
+pub spelt_shows_none : (rules : Rules) (c : Contents) (a : Area) (bytes : List ℕ) → IsSpelt rules c → Shows rules a (causes.Spelling bytes) (Some c) → ⊥
+spelt_shows_none rules c a bytes spelt h = elim h.1 [
+  | inl k ↦ k.0 (spelt a h.0 bytes k.1.0 k.1.1).0
+  | inr v ↦ v.0 (spelt a h.0 v.1.0 bytes v.1.1).1
+]
+
+-- misspelt bytes that are seen after only spelt entries were added stood there before
+pub misspelt_before : (rules : Rules) (c d : Contents) (a : Area) (bytes : List ℕ) → AddsOnlySpelt rules c d → ShowsMisspelt rules a bytes (Some d) → ShowsMisspelt rules a bytes (Some c)
+misspelt_before rules c d a bytes adds h = elim h.1 [
+  | inl k ↦ (h.0, inl (k.0, elim (adds a h.0 bytes k.1.0 k.1.1) [
+    | inl new ↦ absurd (k.0 new.0)
+    | inr old ↦ (k.1.0, old)
+  ]))
+  | inr v ↦ (h.0, inr (v.0, elim (adds a h.0 v.1.0 bytes v.1.1) [
+    | inl new ↦ absurd (v.0 new.1)
+    | inr old ↦ (v.1.0, old)
+  ]))
+]
+
+-- nothing was added
+pub adds_nothing : (rules : Rules) (c : Contents) → AddsOnlySpelt rules c c
+adds_nothing rules c a t key value h = inr h
+
+-- one change after another
+pub adds_then : (rules : Rules) (c d e : Contents) → AddsOnlySpelt rules c d → AddsOnlySpelt rules d e → AddsOnlySpelt rules c e
+adds_then rules c d e first second a t key value h = elim (second a t key value h) [
+  | inl new ↦ inl new
+  | inr old ↦ first a t key value old
+]
+
+-- ---- a fault after other calls
+
+module _ {K : Type 0} (kept : K → Kept) (rules : Rules) (s0 s1 s2 : Sites K) (x y z : Bounds) (e : Fault) (most : IsAtMost (both x y) z) where
+  -- the blame stays, and so does the damage where it was shown before
+  blames_then : Passes kept s0 s1 x → Passes kept s1 s2 y → ((s : ℕ) (a : Area) (cause : DamageCause) → Damages rules kept s1 s a cause → Damages rules kept s0 s a cause) → (e : Fault) → Blames kept s1 s2 (Damages rules kept s1) e → Blames kept s0 s2 (Damages rules kept s0) e
+  blames_then p q back faults.Memory h = tt
+  blames_then p q back (faults.Keeper s) h = λ lt. omega (arith, p.faults s, h lt)
+  blames_then p q back (faults.Damaged s a cause) h = ((λ read lt. let rose = h.0 read lt in let le = p.reads a s (omega (arith, rose, lt)) in omega (arith, rose, le)), back s a cause h.1)
+  blames_then p q back (faults.Refused refusal) h = h
+
+  -- A call fails after others that changed nothing that is held, and before which its damage was shown.
+  pub fails_then : Passes kept s0 s1 x → held kept s1 ≡ held kept s0 → ((s : ℕ) (a : Area) (cause : DamageCause) → Damages rules kept s1 s a cause → Damages rules kept s0 s a cause) → Fails kept s1 s2 y (Damages rules kept s1) e → Fails kept s0 s2 z (Damages rules kept s0) e
+  fails_then p same back f = record {
+    closes = record {
+      passes = passes_then kept s0 s1 s2 x y z p f.closes.passes most;
+      held = f.closes.held ∙ same;
+      closed = f.closes.closed;
+    };
+    blames = blames_then p f.closes.passes back e f.blames;
+  }
+
+  -- It fails after others that changed nothing.
+  pub fails_after : Stays kept s0 s1 x → Fails kept s1 s2 y (Damages rules kept s1) e → Fails kept s0 s2 z (Damages rules kept s0) e
+  fails_after a f = fails_then a.passes a.held (λ s b cause h. subst (Shows rules b cause) (ap (λ (p : List (Option Contents) × List (Option (Option Contents))). seen_of (get_or p.0 s None) (get_or p.1 s None)) (λ i. (a.held i, a.work i))) h) f
+
+  -- It fails in a transaction of one server whose work shows no damage that wasn't shown before.
+  pub fails_in_work : (w : ℕ) (P : Contents → Contents → Type 0) → w < length (work kept s0) → IsOpenAt (work kept s0) w → Passes kept s0 s1 x → held kept s1 ≡ held kept s0 → Works (work kept s0) (work kept s1) w P → ((c d : Contents) → P c d → ShownBefore rules c d) → Fails kept s1 s2 y (Damages rules kept s1) e → Fails kept s0 s2 z (Damages rules kept s0) e
+  fails_in_work w P lt open_at p same works step f = fails_then p same back f
+    where
+      -- what the others see is as before
+      other : (s : ℕ) → s ≢ w → sees kept s1 s ≡ sees kept s0 s
+      other s ne = ap (λ (p : List (Option Contents) × Option (Option Contents)). seen_of (get_or p.0 s None) p.1) (λ i. (same i, (ap (λ (l : List (Option (Option Contents))). get_or l s None) works.is ∙ get_or-set_other (work kept s0) w s (Some works.now) None ne) i))
+
+      -- what the server sees
+      mine : (o : Option (Option Contents)) → get_or (work kept s0) w None ≡ o → IsSome o → (a : Area) (cause : DamageCause) → Damages rules kept s1 w a cause → Shows rules a cause (seen_of (get_or (held kept s0) w None) o)
+      mine None is some a cause h = absurd cc
+      mine (Some None) is some a cause h = shown_unseen rules a cause (sees kept s1 w) h
+      mine (Some (Some c)) is some a cause h =
+          let d = works.does c is in
+          let now : sees kept s1 w ≡ Some d.0 = ap (seen_of (get_or (held kept s1) w None)) (ap (λ (l : List (Option (Option Contents))). get_or l w None) works.is ∙ get_or-set_same (work kept s0) w (Some works.now) None lt) ∙ d.1 in
+          step c d.0 d.2 a cause (subst (Shows rules a cause) now h)
+
+      back : (s : ℕ) (a : Area) (cause : DamageCause) → Damages rules kept s1 s a cause → Damages rules kept s0 s a cause
+      back s a cause h = elim (cases_eq s w) [
+        | inl is ↦ subst (λ (k : ℕ). Damages rules kept s0 k a cause) (sym is) (mine (get_or (work kept s0) w None) refl open_at a cause (subst (λ (k : ℕ). Damages rules kept s1 k a cause) is h))
+        | inr ne ↦ subst (Shows rules a cause) (other s ne) h
+      ]
