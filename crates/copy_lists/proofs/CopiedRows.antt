@@ -8,8 +8,8 @@ use Rattle.repl_types.specs.declared.change_row.CdRow.{CdRow}
 use Rattle.repl_model.specs.Units.{last_commit}
 use Rattle.repl_model.specs.ChangeRows.{change_rows, after_change_rows}
 use Rattle.repl_model.specs.Copies.{copy_at, KeepsWholeRows}
-use Rattle.repl_model.proofs.Units.{changes_to_last}
-use Rattle.repl_model.proofs.CopyByRows.{copy_by_rows}
+use Rattle.repl_model.specs.laws.Units.{changes_to_last}
+use Rattle.repl_model.specs.laws.CopyByRows.{copy_by_rows}
 use Rattle.copy_lists.specs.declared.source_log.SourceLog.{SourceLog}
 use Rattle.copy_lists.specs.Items.{items, items_registration}
 use Rattle.copy_lists.specs.SourceLog.{TellsUnits}

@@ -17,9 +17,9 @@ use Rattle.repl_model.specs.SourceAt.{unplaced, source_at}
 use Rattle.repl_model.specs.Tables.{after_changes, all_apply}
 use Rattle.repl_model.specs.Applicable.{is_change_applicable, is_applicable}
 use Rattle.repl_model.specs.Copies.{LeavesKeys}
-use Rattle.repl_model.proofs.Units.{open_changes_nil, open_changes_change, open_changes_commit, units_nil, units_change, units_commit, last_time_commit}
-use Rattle.repl_model.proofs.Source.{source_nil, source_change, source_commit}
-use Rattle.repl_model.proofs.Applicable.{leaves_keys_push}
+use Rattle.repl_model.specs.laws.Units.{open_changes_nil, open_changes_change, open_changes_commit, units_nil, units_change, units_commit, last_time_commit}
+use Rattle.repl_model.specs.laws.Source.{source_nil, source_change, source_commit}
+use Rattle.repl_model.specs.laws.Applicable.{leaves_keys_push}
 use Rattle.copy_lists.specs.declared.refused.Cause.TheVariants.{BadLog, NotApplicable}
 use Rattle.copy_lists.specs.declared.source_log.SourceLog.{SourceLog}
 use Rattle.copy_lists.specs.Items.{items}

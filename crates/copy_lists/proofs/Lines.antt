@@ -3,7 +3,7 @@ use Rattle.std.proofs.Common.{◌≡◌, ℕ, ◌++◌, List, [], ◌∷◌, Opt
 use Rattle.std.proofs.lemmas.List.{append-nil}
 use Rattle.std.proofs.lemmas.List.Concat.{flat_map-append}
 use Rattle.keep_core.specs.Told.{Takes, TakesFront}
-use Rattle.keep_core.proofs.Told.{takes_nothing, takes_both, takes_front}
+use Rattle.keep_core.specs.laws.Told.{takes_nothing, takes_both, takes_front}
 use Rattle.copy_lists.specs.Replies.{joined}
 
 -- of these lines, those before the ones that are left were taken

@@ -15,9 +15,9 @@ use Rattle.repl_types.specs.declared.record.LogRecord.{LogRecord}
 use Rattle.repl_types.specs.declared.record.LogRecord.TheVariants as records
 use Rattle.repl_types.specs.Name.{is_name}
 use Rattle.repl_types.specs.ValueText.{value_text, IsValue}
-use Rattle.repl_types.proofs.Names.{name_again}
-use Rattle.repl_types.proofs.Numbers.{number_again}
-use Rattle.repl_types.proofs.ValueText.{value_again}
+use Rattle.repl_types.specs.laws.Names.{name_again}
+use Rattle.repl_types.specs.laws.Numbers.{number_again}
+use Rattle.repl_types.specs.laws.ValueText.{value_again}
 use Rattle.log_text.specs.Records.{◌>>=◌, is_arrow, from_arrow, time_of, values_of, row_of, update_of, table_change_of, change_of, commit_of, tx_record_of, record_of_words, record_of}
 use Rattle.log_text.specs.RecordText.{record_words, record_text, IsUserTx, IsRecordRow, IsWritable}
 use Rattle.log_text.specs.Words.{words}

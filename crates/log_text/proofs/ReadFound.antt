@@ -19,9 +19,9 @@ use Rattle.repl_types.specs.Name.{is_name, name_of}
 use Rattle.repl_types.specs.Numbers.{is_numeral, number_of}
 use Rattle.std.specs.Str.Parse.{digits_value}
 use Rattle.repl_types.specs.ValueText.{value_text, value_of, IsValue}
-use Rattle.repl_types.proofs.Names.{name_found}
-use Rattle.repl_types.proofs.Numbers.{number_found}
-use Rattle.repl_types.proofs.ValueText.{value_found}
+use Rattle.repl_types.specs.laws.Names.{name_found}
+use Rattle.repl_types.specs.laws.Numbers.{number_found}
+use Rattle.repl_types.specs.laws.ValueText.{value_found}
 use Rattle.log_text.specs.Records.{◌>>=◌, is_arrow, from_arrow, tx_of, time_of, values_of, row_of, update_of, table_change_of, change_of, commit_of, abort_of, tx_record_of, record_of_words}
 use Rattle.log_text.specs.RecordText.{change_words, record_words, IsUserTx, IsRecordRow, IsUserChange, IsWritable}
 use Rattle.log_text.proofs.Values.{from-word, from-arrow, after-arrow, after-none, values_len}

@@ -13,7 +13,7 @@ use Rattle.repl_types.specs.declared.value.Value.{Value}
 use Rattle.repl_types.specs.declared.value.Value.TheVariants.{Null, Int, Text}
 use Rattle.repl_types.specs.Name.{is_letter, is_name_byte, is_name}
 use Rattle.repl_types.specs.ValueText.{escaped_byte, escaped, value_text, IsValue}
-use Rattle.repl_types.proofs.Numbers.{decimal_is_numeral}
+use Rattle.repl_types.specs.laws.Numbers.{decimal_is_numeral}
 use Rattle.log_text.specs.Words.{is_end, quoted_after, parts, words}
 use Rattle.log_text.specs.RecordText.{spaced, line_of}
 use Rattle.log_text.proofs.Parts.{with_front, parts_more, first_word}

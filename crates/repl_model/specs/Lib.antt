@@ -5,3 +5,4 @@ pub mod ChangeRows
 pub mod Applicable
 pub mod Copies
 pub mod Worked
+pub mod laws

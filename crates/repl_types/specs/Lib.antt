@@ -7,3 +7,4 @@ pub mod Sequence
 pub mod Sizes
 pub mod Value
 pub mod ValueText
+pub mod laws

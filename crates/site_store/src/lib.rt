@@ -6,13 +6,18 @@
 //! by `?` knows what stands: each server holds what it held.
 //!
 //! The crate's `specs/` have the words in which every layer above says what it changed: `Views` is what
-//! a clause sees of all servers, `Calls` is what a call leaves, `Works` what a transaction makes of what
-//! it sees, and `Rows` is a table whose rows are read in key order.
+//! a clause sees of all servers, `Calls` is what a call leaves, at Ok and at a fault, `Works` what a
+//! transaction makes of what it sees, and `Damage` what shows that contents are damaged. `specs/laws` has
+//! the laws by which calls compose: `Counts`, `Transactions`, `Damage`.
 #![tactic(auto)]
 
+#[cfg(test)]
+mod order_tests;
 mod records;
 mod site;
 mod sites;
+#[cfg(test)]
+mod tests;
 
 pub use site::Site;
 pub use sites::{Sites, SitesError};

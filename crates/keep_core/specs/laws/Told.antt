@@ -1,8 +1,10 @@
--- Laws of what a sink took: proofs, and nothing to believe.
-use Rattle.std.proofs.Common.{◌≡◌, ℕ, ◌++◌, List, [], Option, Some, None, refl, sym, ap, subst, ◌∙◌, append_assoc}
-use Rattle.std.specs.Option.{option_map}
-use Rattle.std.proofs.lemmas.List.{append-nil}
-use Rattle.keep_core.specs.Told.{Takes}
+-- Laws of what a sink took, piece by piece: proofs, and nothing to believe.
+use Rattle.std.proofs.Common.{◌≡◌, ℕ, ◌+◌, ◌-◌, ◌<◌, ◌++◌, List, [], Option, Some, None, length, take, drop, refl, sym, ap, subst, ◌∙◌, append_assoc, arith}
+use Rattle.std.specs.Option.{option_map, OnSome}
+use Rattle.std.proofs.lemmas.Option.{same_Some}
+use Rattle.std.proofs.lemmas.List.{append-nil, append_cancel_left, length-take-le, take_rest, take-append-drop}
+use Rattle.std.proofs.Math.Seq.{take-add}
+use Rattle.keep_core.specs.Told.{Takes, TakesFront}
 
 -- nothing is taken if nothing changes
 pub takes_nothing : (told : Option (List ℕ)) → Takes told told []
@@ -13,3 +15,21 @@ takes_nothing (Some bytes) = ap (λ (x : List ℕ). Some x) (sym (append-nil byt
 pub takes_both : (before between now : Option (List ℕ)) (xs ys : List ℕ) → Takes before between xs → Takes between now ys → Takes before now (xs ++ ys)
 takes_both None between now xs ys first second = subst (λ (o : Option (List ℕ)). now ≡ option_map (λ taken. taken ++ ys) o) first second
 takes_both (Some bytes) between now xs ys first second = subst (λ (o : Option (List ℕ)). now ≡ option_map (λ taken. taken ++ ys) o) first second ∙ ap (λ (x : List ℕ). Some x) (append_assoc bytes xs ys)
+
+-- a front of a line, and then a front of the rest of it, are a longer front
+pub takes_on : (before between now : Option (List ℕ)) (line : List ℕ) (at count : ℕ) → Takes before between (take at line) → Takes between now (take count (take (length line - at) (drop at line))) → Takes before now (take (at + count) line)
+takes_on before between now line at count first second =
+    let rest : Takes between now (take count (drop at line)) = rw take_rest at second in
+    rw take-add (takes_both before between now (take at line) (take count (drop at line)) first rest)
+
+-- the bytes below an index are a front of the line
+pub takes_front : (before now : Option (List ℕ)) (line : List ℕ) (at : ℕ) → Takes before now (take at line) → TakesFront before now line
+takes_front before now line at so_far = record { front = take at line; rest = drop at line; parts = sym (take-append-drop at line); taken = so_far }
+
+-- a front that is shorter than the line isn't the line
+pub takes_short : (before now : Option (List ℕ)) (line : List ℕ) (at : ℕ) → at < length line → Takes before now (take at line) → OnSome before (¬ Takes before now line)
+takes_short None now line at left so_far = tt
+takes_short (Some bytes) now line at left so_far = λ whole.
+    let same : bytes ++ take at line ≡ bytes ++ line = same_Some (bytes ++ take at line) (bytes ++ line) (sym so_far ∙ whole) in
+    let lengths : length (take at line) ≡ length line = ap length (append_cancel_left bytes (take at line) line same) in
+    omega (arith, length-take-le at line (omega arith))

@@ -13,7 +13,7 @@ use Rattle.std.proofs.lemmas.Bool.Decides.{nat_tests}
 use Rattle.std.proofs.lemmas.Int.{ints}
 use Rattle.std.proofs.lemmas.Map.Lookups.{exact_bytes}
 use Rattle.repl_types.specs.Bytes.{bytes_cmp}
-use Rattle.repl_types.proofs.Order.{exact_value, exact_key}
+use Rattle.repl_types.specs.laws.Order.{exact_value, exact_key}
 use Rattle.repl_types.specs.Value.{value_cmp, key_cmp}
 use Rattle.repl_types.specs.ValueText.{IsValue}
 use Rattle.repl_types.specs.declared.value.Value.{Value}

@@ -1,6 +1,6 @@
 use Rattle.std.proofs.Common.{◌∙◌, arith, length-drop}
 use Rattle.std.proofs.lemmas.Result.{err_from_is_err_and}
-use Rattle.keep_core.proofs.Told.{takes_on, takes_front, takes_short}
+use Rattle.keep_core.specs.laws.Told.{takes_on, takes_front, takes_short}
 use Rattle.keep_core.proofs.streams.write_line.Goals as goal
 
 pub returns-in_err-at-clause-err : goal.returns-in_err-at-clause-err

@@ -1,4 +1,4 @@
-use Rattle.repl_types.proofs.Order.{key_cmp_total, exact_key, derived_key_cmp}
+use Rattle.repl_types.specs.laws.Order.{key_cmp_total, exact_key, derived_key_cmp}
 use Rattle.repl_types.proofs.laws.keys_in_order.Goals as goal
 
 pub returns-clause-total : goal.returns-clause-total

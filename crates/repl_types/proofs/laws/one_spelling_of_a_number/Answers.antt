@@ -1,4 +1,4 @@
-use Rattle.repl_types.proofs.Numbers.{number_found, number_again}
+use Rattle.repl_types.specs.laws.Numbers.{number_found, number_again}
 use Rattle.repl_types.proofs.laws.one_spelling_of_a_number.Goals as goal
 
 pub returns-clause-found : goal.returns-clause-found

@@ -1,4 +1,4 @@
-use Rattle.repl_types.proofs.ValueText.{value_found, value_again}
+use Rattle.repl_types.specs.laws.ValueText.{value_found, value_again}
 use Rattle.repl_types.proofs.laws.one_spelling_of_a_value.Goals as goal
 
 pub returns-clause-found : goal.returns-clause-found

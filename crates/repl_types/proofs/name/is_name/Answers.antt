@@ -3,7 +3,7 @@ use Rattle.std.proofs.lemmas.Iterator.{YieldsList-from_slice}
 use Rattle.std.proofs.lemmas.Iterator.Search.{all_from_yields_List}
 use Rattle.std.proofs.lemmas.List.{take_rest}
 use Rattle.repl_types.specs.Name.{is_name_byte}
-use Rattle.repl_types.proofs.Names.{name_after_letter}
+use Rattle.repl_types.specs.laws.Names.{name_after_letter}
 use Rattle.repl_types.proofs.name.is_name.Goals as goal
 
 pub returns-then-bytes-le-NAME_LIMIT : goal.returns-then-bytes-le-NAME_LIMIT

@@ -1,7 +1,7 @@
 use Rattle.std.proofs.Common.{arith}
 use Rattle.std.proofs.lemmas.Bool.{ltb-true}
 use Rattle.std.proofs.lemmas.List.{get_or_past}
-use Rattle.repl_types.proofs.Unescaped.{says_quote, says_backslash, says_line_feed, says_itself, quote_alone, backslash_alone, no_line_feed, nothing_there}
+use Rattle.repl_types.specs.laws.Unescaped.{says_quote, says_backslash, says_line_feed, says_itself, quote_alone, backslash_alone, no_line_feed, nothing_there}
 use Rattle.repl_types.proofs.value_text.next_byte.Goals as goal
 use Rattle.repl_types.proofs.value_text.next_byte.Goals.{in_default-after-via-then-after-lt1, in_default-after-via-else-after-lt1+in_default-1, in_default-after-2-via-then-after-lt1-2, in_default-after-2-via-else-after-lt1-2+in_default-1}
 

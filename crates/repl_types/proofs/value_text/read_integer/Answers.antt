@@ -1,5 +1,5 @@
 use Rattle.std.proofs.Common.{sym, ◌∙◌}
-use Rattle.repl_types.proofs.Numbers.{integer_is_text, integer_parsed}
+use Rattle.repl_types.specs.laws.Numbers.{integer_is_text, integer_parsed}
 use Rattle.repl_types.proofs.value_text.read_integer.Goals as goal
 
 pub returns-in_default : goal.returns-in_default

@@ -1,5 +1,5 @@
 use Rattle.std.proofs.Common.{sym, ◌∙◌, arith}
-use Rattle.repl_types.proofs.Numbers.{numeral_is_text, number_past}
+use Rattle.repl_types.specs.laws.Numbers.{numeral_is_text, number_past}
 use Rattle.repl_types.proofs.value_text.read_number.Goals as goal
 
 pub returns-in_default : goal.returns-in_default

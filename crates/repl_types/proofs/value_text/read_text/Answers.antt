@@ -3,7 +3,7 @@ use Rattle.std.specs.Str.{IsUtf8}
 use Rattle.std.proofs.lemmas.Bool.{false≢true}
 use Rattle.std.proofs.lemmas.Str.{IsUtf8-string_bytes}
 use Rattle.repl_types.specs.ValueText.{unescaped}
-use Rattle.repl_types.proofs.ValueText.{read_some, read_none}
+use Rattle.repl_types.specs.laws.ValueText.{read_some, read_none}
 use Rattle.repl_types.proofs.value_text.read_text.Goals as goal
 
 pub returns-in-Ok : goal.returns-in-Ok

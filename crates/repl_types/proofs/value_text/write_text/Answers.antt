@@ -1,4 +1,4 @@
-use Rattle.repl_types.proofs.ValueText.{escaped_more}
+use Rattle.repl_types.specs.laws.ValueText.{escaped_more}
 use Rattle.repl_types.proofs.value_text.write_text.Goals as goal
 
 pub loop-byte-preserved : goal.loop-byte-preserved

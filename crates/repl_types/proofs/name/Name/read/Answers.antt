@@ -1,5 +1,5 @@
 use Rattle.std.proofs.Common.{sym}
-use Rattle.repl_types.proofs.Names.{name_is_text}
+use Rattle.repl_types.specs.laws.Names.{name_is_text}
 use Rattle.repl_types.proofs.name.Name.read.Goals as goal
 
 pub returns-in_default : goal.returns-in_default

@@ -15,8 +15,8 @@ use Rattle.repl_types.specs.declared.value.Value.{Value}
 use Rattle.repl_types.specs.declared.value.Value.TheVariants.{Null, Int, Text}
 use Rattle.repl_types.specs.ValueText.{escaped_byte, escaped, after_byte, unescaped, text_value, value_text, value_of, IsValue}
 use Rattle.repl_types.specs.Numbers.{integer_of}
-use Rattle.repl_types.proofs.Numbers.{first_and_rest, decimal_first, integer_found, integer_again}
-use Rattle.repl_types.proofs.Unescaped.{says_itself}
+use Rattle.repl_types.specs.laws.Numbers.{first_and_rest, decimal_first, integer_found, integer_again}
+use Rattle.repl_types.specs.laws.Unescaped.{says_itself}
 
 -- texts one after the other are written one after the other
 escaped-append : (s t : List ℕ) → escaped (s ++ t) ≡ escaped s ++ escaped t

@@ -1,0 +1,5 @@
+pub mod Names
+pub mod Numbers
+pub mod Order
+pub mod Unescaped
+pub mod ValueText
