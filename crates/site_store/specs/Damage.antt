@@ -3,6 +3,8 @@ use Rattle.std.specs.Prelude.{◌≡◌, ◌⊎◌, ℕ, List, Option, Some, Non
 use Rattle.repl_types.specs.declared.area.Area.{Area}
 use Rattle.repl_types.specs.declared.status.DamageCause.{DamageCause}
 use Rattle.repl_types.specs.declared.status.DamageCause.TheVariants as causes
+use Rattle.faults.specs.declared.fault.Fault.{Fault}
+use Rattle.faults.specs.declared.fault.Fault.TheVariants as faults
 use Rattle.keep_core.specs.Contents.{Contents}
 use Rattle.keep_core.specs.Kept.{Kept}
 use Rattle.site_store.specs.Views.{sees}
@@ -31,9 +33,20 @@ Shows rules a (causes.Absent key) saw = (t : ℕ) × IfSome saw (λ c. (c a t ke
 Shows rules a (causes.Unfit bytes) saw = (t : ℕ) × IfSome saw (λ c. (key : List ℕ) × (c a t key ≡ Some bytes) × rules.is_unfit a t key bytes c)
 Shows rules a (causes.NoRest steps) saw = ⊥
 
--- what a server was seen to have at the beginning of a call shows the damage
-abbrev pub Damages : {K : Type 0} → Rules → (K → Kept) → Sites K → ℕ → Area → DamageCause → Type 0
-Damages rules kept old s a cause = Shows rules a cause (sees kept old s)
+-- what one of these servers was seen to have at the beginning of a call shows the damage
+abbrev pub Damages : {K : Type 0} → (ℕ → Type 0) → Rules → (K → Kept) → Sites K → ℕ → Area → DamageCause → Type 0
+Damages servers rules kept old s a cause = servers s × Shows rules a cause (sees kept old s)
+
+-- the contents show no damage
+abbrev pub IsUndamaged : Rules → Contents → Type 0
+IsUndamaged rules c = (a : Area) (cause : DamageCause) → Shows rules a cause (Some c) → ⊥
+
+-- memory ran out or a keeper failed: nothing is damaged, and nothing refused
+abbrev pub IsNoDamage : Fault → Type 0
+IsNoDamage faults.Memory = Unit {0}
+IsNoDamage (faults.Keeper s) = Unit {0}
+IsNoDamage (faults.Damaged s a cause) = ⊥
+IsNoDamage (faults.Refused refusal) = ⊥
 
 -- each entry is a key and a value of its table
 abbrev pub IsSpelt : Rules → Contents → Type 0

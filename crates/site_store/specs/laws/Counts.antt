@@ -1,9 +1,11 @@
 -- Laws of what calls keep and how often they read and write: proofs, and nothing to believe.
-use Rattle.std.proofs.Common.{◌≡◌, ℕ, ◌+◌, ◌≤◌, ◌∙◌, refl, arith}
+use Rattle.std.proofs.Common.{◌≡◌, ℕ, ◌+◌, ◌≤◌, Bool, true, false, cond, ◌∙◌, refl, arith}
+use Rattle.std.specs.Prelude.{◌&&◌, ◌==◌}
+use Rattle.repl_types.specs.Area.{same_area}
 use Rattle.repl_types.specs.declared.area.Area.{Area}
 use Rattle.keep_core.specs.Kept.{Kept}
 use Rattle.site_store.specs.declared.sites.Sites.{Sites}
-use Rattle.site_store.specs.Calls.{Bounds, no_access, both, IsWithin, Passes, Stays, ClosesAll}
+use Rattle.site_store.specs.Calls.{Bounds, only, no_access, reads_of_one, writes_of_one, both, IsWithin, Passes, Stays}
 
 -- The one bounds allow no more than the others.
 pub record IsAtMost (x y : Bounds) : Type 0 where
@@ -17,6 +19,36 @@ none_at_most x = record { reads = λ s a. omega arith; writes = λ s a. omega ar
 -- bounds are at most themselves
 pub at_most_itself : (x : Bounds) → IsAtMost x x
 at_most_itself x = record { reads = λ s a. omega arith; writes = λ s a. omega arith }
+
+-- accesses of one area of one server add up
+only_more : (m n s : ℕ) (a : Area) (q : ℕ) (b : Area) → only m s a q b + only n s a q b ≤ only (m + n) s a q b
+only_more m n s a q b = pick (same_area a b && (s == q))
+  where
+    pick : (t : Bool) → cond t m 0 + cond t n 0 ≤ cond t (m + n) 0
+    pick true = omega arith
+    pick false = omega arith
+
+-- so do reads
+pub reads_more : (m n s : ℕ) (a : Area) → IsAtMost (both (reads_of_one m s a) (reads_of_one n s a)) (reads_of_one (m + n) s a)
+reads_more m n s a = record { reads = only_more m n s a; writes = λ q b. omega arith }
+
+-- and writes
+pub writes_more : (m n s : ℕ) (a : Area) → IsAtMost (both (writes_of_one m s a) (writes_of_one n s a)) (writes_of_one (m + n) s a)
+writes_more m n s a = record { reads = λ q b. omega arith; writes = only_more m n s a }
+
+-- bounds add up in any order
+pub both_at_most : (x y u v : Bounds) → IsAtMost x u → IsAtMost y v → IsAtMost (both x y) (both u v)
+both_at_most x y u v first second = record {
+  reads = λ s a. omega (arith, first.reads s a, second.reads s a);
+  writes = λ s a. omega (arith, first.writes s a, second.writes s a);
+}
+
+-- what allows no more than what allows no more
+pub at_most_then : (x y z : Bounds) → IsAtMost x y → IsAtMost y z → IsAtMost x z
+at_most_then x y z first second = record {
+  reads = λ s a. omega (arith, first.reads s a, second.reads s a);
+  writes = λ s a. omega (arith, first.writes s a, second.writes s a);
+}
 
 module _ {K : Type 0} (kept : K → Kept) where
   -- wider bounds hold too

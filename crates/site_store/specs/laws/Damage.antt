@@ -17,11 +17,12 @@ use Rattle.keep_core.specs.Told.{Rises}
 use Rattle.row_codec.specs.Takes.{NoSpelling}
 use Rattle.site_store.specs.declared.sites.Sites.{Sites}
 use Rattle.site_store.specs.Records.{Misread, Misspelt, MisspeltNext}
-use Rattle.site_store.specs.Views.{names, held, work, sees, fault_counts, reads_in, IsOpenAt}
+use Rattle.site_store.specs.Views.{held, work, sees, IsOpenAt, IsClosedAt}
 use Rattle.site_store.specs.Works.{Works}
-use Rattle.site_store.specs.Calls.{Bounds, both, Passes, Stays, ClosesAll, AtServer, Blames, IsRead, Fails}
-use Rattle.site_store.specs.Damage.{Rules, Shows, ShowsMisspelt, Damages, IsSpelt, AddsOnlySpelt, ShownBefore}
+use Rattle.site_store.specs.Calls.{Bounds, no_access, both, Passes, Stays, Begins, Blames, Fails}
+use Rattle.site_store.specs.Damage.{Rules, Shows, ShowsMisspelt, Damages, IsUndamaged, IsNoDamage, IsSpelt, AddsOnlySpelt, ShownBefore}
 use Rattle.site_store.specs.laws.Counts.{IsAtMost, passes_then}
+use Rattle.site_store.specs.laws.Transactions.{begun_sees}
 
 -- what isn't seen shows no less
 pub shown_unseen : (rules : Rules) (a : Area) (cause : DamageCause) (saw : Option Contents) → Shows rules a cause saw → Shows rules a cause None
@@ -100,18 +101,43 @@ adds_then rules c d e first second a t key value h = elim (second a t key value 
   | inr old ↦ first a t key value old
 ]
 
+-- damage that was shown before one change, and before another before it, was shown before both
+pub shown_then : (rules : Rules) (c d e : Contents) → ShownBefore rules c d → ShownBefore rules d e → ShownBefore rules c e
+shown_then rules c d e first second a cause h = first a cause (second a cause h)
+
+-- ---- a fault by itself
+
+module _ {K : Type 0} (kept : K → Kept) (s0 s1 : Sites K) where
+  -- a fault is blamed by weaker evidence too
+  pub blames_by : (D E : ℕ → Area → DamageCause → Type 0) (e : Fault) → Blames kept s0 s1 D e → ((s : ℕ) (a : Area) (cause : DamageCause) → D s a cause → E s a cause) → Blames kept s0 s1 E e
+  blames_by D E faults.Memory h weaker = tt
+  blames_by D E (faults.Keeper s) h weaker = h
+  blames_by D E (faults.Damaged s a cause) h weaker = (h.0, weaker s a cause h.1)
+  blames_by D E (faults.Refused refusal) h weaker = h
+
+  -- and so does a call fail
+  pub fails_by : (D E : ℕ → Area → DamageCause → Type 0) (x : Bounds) (e : Fault) → Fails kept s0 s1 x D e → ((s : ℕ) (a : Area) (cause : DamageCause) → D s a cause → E s a cause) → Fails kept s0 s1 x E e
+  fails_by D E x e f weaker = record { closes = f.closes; blames = blames_by D E e f.blames weaker }
+
+  -- no fault is of damage if the servers have contents that show none
+  pub no_damage : (servers : ℕ → Type 0) (rules : Rules) (e : Fault) → ((s : ℕ) → servers s → (c : Contents) × (sees kept s0 s ≡ Some c) × IsUndamaged rules c) → Blames kept s0 s1 (Damages servers rules kept s0) e → IsNoDamage e
+  no_damage servers rules faults.Memory sound h = tt
+  no_damage servers rules (faults.Keeper s) sound h = tt
+  no_damage servers rules (faults.Damaged s a cause) sound h = let c = sound s h.1.0 in c.2 a cause (subst (Shows rules a cause) c.1 h.1.1)
+  no_damage servers rules (faults.Refused refusal) sound h = h
+
 -- ---- a fault after other calls
 
-module _ {K : Type 0} (kept : K → Kept) (rules : Rules) (s0 s1 s2 : Sites K) (x y z : Bounds) (e : Fault) (most : IsAtMost (both x y) z) where
-  -- the blame stays, and so does the damage where it was shown before
-  blames_then : Passes kept s0 s1 x → Passes kept s1 s2 y → ((s : ℕ) (a : Area) (cause : DamageCause) → Damages rules kept s1 s a cause → Damages rules kept s0 s a cause) → (e : Fault) → Blames kept s1 s2 (Damages rules kept s1) e → Blames kept s0 s2 (Damages rules kept s0) e
+module _ {K : Type 0} (kept : K → Kept) (servers : ℕ → Type 0) (rules : Rules) (s0 s1 s2 : Sites K) (x y z : Bounds) (e : Fault) (most : IsAtMost (both x y) z) where
+  -- the blame stays, and so does the damage if it was shown before
+  blames_then : Passes kept s0 s1 x → Passes kept s1 s2 y → ((s : ℕ) (a : Area) (cause : DamageCause) → Shows rules a cause (sees kept s1 s) → Shows rules a cause (sees kept s0 s)) → (e : Fault) → Blames kept s1 s2 (Damages servers rules kept s1) e → Blames kept s0 s2 (Damages servers rules kept s0) e
   blames_then p q back faults.Memory h = tt
   blames_then p q back (faults.Keeper s) h = λ lt. omega (arith, p.faults s, h lt)
-  blames_then p q back (faults.Damaged s a cause) h = ((λ read lt. let rose = h.0 read lt in let le = p.reads a s (omega (arith, rose, lt)) in omega (arith, rose, le)), back s a cause h.1)
+  blames_then p q back (faults.Damaged s a cause) h = ((λ read lt. let rose = h.0 read lt in let le = p.reads a s (omega (arith, rose, lt)) in omega (arith, rose, le)), (h.1.0, back s a cause h.1.1))
   blames_then p q back (faults.Refused refusal) h = h
 
   -- A call fails after others that changed nothing that is held, and before which its damage was shown.
-  pub fails_then : Passes kept s0 s1 x → held kept s1 ≡ held kept s0 → ((s : ℕ) (a : Area) (cause : DamageCause) → Damages rules kept s1 s a cause → Damages rules kept s0 s a cause) → Fails kept s1 s2 y (Damages rules kept s1) e → Fails kept s0 s2 z (Damages rules kept s0) e
+  pub fails_then : Passes kept s0 s1 x → held kept s1 ≡ held kept s0 → ((s : ℕ) (a : Area) (cause : DamageCause) → Shows rules a cause (sees kept s1 s) → Shows rules a cause (sees kept s0 s)) → Fails kept s1 s2 y (Damages servers rules kept s1) e → Fails kept s0 s2 z (Damages servers rules kept s0) e
   fails_then p same back f = record {
     closes = record {
       passes = passes_then kept s0 s1 s2 x y z p f.closes.passes most;
@@ -122,11 +148,15 @@ module _ {K : Type 0} (kept : K → Kept) (rules : Rules) (s0 s1 s2 : Sites K) (
   }
 
   -- It fails after others that changed nothing.
-  pub fails_after : Stays kept s0 s1 x → Fails kept s1 s2 y (Damages rules kept s1) e → Fails kept s0 s2 z (Damages rules kept s0) e
+  pub fails_after : Stays kept s0 s1 x → Fails kept s1 s2 y (Damages servers rules kept s1) e → Fails kept s0 s2 z (Damages servers rules kept s0) e
   fails_after a f = fails_then a.passes a.held (λ s b cause h. subst (Shows rules b cause) (ap (λ (p : List (Option Contents) × List (Option (Option Contents))). seen_of (get_or p.0 s None) (get_or p.1 s None)) (λ i. (a.held i, a.work i))) h) f
 
+  -- It fails after a transaction was begun.
+  pub fails_begun : (w : ℕ) → w < length (work kept s0) → IsClosedAt (work kept s0) w → x ≡ no_access → Begins kept s0 s1 w → Fails kept s1 s2 y (Damages servers rules kept s1) e → Fails kept s0 s2 z (Damages servers rules kept s0) e
+  fails_begun w lt closed_at none b f = fails_then (subst (Passes kept s0 s1) (sym none) b.passes) b.held (λ s a cause h. subst (Shows rules a cause) (begun_sees kept s0 s1 w lt closed_at b s) h) f
+
   -- It fails in a transaction of one server whose work shows no damage that wasn't shown before.
-  pub fails_in_work : (w : ℕ) (P : Contents → Contents → Type 0) → w < length (work kept s0) → IsOpenAt (work kept s0) w → Passes kept s0 s1 x → held kept s1 ≡ held kept s0 → Works (work kept s0) (work kept s1) w P → ((c d : Contents) → P c d → ShownBefore rules c d) → Fails kept s1 s2 y (Damages rules kept s1) e → Fails kept s0 s2 z (Damages rules kept s0) e
+  pub fails_in_work : (w : ℕ) (P : Contents → Contents → Type 0) → w < length (work kept s0) → IsOpenAt (work kept s0) w → Passes kept s0 s1 x → held kept s1 ≡ held kept s0 → Works (work kept s0) (work kept s1) w P → ((c d : Contents) → P c d → ShownBefore rules c d) → Fails kept s1 s2 y (Damages servers rules kept s1) e → Fails kept s0 s2 z (Damages servers rules kept s0) e
   fails_in_work w P lt open_at p same works step f = fails_then p same back f
     where
       -- what the others see is as before
@@ -134,7 +164,7 @@ module _ {K : Type 0} (kept : K → Kept) (rules : Rules) (s0 s1 s2 : Sites K) (
       other s ne = ap (λ (p : List (Option Contents) × Option (Option Contents)). seen_of (get_or p.0 s None) p.1) (λ i. (same i, (ap (λ (l : List (Option (Option Contents))). get_or l s None) works.is ∙ get_or-set_other (work kept s0) w s (Some works.now) None ne) i))
 
       -- what the server sees
-      mine : (o : Option (Option Contents)) → get_or (work kept s0) w None ≡ o → IsSome o → (a : Area) (cause : DamageCause) → Damages rules kept s1 w a cause → Shows rules a cause (seen_of (get_or (held kept s0) w None) o)
+      mine : (o : Option (Option Contents)) → get_or (work kept s0) w None ≡ o → IsSome o → (a : Area) (cause : DamageCause) → Shows rules a cause (sees kept s1 w) → Shows rules a cause (seen_of (get_or (held kept s0) w None) o)
       mine None is some a cause h = absurd cc
       mine (Some None) is some a cause h = shown_unseen rules a cause (sees kept s1 w) h
       mine (Some (Some c)) is some a cause h =
@@ -142,8 +172,8 @@ module _ {K : Type 0} (kept : K → Kept) (rules : Rules) (s0 s1 s2 : Sites K) (
           let now : sees kept s1 w ≡ Some d.0 = ap (seen_of (get_or (held kept s1) w None)) (ap (λ (l : List (Option (Option Contents))). get_or l w None) works.is ∙ get_or-set_same (work kept s0) w (Some works.now) None lt) ∙ d.1 in
           step c d.0 d.2 a cause (subst (Shows rules a cause) now h)
 
-      back : (s : ℕ) (a : Area) (cause : DamageCause) → Damages rules kept s1 s a cause → Damages rules kept s0 s a cause
+      back : (s : ℕ) (a : Area) (cause : DamageCause) → Shows rules a cause (sees kept s1 s) → Shows rules a cause (sees kept s0 s)
       back s a cause h = elim (cases_eq s w) [
-        | inl is ↦ subst (λ (k : ℕ). Damages rules kept s0 k a cause) (sym is) (mine (get_or (work kept s0) w None) refl open_at a cause (subst (λ (k : ℕ). Damages rules kept s1 k a cause) is h))
+        | inl is ↦ subst (λ (k : ℕ). Shows rules a cause (sees kept s0 k)) (sym is) (mine (get_or (work kept s0) w None) refl open_at a cause (subst (λ (k : ℕ). Shows rules a cause (sees kept s1 k)) is h))
         | inr ne ↦ subst (Shows rules a cause) (other s ne) h
       ]

@@ -11,7 +11,7 @@ use Rattle.keep_core.specs.Contents.{Contents, put_at}
 use Rattle.keep_core.specs.Kept.{Kept, seen_of}
 use Rattle.site_store.specs.declared.sites.Sites.{Sites}
 use Rattle.site_store.specs.Servers.{AllClosed}
-use Rattle.site_store.specs.Views.{names, held, work, sees}
+use Rattle.site_store.specs.Views.{names, held, work, sees, IsOpenAt, IsClosedAt}
 use Rattle.site_store.specs.Calls.{Begins}
 use Rattle.site_store.specs.Works.{Works, Sets}
 
@@ -81,6 +81,21 @@ seen_held h w s c P closed is seen = subst (λ (o : Option Contents). IfSome o P
 -- the other transactions see the same
 pub other_work : (w0 w1 : List (Option (Option Contents))) (s q : ℕ) (P : Contents → Contents → Type 0) → Works w0 w1 s P → q ≢ s → get_or w1 q None ≡ get_or w0 q None
 other_work w0 w1 s q P works ne = ap (λ (l : List (Option (Option Contents))). get_or l q None) works.is ∙ get_or-set_other w0 s q (Some works.now) None ne
+
+-- what each server sees is the same after a transaction was begun
+pub begun_sees : {K : Type 0} (kept : K → Kept) (s0 s1 : Sites K) (w : ℕ) → w < length (work kept s0) → IsClosedAt (work kept s0) w → Begins kept s0 s1 w → (s : ℕ) → sees kept s1 s ≡ sees kept s0 s
+begun_sees kept s0 s1 w lt closed begin s = elim (cases_eq s w) [
+  | inl is ↦ subst (λ (k : ℕ). sees kept s1 k ≡ sees kept s0 k) (sym is) (ap (λ (p : Option Contents × Option (Option Contents)). seen_of p.0 p.1) (λ i. (ap (λ (l : List (Option Contents)). get_or l w None) begin.held i, (ap (λ (l : List (Option (Option Contents))). get_or l w None) begin.work ∙ get_or-set_same (work kept s0) w (Some (get_or (held kept s0) w None)) None lt) i)) ∙ ap (λ (o : Option (Option Contents)). seen_of (get_or (held kept s0) w None) o) (sym closed))
+  | inr ne ↦ ap (λ (p : Option Contents × Option (Option Contents)). seen_of p.0 p.1) (λ i. (ap (λ (l : List (Option Contents)). get_or l s None) begin.held i, (ap (λ (l : List (Option (Option Contents))). get_or l s None) begin.work ∙ get_or-set_other (work kept s0) w s (Some (get_or (held kept s0) w None)) None ne) i))
+]
+
+-- a begun transaction is open
+pub begun_open : {K : Type 0} (kept : K → Kept) (s0 s1 : Sites K) (w : ℕ) → w < length (work kept s0) → Begins kept s0 s1 w → IsOpenAt (work kept s1) w
+begun_open kept s0 s1 w lt begin = subst IsSome (sym (ap (λ (l : List (Option (Option Contents))). get_or l w None) begin.work ∙ get_or-set_same (work kept s0) w (Some (get_or (held kept s0) w None)) None lt)) refl
+
+-- work leaves its transaction open
+pub works_open : (w0 w1 : List (Option (Option Contents))) (s : ℕ) (P : Contents → Contents → Type 0) → s < length w0 → Works w0 w1 s P → IsOpenAt w1 s
+works_open w0 w1 s P lt works = subst IsSome (sym (now_at w0 w1 s P works lt)) refl
 
 -- a transaction of one server: it is begun at s0, works from s1 to s2, and then is committed
 module _ {K : Type 0} (kept : K → Kept) (s0 s1 s2 : Sites K) (s : ℕ) (P : Contents → Contents → Type 0) (begin : Begins kept s0 s1 s) (works : Works (work kept s1) (work kept s2) s P) where
