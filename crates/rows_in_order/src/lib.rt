@@ -29,8 +29,9 @@ pub use laws::{
     row_before_all, rows_between,
 };
 pub use numbers::{
-    next_by_number, number_keys_in_order, numbered_rows, numbered_rows_changed, numbered_rows_read,
-    rows_between_numbers, rows_by_number,
+    next_by_number, number_keys_in_order, numbered_rows, numbered_rows_begun,
+    numbered_rows_changed, numbered_rows_read, rows_between_numbers, rows_by_number,
+    rows_changed_by_number,
 };
 pub use prefixes::{keys_with_a_prefix, rows_with_a_prefix};
 pub use uniqueness::rows_by_key;
