@@ -3,7 +3,6 @@ pub mod BetweenNumbers
 pub mod ByNumber
 pub mod Changed
 pub mod ChangedNumbers
-pub mod Elsewhere
 pub mod Filtered
 pub mod Found
 pub mod Numbered
@@ -11,3 +10,4 @@ pub mod NumberedParts
 pub mod Prefixed
 pub mod Rising
 pub mod Unique
+pub mod Written

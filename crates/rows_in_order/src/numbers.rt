@@ -68,7 +68,8 @@ pub fn rows_by_number<X>()
 
 /// A row is put at its number, or the row of a number is removed.
 pub fn rows_changed_by_number<X>()
-    ensures put { (key : ℕ → List ℕ) (value : X → List ℕ) (limit : ℕ) (row : ℕ × X) (rows : List (ℕ × X))
+    ensures put { (key : ℕ → List ℕ) (value : X → List ℕ) (limit : ℕ) (row : ℕ × X)
+        (rows : List (ℕ × X))
         → SpellsInOrder key limit → row.0 < limit → AllBelow limit rows
         → table_of key value (with_number row rows)
         ≡ set_key (table_of key value rows) (key row.0) (Some (value row.1)) }
@@ -76,8 +77,10 @@ pub fn rows_changed_by_number<X>()
         → SpellsInOrder key limit → n < limit → AllBelow limit rows
         → table_of key value (without_number n rows)
         ≡ set_key (table_of key value rows) (key n) None }
-    ensures put_rises { (row : ℕ × X) (rows : List (ℕ × X)) → NumbersRise rows → NumbersRise (with_number row rows) }
-    ensures removed_rises { (n : ℕ) (rows : List (ℕ × X)) → NumbersRise rows → NumbersRise (without_number n rows) }
+    ensures put_rises { (row : ℕ × X) (rows : List (ℕ × X))
+        → NumbersRise rows → NumbersRise (with_number row rows) }
+    ensures removed_rises { (n : ℕ) (rows : List (ℕ × X))
+        → NumbersRise rows → NumbersRise (without_number n rows) }
     ensures put_below { (limit : ℕ) (row : ℕ × X) (rows : List (ℕ × X))
         → row.0 < limit → AllBelow limit rows
         → AllBelow limit (with_number row rows) }
@@ -168,9 +171,10 @@ pub fn numbered_rows_read<X>()
         → first + length xs ≤ after + 1 }
 {}
 
-/// A search from the empty key in rows that are numbered in turn, whose spelled numbers aren't empty.
+/// A search from the empty key in rows that are numbered in turn, if no spelled number is empty.
 pub fn numbered_rows_begun<X>()
-    ensures first { (key : ℕ → List ℕ) (value : X → List ℕ) (limit first n : ℕ) (xs : List X) (v : List ℕ)
+    ensures first { (key : ℕ → List ℕ) (value : X → List ℕ) (limit first n : ℕ) (xs : List X)
+        (v : List ℕ)
         → SpellsInOrder key limit → first + length xs ≤ limit → n < limit
         → ((k : ℕ) → k < limit → 0 < length (key k))
         → IsNext (table_of key value (enumerate_from first xs)) [] (key n) v
