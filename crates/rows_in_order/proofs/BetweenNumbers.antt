@@ -9,11 +9,11 @@ use Rattle.rows_in_order.proofs.ByNumber.{key_before, key_upto, all_after, none_
 use Rattle.rows_in_order.proofs.Rising.{between_nothing, between_next, between_first, between_yet, between_none, between_all, between_parts}
 
 -- a number as the only item of a list
-lone : ℕ → List ℕ
+pub lone : ℕ → List ℕ
 lone n = n ∷ []
 
 -- such lists are in the order of the numbers
-lone_order : (limit : ℕ) → SpellsInOrder lone limit
+pub lone_order : (limit : ℕ) → SpellsInOrder lone limit
 unfolding lone
 lone_order limit a b la lb = then_equal (nat_cmp a b)
   where
@@ -24,11 +24,11 @@ lone_order limit a b la lb = then_equal (nat_cmp a b)
 
 module _ {X : Type 0} where
   -- a number above all rows' numbers
-  limit_of : List (ℕ × X) → ℕ
+  pub limit_of : List (ℕ × X) → ℕ
   limit_of [] = 0
   limit_of (r ∷ rs) = r.0 + 1 + limit_of rs
 
-  below : (rows : List (ℕ × X)) (n : ℕ) → AllBelow (limit_of rows + n) rows
+  pub below : (rows : List (ℕ × X)) (n : ℕ) → AllBelow (limit_of rows + n) rows
   unfolding limit_of
   below [] n = tt
   below (r ∷ rs) n = (omega arith, subst (λ (m : ℕ). AllBelow m rs) (sum (limit_of rs)) (below rs (r.0 + 1 + n)))

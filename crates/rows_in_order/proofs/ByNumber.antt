@@ -24,10 +24,13 @@ is_ltb a b = grind (arith, nat_tests)
 is_eqb : (a b : ℕ) → is_eq (nat_cmp a b) ≡ (a == b)
 is_eqb a b = grind (arith, nat_tests)
 
+pub lt_ltb : (a b : ℕ) → a < b → ltb a b ≡ true
+lt_ltb a b lt = grind (arith, nat_tests)
+
 lt_less : (a b : ℕ) → a < b → nat_cmp a b ≡ Less
 lt_less a b lt = grind (arith, nat_tests)
 
-ltb_false : (a b : ℕ) → b ≤ a → ltb a b ≡ false
+pub ltb_false : (a b : ℕ) → b ≤ a → ltb a b ≡ false
 ltb_false a b le = grind (arith, nat_tests)
 
 false_ltb : (a b : ℕ) → ltb a b ≡ false → b ≤ a
@@ -48,7 +51,7 @@ module _ (key : ℕ → List ℕ) (limit : ℕ) (in_order : SpellsInOrder key li
   pub key_same : (a b : ℕ) → a < limit → b < limit → same_key (key a) (key b) ≡ (a == b)
   key_same a b la lb = ap is_eq (in_order a b la lb) ∙ is_eqb a b
 
-  key_is_before : (a b : ℕ) → a < limit → b < limit → is_before (key a) (key b) ≡ ltb a b
+  pub key_is_before : (a b : ℕ) → a < limit → b < limit → is_before (key a) (key b) ≡ ltb a b
   key_is_before a b la lb = ap is_lt (in_order a b la lb) ∙ is_ltb a b
 
   pub key_less : (a b : ℕ) → a < limit → b < limit → bytes_cmp (key a) (key b) ≡ Less → a < b
@@ -110,6 +113,10 @@ module _ (key : ℕ → List ℕ) (limit : ℕ) (in_order : SpellsInOrder key li
         pick : (b : Bool) → table_of key value rs (key n) ≡ option_map value (lookup (λ k. k == n) rs) → cond b (Some (value r.1)) (table_of key value rs (key n)) ≡ option_map value (cond b (Some r.1) (lookup (λ k. k == n) rs))
         pick true rest = refl
         pick false rest = rest
+
+    pub number_rises : (rows : List (ℕ × X)) → AllBelow limit rows → IsRising key rows → NumbersRise rows
+    number_rises [] small rise = tt
+    number_rises (r ∷ rs) small rise = (all_above r.0 rs small.0 small.1 rise.0, number_rises rs small.1 rise.1)
 
     -- the parts of rows below a limit
     below_parts : (front : List (ℕ × X)) (row : ℕ × X) (back : List (ℕ × X)) → AllBelow limit (front ++ row ∷ back) → AllBelow limit front × (row.0 < limit) × AllBelow limit back

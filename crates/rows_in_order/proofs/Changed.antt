@@ -7,17 +7,12 @@ use Rattle.std.specs.declared.cmp.Ordering.TheVariants.{Less, Equal, Greater}
 use Rattle.std.proofs.lemmas.Cmp.{eq_by_cmp_equiv}
 use Rattle.std.proofs.lemmas.List.{append-nil}
 use Rattle.std.proofs.lemmas.List.Elements.{filter-append}
-use Rattle.std.proofs.lemmas.Map.Lookups.{exact_bytes}
 use Rattle.repl_types.specs.Bytes.{bytes_cmp}
-use Rattle.keep_core.specs.Contents.{Table, same_key, set_key}
+use Rattle.keep_core.specs.Contents.{same_key, set_key}
 use Rattle.rows_in_order.specs.Rows.{is_before, table_of, AllBefore, AllAfter, IsRising, with_row, without_row}
-use Rattle.rows_in_order.proofs.Before.{order, is_less, is_equal, upto_itself}
+use Rattle.rows_in_order.proofs.Before.{order, is_less, upto_itself}
 use Rattle.rows_in_order.proofs.Filtered.{all_weaker, all_append, all_kept, filter_none, filter_all}
-use Rattle.rows_in_order.proofs.Rising.{same_itself, differ, filter_rises, no_row_at}
-
--- keys that are one are equal
-pub same_is : (k q : List ℕ) → same_key k q ≡ true → k ≡ q
-same_is k q e = exact_bytes k q (is_equal (bytes_cmp k q) e)
+use Rattle.rows_in_order.proofs.Rising.{same_itself, same_is, differ, filter_rises, no_row_at}
 
 -- the first of two where it is something, else the second
 abbrev pub or_else : Option (List ℕ) → Option (List ℕ) → Option (List ℕ)
@@ -25,14 +20,6 @@ or_else None other = other
 or_else (Some v) other = Some v
 
 -- ---- tables
-
--- where a key is absent, making it absent changes nothing
-pub set_absent : (t : Table) (k : List ℕ) → t k ≡ None → set_key t k None ≡ t
-set_absent t k none = λ i q. pick q (same_key k q) refl i
-  where
-    pick : (q : List ℕ) (b : Bool) → same_key k q ≡ b → set_key t k None q ≡ t q
-    pick q true e = ap (λ (c : Bool). cond c None (t q)) e ∙ sym (ap t (sym (same_is k q e)) ∙ none)
-    pick q false e = ap (λ (c : Bool). cond c None (t q)) e
 
 module _ {A X : Type 0} (key : A → List ℕ) (value : X → List ℕ) where
   -- a filter by keys keeps what stands at a key, or drops it

@@ -2,10 +2,12 @@ pub mod Before
 pub mod BetweenNumbers
 pub mod ByNumber
 pub mod Changed
-pub mod Elsewhere
+pub mod ChangedNumbers
 pub mod Filtered
 pub mod Found
 pub mod Numbered
+pub mod NumberedParts
 pub mod Prefixed
 pub mod Rising
 pub mod Unique
+pub mod Written

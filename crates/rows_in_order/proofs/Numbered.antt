@@ -8,8 +8,8 @@ use Rattle.std.proofs.lemmas.Bool.Decides.{nat_tests}
 use Rattle.keep_core.specs.Contents.{Table, IsNext, IsLast, same_key, set_key}
 use Rattle.rows_in_order.specs.Rows.{table_of}
 use Rattle.rows_in_order.specs.Numbers.{SpellsInOrder, AllBelow, AllAbove, NumbersRise}
-use Rattle.rows_in_order.proofs.Rising.{some_none, table_push, table_pop}
-use Rattle.rows_in_order.proofs.Changed.{same_is}
+use Rattle.rows_in_order.proofs.Before.{empty_before}
+use Rattle.rows_in_order.proofs.Rising.{same_is, some_none, table_push, table_pop}
 use Rattle.rows_in_order.proofs.ByNumber.{key_same, key_less, key_before, key_one, all_before, all_after}
 
 -- tests of numbers
@@ -94,6 +94,23 @@ module _ {X : Type 0} (key : ℕ → List ℕ) (limit : ℕ) (in_order : SpellsI
     | inl lt ↦ absurd (there b (after + 1) xs few le lt (last (key (after + 1)) (key_before key limit in_order after (after + 1) (omega arith) (omega arith) (omega arith))))
     | inr ge ↦ omega arith
   ]
+
+  -- ---- from the empty key
+
+  -- the first number is where they begin
+  pub numbered_start : (b q : ℕ) (xs : List X) (v : List ℕ) → b + length xs ≤ limit → q < limit → ((n : ℕ) → n < limit → 0 < length (key n)) → IsNext (table_of key value (enumerate_from b xs)) [] (key q) v → (q ≡ b) × (0 < length xs)
+  numbered_start b q [] v few lq some next = absurd (some_none key value (sym next.has))
+  numbered_start b q (x ∷ xs) v few lq some next = elim (cases_eq b q) [
+    | inl e ↦ (sym e, omega arith)
+    | inr ne ↦
+        let found = numbered_found b q (x ∷ xs) v few lq next.has in
+        absurd (some_none key value (sym (placed_at b b (x ∷ xs) x few (omega arith) (omega arith)) ∙ next.least (key b) (empty_before (key b) (some b (omega arith))) (key_before key limit in_order b q (omega arith) lq (omega arith))))
+  ]
+
+  -- and if there is none, there are no rows
+  pub numbered_none : (b : ℕ) (xs : List X) → b + length xs ≤ limit → ((n : ℕ) → n < limit → 0 < length (key n)) → IsLast (table_of key value (enumerate_from b xs)) [] → xs ≡ []
+  numbered_none b [] few some last = refl
+  numbered_none b (x ∷ xs) few some last = absurd (some_none key value (sym (placed_at b b (x ∷ xs) x few (omega arith) (omega arith)) ∙ last (key b) (empty_before (key b) (some b (omega arith)))))
 
   -- ---- writes
 

@@ -11,11 +11,12 @@ use Rattle.std.proofs.lemmas.List.{append-nil}
 use Rattle.std.proofs.lemmas.Map.Lookups.{exact_bytes}
 use Rattle.std.proofs.lemmas.Slice.Eq.{starts_is}
 use Rattle.repl_types.specs.Bytes.{bytes_cmp}
-use Rattle.rows_in_order.specs.Rows.{is_before, IsUpTo, table_of, AllAfter, NoneAfter, between, NextRow, begins_with, with_prefix}
+use Rattle.rows_in_order.specs.Rows.{is_before, IsUpTo, table_of, AllAfter, NoneAfter, IsRising, between, NextRow, begins_with, with_prefix}
 use Rattle.rows_in_order.proofs.Before.{order, is_less, not_both}
 use Rattle.rows_in_order.proofs.Filtered.{all_weaker, all_filter, filter_none}
 use Rattle.rows_in_order.proofs.Rising.{at_seam, both_true, not_true, part}
 use Rattle.rows_in_order.proofs.Changed.{filter_at}
+use Rattle.rows_in_order.proofs.Found.{first_row}
 
 -- ---- keys
 
@@ -119,6 +120,32 @@ module _ {A X : Type 0} (key : A → List ℕ) (bytes : List ℕ) where
       pick : (t : Bool) → begins_with bytes (key r.0) ≡ t → AllAfter key bytes (with_prefix key bytes rs) → AllAfter key bytes (cond t (r ∷ with_prefix key bytes rs) (with_prefix key bytes rs))
       pick true e rest = (begins_after bytes (key r.0) e ne.0, rest)
       pick false e rest = rest
+
+  -- a search from those bytes gives the first of them
+  pub prefix_first : (rows : List (A × X)) (row : A × X) (next : NextRow key rows bytes row) → begins_with bytes (key row.0) ≡ true → AllByRecursion (λ r. key r.0 ≢ bytes) rows → with_prefix key bytes rows ≡ row ∷ with_prefix key bytes next.back
+  unfolding prefix_next
+  prefix_first rows row next e ne = first_row key (with_prefix key bytes rows) bytes row (prefix_next rows bytes row next e) (prefix_after rows ne)
+
+  -- after a row that begins so, those that do come first
+  run : (r : A × X) (rs : List (A × X)) → begins_with bytes (key r.0) ≡ true → AllAfter key (key r.0) rs → IsRising key rs → (back : List (A × X)) × (rs ≡ with_prefix key bytes rs ++ back)
+  run r [] e after rise = ([], refl)
+  run r (q ∷ qs) e after rise = pick (begins_with bytes (key q.0)) refl (λ f. run q qs f rise.0 rise.1)
+    where
+      none : begins_with bytes (key q.0) ≡ false → with_prefix key bytes qs ≡ []
+      none past = filter_none (λ s. begins_with bytes (key s.0)) qs (all_weaker (λ s. bytes_cmp (key q.0) (key s.0) ≡ Less) (λ s. begins_with bytes (key s.0) ≡ false) qs (λ s lt. off (begins_with bytes (key s.0)) (λ f. not_both (begins_with bytes (key q.0)) (begins_together bytes (key r.0) (key q.0) (key s.0) e f after.0 lt) past)) rise.0)
+
+      pick : (t : Bool) → begins_with bytes (key q.0) ≡ t → (begins_with bytes (key q.0) ≡ true → (back : List (A × X)) × (qs ≡ with_prefix key bytes qs ++ back)) → (back : List (A × X)) × (q ∷ qs ≡ cond t (q ∷ with_prefix key bytes qs) (with_prefix key bytes qs) ++ back)
+      pick true f rest = let more = rest f in (more.0, ap (λ (l : List (A × X)). q ∷ l) more.1)
+      pick false f rest = (q ∷ qs, ap (λ (l : List (A × X)). l ++ q ∷ qs) (sym (none f)))
+
+  -- rows that begin so lie together
+  pub prefix_together : (rows : List (A × X)) → IsRising key rows → (front : List (A × X)) × (back : List (A × X)) × (rows ≡ front ++ with_prefix key bytes rows ++ back)
+  prefix_together [] rise = ([], [], refl)
+  prefix_together (r ∷ rs) rise = pick (begins_with bytes (key r.0)) refl (prefix_together rs rise.1) (λ e. run r rs e rise.0 rise.1)
+    where
+      pick : (t : Bool) → begins_with bytes (key r.0) ≡ t → ((front : List (A × X)) × (back : List (A × X)) × (rs ≡ front ++ with_prefix key bytes rs ++ back)) → (begins_with bytes (key r.0) ≡ true → (back : List (A × X)) × (rs ≡ with_prefix key bytes rs ++ back)) → (front : List (A × X)) × (back : List (A × X)) × (r ∷ rs ≡ front ++ cond t (r ∷ with_prefix key bytes rs) (with_prefix key bytes rs) ++ back)
+      pick true e rest here = let more = here e in ([], more.0, ap (λ (l : List (A × X)). r ∷ l) more.1)
+      pick false e rest here = (r ∷ rest.0, rest.1, ap (λ (l : List (A × X)). r ∷ l) rest.2)
 
 -- at a key that begins so stands what stood there
 pub prefix_table : {A X : Type 0} (key : A → List ℕ) (value : X → List ℕ) (bytes k : List ℕ) (rows : List (A × X)) → begins_with bytes k ≡ true → table_of key value (with_prefix key bytes rows) k ≡ table_of key value rows k

@@ -20,6 +20,10 @@ use Rattle.rows_in_order.proofs.Filtered.{all_weaker, all_filter, filter_none, f
 pub same_itself : (k : List ℕ) → same_key k k ≡ true
 same_itself k = ap is_eq (tied_itself order k)
 
+-- keys that are one are equal
+pub same_is : (k q : List ℕ) → same_key k q ≡ true → k ≡ q
+same_is k q e = exact_bytes k q (is_equal (bytes_cmp k q) e)
+
 -- a key before another isn't that one
 pub differ : (k l : List ℕ) → bytes_cmp k l ≡ Less → same_key k l ≡ false
 differ k l lt = ap is_eq lt
@@ -216,8 +220,8 @@ module _ {A X : Type 0} (key : A → List ℕ) (value : X → List ℕ) where
     where
       clash : (k : List ℕ) → same_key (key q.0) k ≡ true → same_key (key r.0) k ≡ true → ⊥
       clash k a b =
-          let one : key q.0 ≡ k = exact_bytes (key q.0) k (is_equal (bytes_cmp (key q.0) k) a) in
-          let two : key r.0 ≡ k = exact_bytes (key r.0) k (is_equal (bytes_cmp (key r.0) k) b) in
+          let one : key q.0 ≡ k = same_is (key q.0) k a in
+          let two : key r.0 ≡ k = same_is (key r.0) k b in
           not_both (same_key (key q.0) (key r.0)) (subst (λ (l : List ℕ). same_key (key q.0) l ≡ true) (one ∙ sym two) (same_itself (key q.0))) (differ (key q.0) (key r.0) before.0)
 
       pick : (k : List ℕ) (a b : Bool) → (a ≡ true → b ≡ true → ⊥) → table_of key value (qs ++ r ∷ []) k ≡ cond b (Some (value r.1)) (table_of key value qs k) → cond a (Some (value q.1)) (table_of key value (qs ++ r ∷ []) k) ≡ cond b (Some (value r.1)) (cond a (Some (value q.1)) (table_of key value qs k))
@@ -267,7 +271,7 @@ module _ {A X : Type 0} (key : A → List ℕ) (value : X → List ℕ) where
   found_after k l (r ∷ rs) after v has = pick (same_key (key r.0) l) refl (found_after k l rs after.1 v)
     where
       pick : (t : Bool) → same_key (key r.0) l ≡ t → (table_of key value rs l ≡ Some v → bytes_cmp k l ≡ Less) → bytes_cmp k l ≡ Less
-      pick true same rest = subst (λ (m : List ℕ). bytes_cmp k m ≡ Less) (exact_bytes (key r.0) l (is_equal (bytes_cmp (key r.0) l) same)) after.0
+      pick true same rest = subst (λ (m : List ℕ). bytes_cmp k m ≡ Less) (same_is (key r.0) l same) after.0
       pick false same rest = rest (sym (past_head r rs l same) ∙ has)
 
   -- without the first row's key the others are left
@@ -295,7 +299,7 @@ module _ {A X : Type 0} (key : A → List ℕ) (value : X → List ℕ) where
       pick true same rest = record {
         front = [];
         back = rs;
-        split = ap (λ (q : A × X). q ∷ rs) (one.0 (exact_bytes (key r.0) (key e.0) (is_equal (bytes_cmp (key r.0) (key e.0)) same)) (some_is (sym (ap (λ (t : Bool). cond t (Some (value r.1)) (table_of key value rs (key e.0))) same) ∙ has)));
+        split = ap (λ (q : A × X). q ∷ rs) (one.0 (same_is (key r.0) (key e.0) same) (some_is (sym (ap (λ (t : Bool). cond t (Some (value r.1)) (table_of key value rs (key e.0))) same) ∙ has)));
       }
       pick false same rest =
           let h = rest (sym (past_head r rs (key e.0) same) ∙ has) in
@@ -335,7 +339,7 @@ module _ {A X : Type 0} (key : A → List ℕ) (value : X → List ℕ) where
         where
           this : (t : Bool) → same_key (key r.0) (key e.0) ≡ t → NextRow key (r ∷ rs) after e
           this true same =
-              let keys : key r.0 ≡ key e.0 = exact_bytes (key r.0) (key e.0) (is_equal (bytes_cmp (key r.0) (key e.0)) same) in
+              let keys : key r.0 ≡ key e.0 = same_is (key r.0) (key e.0) same in
               let values : value r.1 ≡ value e.1 = some_is (sym (ap (λ (t : Bool). cond t (Some (value r.1)) (table_of key value rs (key e.0))) same) ∙ next.has) in
               record {
                 front = [];

@@ -1,5 +1,5 @@
 -- Rows whose keys are numbers.
-use Rattle.std.specs.Prelude.{◌≡◌, ℕ, ◌<◌, ◌≤◌, ltb, leb, ◌&&◌, List, [], ◌∷◌, ◌++◌, filter}
+use Rattle.std.specs.Prelude.{◌≡◌, ℕ, ◌<◌, ◌≤◌, ltb, leb, not, ◌&&◌, ◌==◌, List, [], ◌∷◌, ◌++◌, filter}
 use Rattle.std.specs.List.{AllByRecursion}
 use Rattle.std.specs.Ordering.{nat_cmp}
 use Rattle.repl_types.specs.Bytes.{bytes_cmp}
@@ -37,3 +37,11 @@ pub record NextNumber {X : Type 0} (rows : List (ℕ × X)) (after : ℕ) (row :
   pub passed : NoneAbove after front
   pub above : after < row.0
   pub later : AllAbove row.0 back
+
+-- the rows with this one: in the place of the row of its number, or between those below and above it
+abbrev pub with_number : {X : Type 0} → ℕ × X → List (ℕ × X) → List (ℕ × X)
+with_number row rows = filter (λ r. ltb r.0 row.0) rows ++ row ∷ filter (λ r. ltb row.0 r.0) rows
+
+-- the rows, except the one of a number
+abbrev pub without_number : {X : Type 0} → ℕ → List (ℕ × X) → List (ℕ × X)
+without_number n rows = filter (λ r. not (r.0 == n)) rows

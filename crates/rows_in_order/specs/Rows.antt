@@ -56,7 +56,7 @@ begins_with bytes k = starts_with eqb k bytes
 abbrev pub with_prefix : {A X : Type 0} → (A → List ℕ) → List ℕ → List (A × X) → List (A × X)
 with_prefix key bytes rows = filter (λ r. begins_with bytes (key r.0)) rows
 
--- a row of this key and value that is spelled as this one is this one
+-- of the rows, only this one has its key and its value spelled so
 abbrev pub IsToldApart : {A X : Type 0} → (A → List ℕ) → (X → List ℕ) → List (A × X) → A × X → Type 0
 IsToldApart key value rows row = AllByRecursion (λ r. key r.0 ≡ key row.0 → value r.1 ≡ value row.1 → r ≡ row) rows
 

@@ -44,7 +44,19 @@ pub fn row_removed<A, X>()
     ensures absent { (key : A → List ℕ) (value : X → List ℕ) (k : List ℕ) (rows : List (A × X))
         → table_of key value rows k ≡ None
         → without_row key k rows ≡ rows }
-    ensures same { (t : Table) (k : List ℕ) → t k ≡ None → set_key t k None ≡ t }
+{}
+
+/// A table with something set at one key.
+pub fn table_set()
+    ensures at { (t : Table) (k : List ℕ) (v : Option (List ℕ)) → set_key t k v k ≡ v }
+    ensures other { (t : Table) (k q : List ℕ) (v : Option (List ℕ))
+        → k ≢ q → set_key t k v q ≡ t q }
+    ensures again { (t : Table) (k : List ℕ) (v w : Option (List ℕ))
+        → set_key (set_key t k v) k w ≡ set_key t k w }
+    ensures apart { (t : Table) (k l : List ℕ) (v w : Option (List ℕ))
+        → k ≢ l
+        → set_key (set_key t k v) l w ≡ set_key (set_key t l w) k v }
+    ensures same { (t : Table) (k : List ℕ) (v : Option (List ℕ)) → t k ≡ v → set_key t k v ≡ t }
 {}
 
 /// A table of one row at most.

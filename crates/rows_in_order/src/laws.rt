@@ -45,8 +45,8 @@ pub fn next_of_rows<A, X>()
         → IsLast (table_of key value rows) after }
 {}
 
-/// A search that begins below all rows gives the first of them. One from the empty key does, since no
-/// stored key is empty.
+/// A search that begins below all rows gives the first of them. One from the empty key does, since
+/// no stored key is empty.
 pub fn first_of_rows<A, X>()
     ensures some { (key : A → List ℕ) (rows : List (A × X))
         → AllByRecursion (λ r. 0 < length (key r.0)) rows

@@ -23,14 +23,15 @@ mod numbers;
 mod prefixes;
 mod uniqueness;
 
-pub use changes::{one_row, put_elsewhere, row_put, row_put_in_place, row_removed};
+pub use changes::{one_row, put_elsewhere, row_put, row_put_in_place, row_removed, table_set};
 pub use laws::{
     first_of_rows, key_bytes_in_order, next_of_rows, parts_of_rows, row_after_all, row_at_key,
     row_before_all, rows_between,
 };
 pub use numbers::{
-    next_by_number, number_keys_in_order, numbered_rows, numbered_rows_changed, numbered_rows_read,
-    rows_between_numbers, rows_by_number,
+    next_by_number, number_keys_in_order, numbered_rows, numbered_rows_begun,
+    numbered_rows_changed, numbered_rows_read, rows_between_numbers, rows_by_number,
+    rows_changed_by_number,
 };
-pub use prefixes::{keys_with_a_prefix, rows_with_a_prefix};
+pub use prefixes::{keys_with_a_prefix, rows_with_a_prefix, rows_with_a_prefix_together};
 pub use uniqueness::rows_by_key;

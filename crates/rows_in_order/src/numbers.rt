@@ -3,7 +3,7 @@
 //! The spelling of a number is any whose byte order is the order of the numbers below a limit
 //! (`SpellsInOrder`), as numbers of eight bytes from the highest byte on are below 2 ^ 64.
 
-ghost use Rattle.std.specs.Prelude.{◌≡◌, ◌==◌, ℕ, ◌+◌, ◌<◌, ◌≤◌, List, [], ◌∷◌, ◌++◌, Some, None, length, get_or, set};
+ghost use Rattle.std.specs.Prelude.{◌≡◌, ◌==◌, ℕ, ◌+◌, ◌-◌, ◌<◌, ◌≤◌, List, [], ◌∷◌, ◌++◌, Some, None, length, get_or, set, take, drop};
 ghost use Rattle.std.specs.List.{AllByRecursion, enumerate_from};
 ghost use Rattle.std.specs.Map.{lookup};
 ghost use Rattle.std.specs.Option.{option_map};
@@ -11,7 +11,7 @@ ghost use Rattle.std.specs.declared.cmp.Ordering.TheVariants.{Less};
 ghost use Rattle.repl_types.specs.Bytes.{bytes_cmp};
 ghost use Rattle.keep_core.specs.Contents.{IsNext, IsLast, same_key, set_key};
 ghost use Rattle.rows_in_order.specs.Rows.{IsUpTo, table_of, AllBefore, AllAfter, IsRising, between};
-ghost use Rattle.rows_in_order.specs.Numbers.{SpellsInOrder, AllBelow, AllAbove, NoneAbove, NumbersRise, numbers_between, NextNumber};
+ghost use Rattle.rows_in_order.specs.Numbers.{SpellsInOrder, AllBelow, AllAbove, NoneAbove, NumbersRise, numbers_between, with_number, without_number, NextNumber};
 
 /// Spelled numbers are compared as the numbers are.
 pub fn number_keys_in_order()
@@ -57,6 +57,39 @@ pub fn rows_by_number<X>()
     ensures at { (key : ℕ → List ℕ) (value : X → List ℕ) (limit n : ℕ) (rows : List (ℕ × X))
         → SpellsInOrder key limit → n < limit → AllBelow limit rows
         → table_of key value rows (key n) ≡ option_map value (lookup (λ k. k == n) rows) }
+    ensures same { (key : ℕ → List ℕ) (value : X → List ℕ) (limit : ℕ) (rows others : List (ℕ × X))
+        → SpellsInOrder key limit → AllBelow limit rows → AllBelow limit others
+        → NumbersRise rows → NumbersRise others
+        → AllByRecursion
+        (λ q. AllByRecursion (λ r. r.0 ≡ q.0 → value r.1 ≡ value q.1 → r ≡ q) rows) others
+        → table_of key value rows ≡ table_of key value others
+        → rows ≡ others }
+{}
+
+/// A row is put at its number, or the row of a number is removed.
+pub fn rows_changed_by_number<X>()
+    ensures put { (key : ℕ → List ℕ) (value : X → List ℕ) (limit : ℕ) (row : ℕ × X)
+        (rows : List (ℕ × X))
+        → SpellsInOrder key limit → row.0 < limit → AllBelow limit rows
+        → table_of key value (with_number row rows)
+        ≡ set_key (table_of key value rows) (key row.0) (Some (value row.1)) }
+    ensures removed { (key : ℕ → List ℕ) (value : X → List ℕ) (limit n : ℕ) (rows : List (ℕ × X))
+        → SpellsInOrder key limit → n < limit → AllBelow limit rows
+        → table_of key value (without_number n rows)
+        ≡ set_key (table_of key value rows) (key n) None }
+    ensures put_rises { (row : ℕ × X) (rows : List (ℕ × X))
+        → NumbersRise rows → NumbersRise (with_number row rows) }
+    ensures removed_rises { (n : ℕ) (rows : List (ℕ × X))
+        → NumbersRise rows → NumbersRise (without_number n rows) }
+    ensures put_below { (limit : ℕ) (row : ℕ × X) (rows : List (ℕ × X))
+        → row.0 < limit → AllBelow limit rows
+        → AllBelow limit (with_number row rows) }
+    ensures removed_below { (limit n : ℕ) (rows : List (ℕ × X))
+        → AllBelow limit rows
+        → AllBelow limit (without_number n rows) }
+    ensures last { (row : ℕ × X) (rows : List (ℕ × X))
+        → AllBelow row.0 rows
+        → with_number row rows ≡ rows ++ row ∷ [] }
 {}
 
 /// What a read of the next key says of rows whose numbers rise.
@@ -108,6 +141,10 @@ pub fn numbered_rows<X>()
     ensures parts { (first : ℕ) (xs ys : List X)
         → enumerate_from first (xs ++ ys)
         ≡ enumerate_from first xs ++ enumerate_from (first + length xs) ys }
+    ensures between { (first low high : ℕ) (xs : List X)
+        → first ≤ low + 1
+        → numbers_between low high (enumerate_from first xs)
+        ≡ enumerate_from (low + 1) (take (high - low) (drop (low + 1 - first) xs)) }
 {}
 
 /// What reads say of rows that are numbered in turn: the next number is one more, and the last is
@@ -132,6 +169,21 @@ pub fn numbered_rows_read<X>()
         → SpellsInOrder key limit → first + length xs ≤ limit → first ≤ after + 1
         → IsLast (table_of key value (enumerate_from first xs)) (key after)
         → first + length xs ≤ after + 1 }
+{}
+
+/// A search from the empty key in rows that are numbered in turn, if no spelled number is empty.
+pub fn numbered_rows_begun<X>()
+    ensures first { (key : ℕ → List ℕ) (value : X → List ℕ) (limit first n : ℕ) (xs : List X)
+        (v : List ℕ)
+        → SpellsInOrder key limit → first + length xs ≤ limit → n < limit
+        → ((k : ℕ) → k < limit → 0 < length (key k))
+        → IsNext (table_of key value (enumerate_from first xs)) [] (key n) v
+        → (n ≡ first) × (0 < length xs) }
+    ensures none { (key : ℕ → List ℕ) (value : X → List ℕ) (limit first : ℕ) (xs : List X)
+        → SpellsInOrder key limit → first + length xs ≤ limit
+        → ((k : ℕ) → k < limit → 0 < length (key k))
+        → IsLast (table_of key value (enumerate_from first xs)) []
+        → xs ≡ [] }
 {}
 
 /// What writes make of rows that are numbered in turn.

@@ -1,6 +1,6 @@
 //! Rows whose keys begin with the same bytes.
 
-ghost use Rattle.std.specs.Prelude.{◌≡◌, ◌≢◌, ℕ, true, false, List, ◌++◌, length, drop};
+ghost use Rattle.std.specs.Prelude.{◌≡◌, ◌≢◌, ℕ, true, false, List, ◌∷◌, ◌++◌, length, drop};
 ghost use Rattle.std.specs.List.{AllByRecursion};
 ghost use Rattle.std.specs.declared.cmp.Ordering.TheVariants.{Less};
 ghost use Rattle.repl_types.specs.Bytes.{bytes_cmp};
@@ -38,6 +38,19 @@ pub fn rows_with_a_prefix<A, X>()
     ensures after { (key : A → List ℕ) (bytes : List ℕ) (rows : List (A × X))
         → AllByRecursion (λ r. key r.0 ≢ bytes) rows
         → AllAfter key bytes (with_prefix key bytes rows) }
+    ensures first { (key : A → List ℕ) (bytes : List ℕ) (rows : List (A × X)) (row : A × X)
+        (next : NextRow key rows bytes row)
+        → begins_with bytes (key row.0) ≡ true → AllByRecursion (λ r. key r.0 ≢ bytes) rows
+        → with_prefix key bytes rows ≡ row ∷ with_prefix key bytes next.back }
+{}
+
+/// The rows whose keys begin with some bytes lie together, and their table has what the table of
+/// all rows has at such keys.
+pub fn rows_with_a_prefix_together<A, X>()
+    ensures together { (key : A → List ℕ) (bytes : List ℕ) (rows : List (A × X))
+        → IsRising key rows
+        → (front : List (A × X)) × (back : List (A × X))
+        × (rows ≡ front ++ with_prefix key bytes rows ++ back) }
     ensures rises { (key : A → List ℕ) (bytes : List ℕ) (rows : List (A × X))
         → IsRising key rows
         → IsRising key (with_prefix key bytes rows) }

@@ -1,4 +1,4 @@
-use Rattle.rows_in_order.proofs.Changed.{table_without, rises_without, without_split, without_absent, set_absent}
+use Rattle.rows_in_order.proofs.Changed.{table_without, rises_without, without_split, without_absent}
 use Rattle.rows_in_order.proofs.changes.row_removed.Goals as goal
 
 pub returns-clause-table : goal.returns-clause-table
@@ -12,6 +12,3 @@ returns-clause-split g c = without_split
 
 pub returns-clause-absent : goal.returns-clause-absent
 returns-clause-absent g c = without_absent
-
-pub returns-clause-same : goal.returns-clause-same
-returns-clause-same g c = set_absent

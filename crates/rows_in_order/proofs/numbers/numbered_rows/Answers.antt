@@ -1,4 +1,5 @@
 use Rattle.rows_in_order.proofs.Numbered.{numbered_rises, numbered_below, numbered_above, numbered_parts}
+use Rattle.rows_in_order.proofs.NumberedParts.{numbered_between}
 use Rattle.rows_in_order.proofs.numbers.numbered_rows.Goals as goal
 
 pub returns-clause-rises : goal.returns-clause-rises
@@ -12,3 +13,6 @@ returns-clause-above g c = numbered_above
 
 pub returns-clause-parts : goal.returns-clause-parts
 returns-clause-parts g c = numbered_parts
+
+pub returns-clause-between : goal.returns-clause-between
+returns-clause-between g c = numbered_between

@@ -1,3 +1,4 @@
+use Rattle.rows_in_order.proofs.ChangedNumbers.{same_numbers}
 use Rattle.rows_in_order.proofs.ByNumber.{rises, all_before, all_after, between_is, found_at}
 use Rattle.rows_in_order.proofs.numbers.rows_by_number.Goals as goal
 
@@ -15,3 +16,6 @@ returns-clause-between g c = λ key limit low high rows in_order. between_is key
 
 pub returns-clause-at : goal.returns-clause-at
 returns-clause-at g c = λ key value limit n rows in_order. found_at key limit in_order value n rows
+
+pub returns-clause-same : goal.returns-clause-same
+returns-clause-same g c = λ key value limit rows others in_order. same_numbers key limit in_order value rows others
