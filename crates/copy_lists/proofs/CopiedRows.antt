@@ -1,15 +1,15 @@
 -- The copy that a log's units give by their change rows.
-use Rattle.std.proofs.Common.{◌≡◌, List, refl, sym, ap, ◌∙◌}
+use Rattle.std.proofs.Common.{◌≡◌, ℕ, List, refl, sym, ap, ◌∙◌}
 use Rattle.std.specs.List.{flat_map}
 use Rattle.std.specs.FinMap.{empty}
 use Rattle.repl_types.specs.declared.table.TableDef.{TableDef}
+use Rattle.repl_types.specs.declared.record.LogRecord.{LogRecord}
 use Rattle.repl_types.specs.declared.unit.Unit.{Unit}
+use Rattle.repl_types.specs.declared.change_row.Registration.{Registration}
 use Rattle.repl_types.specs.declared.change_row.CdRow.{CdRow}
-use Rattle.repl_model.specs.Units.{last_commit}
-use Rattle.repl_model.specs.ChangeRows.{change_rows, after_change_rows}
-use Rattle.repl_model.specs.Copies.{copy_at, KeepsWholeRows}
-use Rattle.repl_model.specs.laws.Units.{changes_to_last}
-use Rattle.repl_model.specs.laws.CopyByRows.{copy_by_rows}
+use Rattle.repl_model.specs.Units.{units, last_commit}
+use Rattle.repl_model.specs.ChangeRows.{change_rows, changes_between, after_change_rows}
+use Rattle.repl_model.specs.Copies.{copy_at, KeepsWholeRows, LeavesKeys}
 use Rattle.copy_lists.specs.declared.source_log.SourceLog.{SourceLog}
 use Rattle.copy_lists.specs.Items.{items, items_registration}
 use Rattle.copy_lists.specs.SourceLog.{TellsUnits}
@@ -18,9 +18,12 @@ use Rattle.copy_lists.specs.SourceLog.{TellsUnits}
 items_whole : KeepsWholeRows items items_registration
 items_whole = record { table = refl; after = refl; del_ins = refl; changes_only = refl }
 
-pub copied_rows : (source : SourceLog) → TellsUnits source → after_change_rows source.table (flat_map (change_rows items_registration) source.units) empty ≡ copy_at items source.records (last_commit source.records)
-copied_rows source tells =
+-- by the model's laws on the change rows up to the last commit, and on a copy that is kept by them
+pub copied_rows : ((log : List LogRecord) (reg : Registration) → changes_between log reg 0 (last_commit log) ≡ flat_map (change_rows reg) (units log))
+    → ((def : TableDef) (reg : Registration) (log : List LogRecord) → KeepsWholeRows def reg → LeavesKeys def log → after_change_rows def (changes_between log reg 0 (last_commit log)) empty ≡ copy_at def log (last_commit log))
+    → (source : SourceLog) → TellsUnits source → after_change_rows source.table (flat_map (change_rows items_registration) source.units) empty ≡ copy_at items source.records (last_commit source.records)
+copied_rows changes whole source tells =
     ap (λ (def : TableDef). after_change_rows def (flat_map (change_rows items_registration) source.units) empty) tells.table
     ∙ ap (λ (us : List Unit). after_change_rows items (flat_map (change_rows items_registration) us) empty) tells.made
-    ∙ ap (λ (rows : List CdRow). after_change_rows items rows empty) (sym (changes_to_last source.records items_registration))
-    ∙ copy_by_rows items items_registration source.records items_whole tells.keys
+    ∙ ap (λ (rows : List CdRow). after_change_rows items rows empty) (sym (changes source.records items_registration))
+    ∙ whole items items_registration source.records items_whole tells.keys

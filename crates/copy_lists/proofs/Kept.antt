@@ -17,14 +17,11 @@ use Rattle.repl_model.specs.SourceAt.{unplaced, source_at}
 use Rattle.repl_model.specs.Tables.{after_changes, all_apply}
 use Rattle.repl_model.specs.Applicable.{is_change_applicable, is_applicable}
 use Rattle.repl_model.specs.Copies.{LeavesKeys}
-use Rattle.repl_model.specs.laws.Units.{open_changes_nil, open_changes_change, open_changes_commit, units_nil, units_change, units_commit, last_time_commit}
-use Rattle.repl_model.specs.laws.Source.{source_nil, source_change, source_commit}
-use Rattle.repl_model.specs.laws.Applicable.{leaves_keys_push}
 use Rattle.copy_lists.specs.declared.refused.Cause.TheVariants.{BadLog, NotApplicable}
 use Rattle.copy_lists.specs.declared.source_log.SourceLog.{SourceLog}
 use Rattle.copy_lists.specs.Items.{items}
 use Rattle.copy_lists.specs.Feed.{left_open, open_tx, may_go_on, is_taken_form, record_cause}
-use Rattle.copy_lists.specs.SourceLog.{IsKeptLog}
+use Rattle.copy_lists.specs.SourceLog.{IsKeptLog, Grows}
 
 -- the last record tells which transaction is open
 pub open_tx-push : (log : List LogRecord) (r : LogRecord) → open_tx (log ++ r ∷ []) ≡ left_open r
@@ -79,16 +76,17 @@ commit_fits source tx time fit kept mine h e =
 -- ---- what is kept
 
 -- of an empty log
-pub kept_empty : (source : SourceLog) → source.table ≡ items → source.records ≡ [] → source.in_flight ≡ None → source.changes ≡ [] → source.units ≡ [] → source.rows ≡ empty → source.time ≡ 0 → IsKeptLog source
-kept_empty source t r f c u w z = record {
+pub kept_empty : units [] ≡ [] → ((tx : ℕ) → open_changes tx [] ≡ []) → ((def : TableDef) (point : ℕ) → source_at def [] point ≡ empty)
+    → (source : SourceLog) → source.table ≡ items → source.records ≡ [] → source.in_flight ≡ None → source.changes ≡ [] → source.units ≡ [] → source.rows ≡ empty → source.time ≡ 0 → IsKeptLog source
+kept_empty no_units nothing_open no_rows source t r f c u w z = record {
   table = t;
   open_one = f ∙ ap open_tx (sym r);
-  mine = λ tx _. ap (open_changes tx) r ∙ open_changes_nil tx ∙ sym c;
+  mine = λ tx _. ap (open_changes tx) r ∙ nothing_open tx ∙ sym c;
   others = λ tx e. absurd (true≢false (ap (λ (log : List LogRecord). may_go_on (open_tx log) tx) (sym r) ∙ e));
   closed = λ _. c;
-  made = u ∙ sym (ap units r ∙ units_nil);
-  committed = w ∙ sym (ap (λ (log : List LogRecord). source_at items log (last_commit log)) r ∙ source_nil items (last_commit []));
-  last = z ∙ sym (ap (λ (log : List LogRecord). last_time (units log)) r ∙ ap last_time units_nil);
+  made = u ∙ sym (ap units r ∙ no_units);
+  committed = w ∙ sym (ap (λ (log : List LogRecord). source_at items log (last_commit log)) r ∙ no_rows items (last_commit []));
+  last = z ∙ sym (ap (λ (log : List LogRecord). last_time (units log)) r ∙ ap last_time no_units);
   keys = subst (LeavesKeys items) (sym r) tt;
 }
 
@@ -101,72 +99,72 @@ rest_empty source tx t kept h n = go (open_tx source.records) refl h
     go (Some o) e h = kept.others t (ap (λ (x : Option ℕ). may_go_on x t) e ∙ ap (λ (x : ℕ). x == t) (eqb-true o tx h) ∙ n)
 
 -- a change record of the transaction that goes on comes to its changes
-mine_change : (source : SourceLog) (tx t : ℕ) (change : Change) → IsKeptLog source → may_go_on (open_tx source.records) tx ≡ true → (tx == t) ≡ true
+mine_change : Grows → (source : SourceLog) (tx t : ℕ) (change : Change) → IsKeptLog source → may_go_on (open_tx source.records) tx ≡ true → (tx == t) ≡ true
     → open_changes t (source.records ++ records.Change tx change ∷ []) ≡ source.changes ++ record { pos = length source.records + 1; change = change } ∷ []
-mine_change source tx t change kept h e =
-    open_changes_change t tx change source.records
+mine_change grows source tx t change kept h e =
+    grows.in_flight_change t tx change source.records
     ∙ ap (λ (b : Bool). cond b (open_changes t source.records ++ record { pos = length source.records + 1; change = change } ∷ []) (open_changes t source.records)) e
     ∙ ap (λ (changes : List Placed). changes ++ record { pos = length source.records + 1; change = change } ∷ []) (kept.mine t (subst (λ (x : ℕ). may_go_on (open_tx source.records) x ≡ true) (eqb-true tx t e) h))
 
 -- and to no others
-others_change : (source : SourceLog) (tx t : ℕ) (change : Change) → IsKeptLog source → may_go_on (open_tx source.records) tx ≡ true → (tx == t) ≡ false
+others_change : Grows → (source : SourceLog) (tx t : ℕ) (change : Change) → IsKeptLog source → may_go_on (open_tx source.records) tx ≡ true → (tx == t) ≡ false
     → open_changes t (source.records ++ records.Change tx change ∷ []) ≡ []
-others_change source tx t change kept h e =
-    open_changes_change t tx change source.records
+others_change grows source tx t change kept h e =
+    grows.in_flight_change t tx change source.records
     ∙ ap (λ (b : Bool). cond b (open_changes t source.records ++ record { pos = length source.records + 1; change = change } ∷ []) (open_changes t source.records)) e
     ∙ rest_empty source tx t kept h e
 
 -- after a commit record of the transaction that goes on nothing is in flight
-none_after_commit : (source : SourceLog) (tx t time : ℕ) (authid : List ℕ) (origin : Option SetId) → IsKeptLog source → may_go_on (open_tx source.records) tx ≡ true
+none_after_commit : Grows → (source : SourceLog) (tx t time : ℕ) (authid : List ℕ) (origin : Option SetId) → IsKeptLog source → may_go_on (open_tx source.records) tx ≡ true
     → open_changes t (source.records ++ records.Commit tx time authid origin ∷ []) ≡ []
-none_after_commit source tx t time authid origin kept h = open_changes_commit t tx time authid origin source.records ∙ go (tx == t) refl
+none_after_commit grows source tx t time authid origin kept h = grows.in_flight_commit t tx time authid origin source.records ∙ go (tx == t) refl
   where
     go : (b : Bool) → (tx == t) ≡ b → cond b [] (open_changes t source.records) ≡ []
     go true e = refl
     go false e = rest_empty source tx t kept h e
 
 -- after a change record
-pub kept_change : (source now : SourceLog) (tx : ℕ) (change : Change) → IsKeptLog source → may_go_on (open_tx source.records) tx ≡ true → is_change_applicable items change ≡ true
+pub kept_change : Grows → (source now : SourceLog) (tx : ℕ) (change : Change) → IsKeptLog source → may_go_on (open_tx source.records) tx ≡ true → is_change_applicable items change ≡ true
     → now.table ≡ source.table → now.records ≡ source.records ++ records.Change tx change ∷ [] → now.in_flight ≡ Some tx
     → now.changes ≡ source.changes ++ record { pos = length source.records + 1; change = change } ∷ []
     → now.units ≡ source.units → now.rows ≡ source.rows → now.time ≡ source.time → IsKeptLog now
 unfolding is_applicable
-kept_change source now tx change kept h fit t r f c u w z =
+kept_change grows source now tx change kept h fit t r f c u w z =
     let opened = ap open_tx r ∙ open_tx-push source.records (records.Change tx change) in
     record {
       table = t ∙ kept.table;
       open_one = f ∙ sym opened;
-      mine = λ x e. ap (open_changes x) r ∙ mine_change source tx x change kept h (ap (λ (o : Option ℕ). may_go_on o x) (sym opened) ∙ e) ∙ sym c;
-      others = λ x e. ap (open_changes x) r ∙ others_change source tx x change kept h (ap (λ (o : Option ℕ). may_go_on o x) (sym opened) ∙ e);
+      mine = λ x e. ap (open_changes x) r ∙ mine_change grows source tx x change kept h (ap (λ (o : Option ℕ). may_go_on o x) (sym opened) ∙ e) ∙ sym c;
+      others = λ x e. ap (open_changes x) r ∙ others_change grows source tx x change kept h (ap (λ (o : Option ℕ). may_go_on o x) (sym opened) ∙ e);
       closed = λ e. absurd (none-some tx (sym e ∙ opened));
-      made = u ∙ kept.made ∙ sym (ap units r ∙ units_change tx change source.records);
-      committed = w ∙ kept.committed ∙ sym (ap (λ (log : List LogRecord). source_at items log (last_commit log)) r ∙ source_change items tx change source.records);
-      last = z ∙ kept.last ∙ sym (ap (λ (log : List LogRecord). last_time (units log)) r ∙ ap last_time (units_change tx change source.records));
-      keys = subst (LeavesKeys items) (sym r) (leaves_keys_push items source.records (records.Change tx change) refl kept.keys fit);
+      made = u ∙ kept.made ∙ sym (ap units r ∙ grows.units_change tx change source.records);
+      committed = w ∙ kept.committed ∙ sym (ap (λ (log : List LogRecord). source_at items log (last_commit log)) r ∙ grows.source_change items tx change source.records);
+      last = z ∙ kept.last ∙ sym (ap (λ (log : List LogRecord). last_time (units log)) r ∙ ap last_time (grows.units_change tx change source.records));
+      keys = subst (LeavesKeys items) (sym r) (grows.keys items source.records (records.Change tx change) refl kept.keys fit);
     }
 
 -- after a commit record
-pub kept_commit : (source now : SourceLog) (tx time : ℕ) (authid : List ℕ) (origin : Option SetId) → IsKeptLog source → may_go_on (open_tx source.records) tx ≡ true
+pub kept_commit : Grows → (source now : SourceLog) (tx time : ℕ) (authid : List ℕ) (origin : Option SetId) → IsKeptLog source → may_go_on (open_tx source.records) tx ≡ true
     → (nat_le (last_time (units source.records)) time && all_apply items (unplaced (open_changes tx source.records)) (source_at items source.records (last_commit source.records))) ≡ true
     → now.table ≡ source.table → now.records ≡ source.records ++ records.Commit tx time authid origin ∷ [] → now.in_flight ≡ None → now.changes ≡ []
     → now.units ≡ source.units ++ unit_of (length source.records + 1) time authid origin source.changes ∷ []
     → now.rows ≡ after_changes items (unplaced source.changes) source.rows → now.time ≡ time → IsKeptLog now
 unfolding is_applicable
-kept_commit source now tx time authid origin kept h fit t r f c u w z =
+kept_commit grows source now tx time authid origin kept h fit t r f c u w z =
     record {
       table = t ∙ kept.table;
       open_one = f ∙ sym (ap open_tx r ∙ open_tx-push source.records (records.Commit tx time authid origin));
-      mine = λ x e. ap (open_changes x) r ∙ none_after_commit source tx x time authid origin kept h ∙ sym c;
-      others = λ x e. ap (open_changes x) r ∙ none_after_commit source tx x time authid origin kept h;
+      mine = λ x e. ap (open_changes x) r ∙ none_after_commit grows source tx x time authid origin kept h ∙ sym c;
+      others = λ x e. ap (open_changes x) r ∙ none_after_commit grows source tx x time authid origin kept h;
       closed = λ e. c;
       made = u
           ∙ ap (λ (us : List Unit). us ++ unit_of (length source.records + 1) time authid origin source.changes ∷ []) kept.made
           ∙ ap (λ (changes : List Placed). units source.records ++ unit_of (length source.records + 1) time authid origin changes ∷ []) (sym (kept.mine tx h))
-          ∙ sym (ap units r ∙ units_commit tx time authid origin source.records);
+          ∙ sym (ap units r ∙ grows.units_commit tx time authid origin source.records);
       committed = w
           ∙ ap (after_changes items (unplaced source.changes)) kept.committed
           ∙ ap (λ (changes : List Placed). after_changes items (unplaced changes) (source_at items source.records (last_commit source.records))) (sym (kept.mine tx h))
-          ∙ sym (ap (λ (log : List LogRecord). source_at items log (last_commit log)) r ∙ source_commit items tx time authid origin source.records);
-      last = z ∙ sym (ap (λ (log : List LogRecord). last_time (units log)) r ∙ last_time_commit tx time authid origin source.records);
-      keys = subst (LeavesKeys items) (sym r) (leaves_keys_push items source.records (records.Commit tx time authid origin) refl kept.keys fit);
+          ∙ sym (ap (λ (log : List LogRecord). source_at items log (last_commit log)) r ∙ grows.source_commit items tx time authid origin source.records);
+      last = z ∙ sym (ap (λ (log : List LogRecord). last_time (units log)) r ∙ grows.last_time_commit tx time authid origin source.records);
+      keys = subst (LeavesKeys items) (sym r) (grows.keys items source.records (records.Commit tx time authid origin) refl kept.keys fit);
     }

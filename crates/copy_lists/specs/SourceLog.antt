@@ -1,8 +1,15 @@
 -- What a source keeps of its log.
-use Rattle.std.specs.Prelude.{◌≡◌, ℕ, false, IsTrue, [], None}
-use Rattle.repl_model.specs.Units.{units, open_changes, last_commit, last_time}
-use Rattle.repl_model.specs.SourceAt.{source_at}
-use Rattle.repl_model.specs.Copies.{LeavesKeys}
+use Rattle.std.specs.Prelude.{◌≡◌, ℕ, ◌+◌, ◌==◌, false, IsTrue, if◌then◌else◌, List, [], ◌∷◌, ◌++◌, length, Option, None}
+use Rattle.repl_types.specs.declared.record.Change.{Change}
+use Rattle.repl_types.specs.declared.record.SetId.{SetId}
+use Rattle.repl_types.specs.declared.record.LogRecord.{LogRecord}
+use Rattle.repl_types.specs.declared.record.LogRecord.TheVariants as records
+use Rattle.repl_types.specs.declared.table.TableDef.{TableDef}
+use Rattle.repl_model.specs.Tables.{after_changes}
+use Rattle.repl_model.specs.Units.{units, unit_of, open_changes, last_commit, last_time}
+use Rattle.repl_model.specs.SourceAt.{unplaced, source_at}
+use Rattle.repl_model.specs.Applicable.{is_applicable}
+use Rattle.repl_model.specs.Copies.{LeavesKeys, is_key_fixed}
 use Rattle.copy_lists.specs.declared.source_log.SourceLog.{SourceLog}
 use Rattle.copy_lists.specs.Items.{items}
 use Rattle.copy_lists.specs.Feed.{open_tx, may_go_on}
@@ -20,6 +27,17 @@ pub record IsKeptLog (source : SourceLog) : Type 0 where
   pub committed : source.rows ≡ source_at items source.records (last_commit source.records)
   pub last : source.time ≡ last_time (units source.records)
   pub keys : LeavesKeys items source.records
+
+-- what one more record does to a log, by the model's laws
+pub record Grows : Type 0 where
+  pub in_flight_change : (tx t : ℕ) (change : Change) (log : List LogRecord) → open_changes tx (log ++ records.Change t change ∷ []) ≡ (if t == tx then open_changes tx log ++ record { pos = length log + 1; change = change } ∷ [] else open_changes tx log)
+  pub in_flight_commit : (tx t time : ℕ) (authid : List ℕ) (origin : Option SetId) (log : List LogRecord) → open_changes tx (log ++ records.Commit t time authid origin ∷ []) ≡ (if t == tx then [] else open_changes tx log)
+  pub units_change : (tx : ℕ) (change : Change) (log : List LogRecord) → units (log ++ records.Change tx change ∷ []) ≡ units log
+  pub units_commit : (tx time : ℕ) (authid : List ℕ) (origin : Option SetId) (log : List LogRecord) → units (log ++ records.Commit tx time authid origin ∷ []) ≡ units log ++ unit_of (length log + 1) time authid origin (open_changes tx log) ∷ []
+  pub last_time_commit : (tx time : ℕ) (authid : List ℕ) (origin : Option SetId) (log : List LogRecord) → last_time (units (log ++ records.Commit tx time authid origin ∷ [])) ≡ time
+  pub source_change : (def : TableDef) (tx : ℕ) (change : Change) (log : List LogRecord) → source_at def (log ++ records.Change tx change ∷ []) (last_commit (log ++ records.Change tx change ∷ [])) ≡ source_at def log (last_commit log)
+  pub source_commit : (def : TableDef) (tx time : ℕ) (authid : List ℕ) (origin : Option SetId) (log : List LogRecord) → source_at def (log ++ records.Commit tx time authid origin ∷ []) (last_commit (log ++ records.Commit tx time authid origin ∷ [])) ≡ after_changes def (unplaced (open_changes tx log)) (source_at def log (last_commit log))
+  pub keys : (def : TableDef) (log : List LogRecord) (r : LogRecord) → IsTrue (is_key_fixed def) → LeavesKeys def log → IsTrue (is_applicable def log r) → LeavesKeys def (log ++ r ∷ [])
 
 -- the units that are kept are those of the records, and these leave the keys
 pub record TellsUnits (source : SourceLog) : Type 0 where

@@ -5,7 +5,7 @@ ghost use Rattle.keep_core.specs.Told.{Rises, Takes, TakesFront};
 ghost use Rattle.copy_lists.specs.Replies.{row_line as row_line_lem, count_line as count_line_lem, refused_line as refused_line_lem, rows_lines, refusal_lines, joined};
 
 use crate::refused::{Cause, Refused};
-use keep_core::{ReadError, Sink, write_line};
+use keep_core::{ReadError, Sink, pieces_join, write_line};
 use repl_types::{Row, write_value};
 use row_changes::Rows;
 use std::alloc::{AllocError, Global};
@@ -72,6 +72,7 @@ fn write_rows<O: Sink>(alloc: Global, output: &mut O, rows: &Rows) -> Result<(),
     ensures cause { result ≡ Err ReadError.Failed → Rises (O.faults output.old) (O.faults output.new) }
     ensures counts { O.faults output.old ≤ O.faults output.new }
 {
+    pieces_join();
     for row in rows.values() {
         write_row(alloc, output, row)?;
     }
@@ -85,6 +86,7 @@ fn write_refused<O: Sink>(alloc: Global, output: &mut O, refused: Refused) -> Re
     ensures cause { result ≡ Err ReadError.Failed → Rises (O.faults output.old) (O.faults output.new) }
     ensures counts { O.faults output.old ≤ O.faults output.new }
 {
+    pieces_join();
     let line = refused_line(alloc, refused).map_err(|_| ReadError::Memory)?;
     write_line(output, line.as_bytes())
 }
@@ -102,6 +104,7 @@ pub fn write_copy<O: Sink>(
     ensures cause { result ≡ Err ReadError.Failed → Rises (O.faults output.old) (O.faults output.new) }
     ensures counts { O.faults output.old ≤ O.faults output.new }
 {
+    pieces_join();
     write_rows(alloc, output, rows)?;
     if let Some(refused) = refused {
         write_refused(alloc, output, refused)?;

@@ -16,6 +16,7 @@ use crate::items::items_registration;
 use crate::refused::Refused;
 use crate::replies::write_copy;
 use keep_core::{Sink, Source};
+use repl_model::{copy_by_change_rows, up_to_last_commit};
 use repl_types::{CdRow, List, Registration, TableDef, Unit};
 use row_changes::{Rows, apply_change_rows, change_rows_of_unit};
 use std::alloc::{AllocError, Global};
@@ -61,6 +62,8 @@ pub fn run_copy<I: Source, O: Sink>(
     ensures input_fault { result ≡ Err Early.InputFailed → Rises (I.faults input.old) (I.faults input.new) }
     ensures output_fault { result ≡ Err Early.OutputFailed → Rises (O.faults output.old) (O.faults output.new) }
 {
+    up_to_last_commit();
+    copy_by_change_rows();
     let fed = feed(alloc, input)?;
     let copy = copied(alloc, &fed.source.table, fed.source.units.as_slice())?;
     write_copy(alloc, output, &copy, fed.refused)?;

@@ -3,8 +3,10 @@
 ghost use Rattle.std.specs.Prelude.{◌≡◌, IfOk};
 ghost use Rattle.repl_model.specs.Units.{unit_of};
 ghost use Rattle.copy_lists.specs.Feed.{may_go_on as may_go_on_lem};
+ghost use Rattle.copy_lists.specs.SourceLog.{Grows};
 
 use crate::refused::Cause;
+use repl_model::{copy_by_change_rows, empty_log, in_flight_grows, log_grows, source_grows};
 use repl_types::{Change, List, LogRecord, Name, Placed, SetId, TableDef, Unit, UnitHead};
 use row_changes::{Rows, apply_changes, is_change_applicable};
 use std::alloc::{AllocError, Global};
@@ -64,6 +66,16 @@ fn made_unit(
     })
 }
 
+/// What one more record does to a log, by the laws of the model.
+fn one_more_record()
+    ensures { Grows }
+{
+    in_flight_grows();
+    log_grows();
+    source_grows();
+    copy_by_change_rows();
+}
+
 impl SourceLog {
     ghost use Rattle.std.specs.Prelude.{◌≡◌, ◌++◌, ◌∷◌, [], IfOk, IfSome, Ok, Some, None};
     ghost use Rattle.repl_types.specs.declared.record.LogRecord.TheVariants as records;
@@ -77,6 +89,7 @@ impl SourceLog {
         ensures kept { IsKeptLog result }
         ensures records { result.records ≡ [] }
     {
+        empty_log();
         SourceLog {
             table,
             records: List::new(alloc),
@@ -108,6 +121,7 @@ impl SourceLog {
             return Ok(Some(Cause::NotApplicable));
         }
         let pos = self.records.len() as u64 + 1;
+        one_more_record();
         self.changes.push(placed(pos, &change)?)?;
         self.records.push(LogRecord::Change { tx, change })?;
         self.in_flight = Some(tx);
@@ -139,6 +153,7 @@ impl SourceLog {
             return Ok(Some(Cause::NotApplicable));
         }
         let pos = self.records.len() as u64 + 1;
+        one_more_record();
         let changes = mem::replace(&mut self.changes, List::new(alloc));
         self.units
             .push(made_unit(pos, time, &authid, &origin, changes)?)?;

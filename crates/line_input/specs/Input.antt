@@ -42,26 +42,28 @@ NextIs End line bytes rest = (bytes ≡ []) × (rest ≡ [])
 NextIs Line line bytes rest = (lines bytes ≡ line ∷ lines rest) × (length line ≤ line_limit)
 NextIs LongLine line bytes rest = (long : List ℕ) × (lines bytes ≡ long ∷ lines rest) × (line_limit < length long)
 
--- the same of the bytes that were left and that are left, where the source tells
+-- the same of the bytes that were left and that are left, if the source reveals them
 abbrev pub ReadsLine : Next → List ℕ → Option (List ℕ) → Option (List ℕ) → Type 0
 ReadsLine next line None now = now ≡ None
 ReadsLine next line (Some bytes) None = ⊥
 ReadsLine next line (Some bytes) (Some rest) = NextIs next line bytes rest
 
--- what a line takes: as many bytes as were left in all, and of those that may come at least one
+-- what reading a line spends: the input still has as many bytes in all, and a line takes at least one of
+-- those that may still be given
 pub record Spends (next : Next) (old : Input) (before : Option (List ℕ)) (new : Input) (now : Option (List ℕ)) : Type 0 where
   pub total : total_of new now ≡ total_of old before
   pub budget : next ≢ End → budget new < budget old
 
--- the bytes that were given end at a line feed, and are those of this line at least
+-- the line ended at a line feed: the bytes before it are as many as the line's at least, and with the
+-- feed they were taken from what was left, and from how many could be given
 pub record MetFeed (before now : Option (List ℕ)) (most still : ℕ) (line : List ℕ) : Type 0 where
   pub bytes : List ℕ
   pub parts : before ≡ option_map (λ rest. (bytes ++ 10 ∷ []) ++ rest) now
   pub spent : still + length bytes < most
   pub holds : length line ≤ length bytes
 
--- the count of faults never falls; the input failed only if the count rose, and was too long only if it
--- had more bytes than an input may have, if its source reveals them
+-- the count of faults never falls; the input failed only if the count rose; and it was too long only if
+-- it has more bytes than an input may have, as far as its source reveals them
 pub record HasCause {X : Type 0} (result : Result X InputError) (total : Option ℕ) (before now : ℕ) : Type 0 where
   pub later : before ≤ now
   pub failed : result ≡ Err inputs.Failed → Rises before now

@@ -8,7 +8,7 @@ use Rattle.repl_types.specs.declared.table.TableDef.{TableDef}
 use Rattle.repl_types.specs.declared.record.Change.{Change}
 use Rattle.repl_types.specs.declared.record.Change.TheVariants.{Insert, Update, Delete, Start, Stop}
 use Rattle.repl_model.specs.Tables.{Rows, key_of, same_values, is_row, holds, applies, after_change, inverse}
-use Rattle.repl_model.specs.laws.Rows.{same_values_exact, remove_inserted, insert_deleted, update_back}
+use Rattle.repl_model.proofs.Rows.{same_values_exact, remove_inserted, insert_deleted, update_back}
 
 -- nothing stands at an absent key
 none_is : (o : Option Values) → is_none o ≡ true → o ≡ None

@@ -5,4 +5,3 @@ pub mod ChangeRows
 pub mod Applicable
 pub mod Copies
 pub mod Worked
-pub mod laws

@@ -1,4 +1,4 @@
-use Rattle.repl_model.specs.laws.Units.{changes_join, changes_stay}
+use Rattle.repl_model.proofs.Units.{changes_join, changes_stay}
 use Rattle.repl_model.proofs.capture_by_pieces.Goals as goal
 
 pub returns-clause-joined : goal.returns-clause-joined

@@ -1,7 +1,7 @@
 use Rattle.std.proofs.Common.{ap}
 use Rattle.repl_model.specs.Units.{last_seq}
-use Rattle.repl_model.specs.laws.Units.{units_nil}
-use Rattle.repl_model.specs.laws.Source.{source_nil}
+use Rattle.repl_model.proofs.Units.{units_nil}
+use Rattle.repl_model.proofs.Source.{source_nil}
 use Rattle.repl_model.proofs.empty_log.Goals as goal
 
 pub returns-clause-units : goal.returns-clause-units

@@ -1,4 +1,4 @@
-use Rattle.repl_model.specs.laws.Units.{open_changes_change, open_changes_commit, open_changes_abort}
+use Rattle.repl_model.proofs.Units.{open_changes_change, open_changes_commit, open_changes_abort}
 use Rattle.repl_model.proofs.in_flight_grows.Goals as goal
 
 pub returns-clause-change : goal.returns-clause-change

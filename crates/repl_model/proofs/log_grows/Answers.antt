@@ -1,4 +1,4 @@
-use Rattle.repl_model.specs.laws.Units.{units_change, units_abort, units_commit, last_commit_commit, last_time_commit, seqs_within}
+use Rattle.repl_model.proofs.Units.{units_change, units_abort, units_commit, last_commit_commit, last_time_commit, seqs_within}
 use Rattle.repl_model.proofs.log_grows.Goals as goal
 
 pub returns-clause-change : goal.returns-clause-change

@@ -1,4 +1,4 @@
-use Rattle.repl_model.specs.laws.Source.{source_change, source_commit, source_abort, source_stays}
+use Rattle.repl_model.proofs.Source.{source_change, source_commit, source_abort, source_stays}
 use Rattle.repl_model.proofs.source_grows.Goals as goal
 
 pub returns-clause-change : goal.returns-clause-change

@@ -1,5 +1,5 @@
-use Rattle.repl_model.specs.laws.Units.{changes_to_last}
-use Rattle.repl_model.specs.laws.Source.{source_at_last}
+use Rattle.repl_model.proofs.Units.{changes_to_last}
+use Rattle.repl_model.proofs.Source.{source_at_last}
 use Rattle.repl_model.proofs.up_to_last_commit.Goals as goal
 
 pub returns-clause-source : goal.returns-clause-source

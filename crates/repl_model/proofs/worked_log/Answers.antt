@@ -8,7 +8,7 @@ use Rattle.repl_model.specs.Units.{units}
 use Rattle.repl_model.specs.SourceAt.{source_at}
 use Rattle.repl_model.specs.ChangeRows.{change_rows, changes_between}
 use Rattle.repl_model.specs.Worked.{item_key, item}
-use Rattle.repl_model.specs.laws.Rows.{same_values_exact, same_rows, at_key}
+use Rattle.repl_model.proofs.Rows.{same_values_exact, same_rows, at_key}
 use Rattle.repl_model.proofs.worked_log.Goals as goal
 
 pub returns-clause-units : goal.returns-clause-units

@@ -11,4 +11,4 @@ returns-in_err-write_rows-clause-err g c =
 pub returns-in_err-write_refused-clause-err : goal.returns-in_err-write_refused-clause-err
 returns-in_err-write_refused-clause-err g c =
     let exit = err_from_is_err_and c.from_residual-in_err-write_refused.result c.from_residual-in_err-write_refused.ensures.1 in
-    rw (exit.1, c.in-Some.is) (front_after (g.O.Sink.taken c.args.output.now) (g.O.Sink.taken c.write_rows.new.output) (g.O.Sink.taken c.write_refused.new.output) (rows_lines c.args.rows.now) (refused_line c.in-Some.refused) c.in_ok-write_rows.ensures.ok c.in_err-write_refused.ensures.err)
+    rw (exit.1, c.in-Some.is) (front_after c.pieces_join.ensures.both (g.O.Sink.taken c.args.output.now) (g.O.Sink.taken c.write_rows.new.output) (g.O.Sink.taken c.write_refused.new.output) (rows_lines c.args.rows.now) (refused_line c.in-Some.refused) c.in_ok-write_rows.ensures.ok c.in_err-write_refused.ensures.err)

@@ -6,4 +6,4 @@ use Rattle.copy_lists.proofs.replies.write_refused.Goals as goal
 pub returns-in_err-line-clause-err : goal.returns-in_err-line-clause-err
 returns-in_err-line-clause-err g c =
     let exit = err_from_is_err_and c.from_residual.result c.from_residual.ensures.1 in
-    rw exit.1 (takes_no_front (g.O.Sink.taken c.args.output.now) (refused_line_lem c.args.refused))
+    rw exit.1 (takes_no_front (g.O.Sink.taken c.args.output.now) (refused_line_lem c.args.refused) (c.pieces_join.ensures.nothing _))

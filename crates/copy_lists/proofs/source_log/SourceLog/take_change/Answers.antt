@@ -19,7 +19,7 @@ returns-clause-cause c =
 
 pub returns-clause-taken : goal.returns-clause-taken
 returns-clause-taken c e = (
-  kept_change c.args.self.now (record c.args.self.now { records = c.push-2.new.self; in_flight = Some c.args.tx; changes = c.push.new.self }) c.args.tx c.args.change c.requires
+  kept_change c.one_more_record.ensures c.args.self.now (record c.args.self.now { records = c.push-2.new.self; in_flight = Some c.args.tx; changes = c.push.new.self }) c.args.tx c.args.change c.requires
       (going c.args.self.now c.args.tx c.requires (sym c.may_go_on.ensures ∙ c.if-not-may_go_on.false))
       (ap (λ (def : TableDef). is_change_applicable def c.args.change) (sym c.requires.table) ∙ sym c.in_ok-is_change_applicable.ensures ∙ c.if-not-branch.false)
       refl c.in_ok-push-2.ensures.items refl

@@ -28,7 +28,7 @@ returns-clause-cause c =
 
 pub returns-clause-taken : goal.returns-clause-taken
 returns-clause-taken c e = (
-  kept_commit c.args.self.now (record c.args.self.now { records = c.push-2.new.self; in_flight = None; changes = c.replace-changes.new.dest; units = c.push.new.self; rows = c.apply_changes.new.rows; time = c.args.time }) c.args.tx c.args.time c.args.authid c.args.origin c.requires
+  kept_commit c.one_more_record.ensures c.args.self.now (record c.args.self.now { records = c.push-2.new.self; in_flight = None; changes = c.replace-changes.new.dest; units = c.push.new.self; rows = c.apply_changes.new.rows; time = c.args.time }) c.args.tx c.args.time c.args.authid c.args.origin c.requires
       (going c.args.self.now c.args.tx c.requires (sym c.may_go_on.ensures ∙ c.if-not-may_go_on.false))
       (commit_fits c.args.self.now c.args.tx c.args.time true c.requires (sym c.may_go_on.ensures ∙ c.if-not-may_go_on.false) c.if-time-self.false (sym c.if-not-branch.false ∙ c.in_ok-apply_changes.ensures.applies ∙ ap (λ (changes : List Placed). all_apply c.args.self.now.table (unplaced changes) c.args.self.now.rows) c.as_slice.ensures))
       refl c.in_ok-push-2.ensures.items refl (c.replace-changes.ensures.after ∙ c.new.ensures)

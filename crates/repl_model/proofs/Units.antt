@@ -18,7 +18,7 @@ use Rattle.repl_types.specs.declared.change_row.Registration.{Registration}
 use Rattle.repl_model.specs.Units.{At, positions, ends, last_end, change_of, changes_up_to, open_changes, unit_of, unit_at, units, last_seq, last_time, last_commit}
 use Rattle.repl_model.specs.SourceAt.{units_up_to, units_between}
 use Rattle.repl_model.specs.ChangeRows.{change_rows, changes_between}
-use Rattle.repl_model.specs.laws.Lists.{each_weaker, each_push, filter_alike, filter_all, filter_none, filter_map_alike, fold_alike}
+use Rattle.repl_model.proofs.Lists.{each_weaker, each_push, filter_alike, filter_all, filter_none, filter_map_alike, fold_alike}
 
 -- ---- positions
 

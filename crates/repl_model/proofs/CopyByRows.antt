@@ -23,9 +23,9 @@ use Rattle.repl_model.specs.Units.{At, positions, change_of, changes_up_to, last
 use Rattle.repl_model.specs.SourceAt.{unplaced, after_units, units_between}
 use Rattle.repl_model.specs.ChangeRows.{rows_of, rows_of_placed, shows_nothing, change_rows, changes_between, after_change_row, after_change_rows}
 use Rattle.repl_model.specs.Copies.{copy_at, KeepsWholeRows, IsWhole, LeavesKey, RecordLeavesKey, LeavesKeys}
-use Rattle.repl_model.specs.laws.Lists.{each_filter, each_filter_map}
-use Rattle.repl_model.specs.laws.Rows.{insert_removed}
-use Rattle.repl_model.specs.laws.Source.{source_zero, source_onward}
+use Rattle.repl_model.proofs.Lists.{each_filter, each_filter_map}
+use Rattle.repl_model.proofs.Rows.{insert_removed}
+use Rattle.repl_model.proofs.Source.{source_zero, source_onward}
 
 -- the after-images of a whole row are the row
 after_images : (def : TableDef) (reg : Registration) (row : Values) → KeepsWholeRows def reg → IsWhole def row → images reg.after row ≡ row

@@ -11,7 +11,7 @@ use Rattle.repl_types.specs.declared.unit.Unit.{Unit}
 use Rattle.repl_model.specs.Tables.{Rows, after_changes}
 use Rattle.repl_model.specs.Units.{open_changes, unit_of, units, last_commit}
 use Rattle.repl_model.specs.SourceAt.{unplaced, after_units, units_up_to, units_between, source_at}
-use Rattle.repl_model.specs.laws.Units.{units_nil, units_change, units_abort, units_commit, units_up_to_last, units_split, units_up_to_stay, units_up_to_zero}
+use Rattle.repl_model.proofs.Units.{units_nil, units_change, units_abort, units_commit, units_up_to_last, units_split, units_up_to_stay, units_up_to_zero}
 
 -- units, and then more
 pub after_units-append : (def : TableDef) (us vs : List Unit) (rows : Rows) → after_units def (us ++ vs) rows ≡ after_units def vs (after_units def us rows)

@@ -17,8 +17,8 @@ use Rattle.repl_types.specs.declared.record.LogRecord.TheVariants as records
 use Rattle.repl_model.specs.Tables.{key_of, same_values, table_of}
 use Rattle.repl_model.specs.Applicable.{fits_column, fits_columns, fits, change_fits, is_change_applicable, is_applicable}
 use Rattle.repl_model.specs.Copies.{IsWhole, LeavesKey, RecordLeavesKey, LeavesKeys, is_key_fixed}
-use Rattle.repl_model.specs.laws.Lists.{each_push}
-use Rattle.repl_model.specs.laws.Rows.{same_values_exact}
+use Rattle.repl_model.proofs.Lists.{each_push}
+use Rattle.repl_model.proofs.Rows.{same_values_exact}
 
 -- values that fit the columns are as many
 columns_length : (columns : List ColumnDef) (row : Values) → fits_columns columns row ≡ true → length row ≡ length columns
