@@ -4,8 +4,9 @@ use repl_types::{Area, DamageCause, Refusal};
 use std::alloc::{AllocError, AllocFailed};
 use thiserror::Error;
 
-/// Why a call failed. Servers are named by their place, counted from 0. After a fault no transaction is
-/// open, and each server holds what its last commit left, or a failed commit that took place.
+/// Why a call failed. Servers are named by their place, counted from 0. After a fault no
+/// transaction is open, and each server holds what its last commit left, or a failed commit that
+/// took place.
 #[derive(Clone, Debug, Drop, PartialEq, Eq, Error)]
 pub enum Fault {
     #[error("out of memory")]

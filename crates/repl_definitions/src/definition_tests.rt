@@ -71,7 +71,8 @@ fn other_bytes_are_no_tables_or_registrations(rt: HostRuntime) {
     }
 }
 
-/// The set q/s of the server hq with one member, of which the bytes are told from its target's kind on.
+/// The set q/s of the server hq with one member, of which the bytes are told from its target's kind
+/// on.
 fn set_with(alloc: Global, member: &[u8]) -> Result<Vec<u8>, Fail> {
     let mut bytes = Vec::from_slice(
         alloc,
@@ -123,7 +124,8 @@ fn other_bytes_are_no_sets(rt: HostRuntime) -> Result<(), Fail> {
     Ok(())
 }
 
-/// How many joints a tree has that fills a value of 262,144 bytes: each has a byte, and each leaf three.
+/// How many joints a tree has that fills a value of 262,144 bytes: each has a byte, and each leaf
+/// three.
 const JOINTS: u32 = 65_535;
 
 /// The spelling of a tree that is nested as deep at the left as a value can hold.

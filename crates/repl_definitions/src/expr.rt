@@ -24,8 +24,8 @@ pub enum Expr {
 }
 
 impl Drop for Expr {
-    // A tree may be nested as deep as a stored value is long, so dropping one doesn't recurse: while a tree
-    // is at the left of another, it is moved to the right.
+    // A tree may be nested as deep as a stored value is long, so dropping one doesn't recurse:
+    // while a tree is at the left of another, it is moved to the right.
     fn drop(mut self) {
         loop {
             match self {
@@ -45,8 +45,8 @@ impl Drop for Expr {
 }
 
 impl Expr {
-    /// What is left to drop of an expression that was at the left of another, of its place, and of the one
-    /// at its right.
+    /// What is left to drop of an expression that was at the left of another, of its place, and of
+    /// the one at its right.
     fn turned(self, mut place: Boxed<Expr>, right: Boxed<Expr>) -> Expr
         requires { place ≡ Expr.Column 0 }
         ensures { expr_weight result < 1 + 2 * expr_weight self + expr_weight right }

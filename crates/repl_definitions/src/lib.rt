@@ -1,10 +1,11 @@
-//! What a server stores of definitions: tables, registrations, and sets with their members, columns,
-//! expressions and predicates, each a plain type with its one spelling.
+//! What a server stores of definitions: tables, registrations, and sets with their members,
+//! columns, expressions and predicates, each a plain type with its one spelling.
 //!
-//! It stands on `row_codec`, which says what a kind of record is and spells its parts, and the crates
-//! that define and copy sets stand on it. What would be a `Box` in plain Rust is a `Boxed` here, which a
-//! clause sees as its value, so two trees are equal in a clause just where they say the same. A tree may
-//! be nested as deep as a stored value is long, so nothing here recurses on one.
+//! It stands on `row_codec`, which says what a kind of record is and spells its parts, and the
+//! crates that define and copy sets stand on it. What would be a `Box` in plain Rust is a `Boxed`
+//! here, which a clause sees as its value, so two trees are equal in a clause just where they say
+//! the same. A tree may be nested as deep as a stored value is long, so nothing here recurses on
+//! one.
 #![tactic(auto)]
 
 mod boxed;

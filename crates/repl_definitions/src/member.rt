@@ -66,8 +66,8 @@ pub enum TargetKind {
     PointInTime,
     BaseAggregate,
     ChangeAggregate,
-    /// A consistent-change-data table: `complete` where it holds rows that never changed, `condensed`
-    /// where it has at most one row a key.
+    /// A consistent-change-data table: `complete` where it holds rows that never changed,
+    /// `condensed` where it has at most one row a key.
     Ccd { complete: bool, condensed: bool },
     Replica,
 }
@@ -150,8 +150,8 @@ impl Part for TargetColumn {
     }
 }
 
-/// Where a column of a target comes from. Columns of the source are places of its table, counted from
-/// 0.
+/// Where a column of a target comes from. Columns of the source are places of its table, counted
+/// from 0.
 #[derive(Clone, Debug, Drop, PartialEq, Eq)]
 pub enum ColumnFrom {
     Plain(Expr),

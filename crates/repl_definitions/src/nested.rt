@@ -117,8 +117,8 @@ pub(crate) fn take_nested<T: Nested>(alloc: Global, bytes: &[u8]) -> Result<(T, 
     }
 }
 
-/// Puts a tree that is read below the node that waits for it, and so on where that is then a whole tree.
-/// It gives the tree if no node is left to wait.
+/// Puts a tree that is read below the node that waits for it, and so on where that is then a whole
+/// tree. It gives the tree if no node is left to wait.
 fn settle<T: Nested>(
     alloc: Global,
     pending: &mut Vec<Pending<T::Joint, T>>,

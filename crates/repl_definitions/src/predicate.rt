@@ -48,8 +48,8 @@ impl Drop for Predicate {
 }
 
 impl Predicate {
-    /// What is left to drop of a predicate that was at the left of another, of its place, and of the one at
-    /// its right.
+    /// What is left to drop of a predicate that was at the left of another, of its place, and of
+    /// the one at its right.
     fn turned(self, mut place: Boxed<Predicate>, right: Boxed<Predicate>) -> Predicate
         requires { place ≡ Predicate.IsNull 0 }
         ensures { predicate_weight result < 1 + 2 * predicate_weight self + predicate_weight right }

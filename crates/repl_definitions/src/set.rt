@@ -10,8 +10,9 @@ use repl_types::{Area, List, Name, SetId};
 use row_codec::{Part, Stored, Table2, Table3, TakeError, take_six, take_two};
 use std::alloc::{AllocError, Global};
 
-/// A subscription set: members that are copied together from one server to another. `commit_count` is
-/// the most units that one block takes, and `max_minutes` the most minutes of units; 0 is no limit.
+/// A subscription set: members that are copied together from one server to another. `commit_count`
+/// is the most units that one block takes, and `max_minutes` the most minutes of units; 0 is no
+/// limit.
 #[derive(Clone, Debug, Drop, PartialEq, Eq)]
 pub struct SetDef {
     pub id: SetId,

@@ -61,8 +61,8 @@ impl Stored for ChangeRow {
     ghost again_stored = { λ x fits sized. (again_change_row x fits, sized) };
 }
 
-/// What the unit-of-work table keeps of a captured unit, under its seq. `code` is the rejection code, 0
-/// to 4.
+/// What the unit-of-work table keeps of a captured unit, under its seq. `code` is the rejection
+/// code, 0 to 4.
 #[derive(Clone, Debug, Drop, PartialEq, Eq)]
 pub struct UowRow {
     pub time: u64,
@@ -121,8 +121,8 @@ impl Stored for UowRow {
     ghost again_stored = { λ x fits _. again_uow x fits };
 }
 
-/// How far capture is: the units up to `captured` are captured, `restart` is where the log has to be
-/// read from, and units up to `floor` are pruned from the unit-of-work table.
+/// How far capture is: the units up to `captured` are captured, `restart` is where the log has to
+/// be read from, and units up to `floor` are pruned from the unit-of-work table.
 #[derive(Clone, Copy, Debug, PartialEq, Eq)]
 pub struct CaptureState {
     pub captured: u64,

@@ -1,15 +1,16 @@
 //! What a server stores beside definitions: the records of each area with their keys, each a plain
 //! type with its one spelling.
 //!
-//! It stands on `row_codec`, which says what a kind of record is and spells its parts, and the crates
-//! that work on stored records stand on it. A kind of record is one type, one spelling and one law, in
-//! one file each: `src/X.rt`, `specs/X.antt` and `specs/laws/X.antt`. Each record has the values of its
-//! line of the table of areas (`docs/FORMATS.md`) as fields, in their order. What a missing record
-//! stands for is in `specs/FirstStates.antt`.
+//! It stands on `row_codec`, which says what a kind of record is and spells its parts, and the
+//! crates that work on stored records stand on it. A kind of record is one type, one spelling and
+//! one law, in one file each: `src/X.rt`, `specs/X.antt` and `specs/laws/X.antt`. Each record has
+//! the values of its line of the table of areas (`docs/FORMATS.md`) as fields, in their order. What
+//! a missing record stands for is in `specs/FirstStates.antt`.
 #![tactic(auto)]
 
 mod capture;
 mod code;
+mod laws;
 mod prune;
 mod record_keys;
 #[cfg(test)]
@@ -20,6 +21,7 @@ mod target_side;
 mod trail;
 
 pub use capture::{CaptureState, ChangeRow, RegState, UowRow};
+pub use laws::records_of_64_values_are_storable;
 pub use prune::{Decided, RejectedUnit, SyncMark};
 pub use record_keys::{CdKey, InFlightKey, MemberKey, Single, UnitKey};
 pub use set_state::{LastNumber, SetState};

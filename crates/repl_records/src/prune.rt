@@ -10,7 +10,8 @@ use repl_types::Area;
 use row_codec::{Part, Stored, Table0, Table1, Table2, TakeError, take_two};
 use std::alloc::{AllocError, Global};
 
-/// What the source of a set knows of it: the point that the target has reached, and the last signal.
+/// What the source of a set knows of it: the point that the target has reached, and the last
+/// signal.
 #[derive(Clone, Copy, Debug, PartialEq, Eq)]
 pub struct SyncMark {
     pub mark: u64,
@@ -57,7 +58,8 @@ impl Stored for SyncMark {
     ghost again_stored = { λ _ _ _. tt };
 }
 
-/// How far the master of a replica set has decided: the replica's units up to `t`, its own up to `d`.
+/// How far the master of a replica set has decided: the replica's units up to `t`, its own up to
+/// `d`.
 #[derive(Clone, Copy, Debug, PartialEq, Eq)]
 pub struct Decided {
     pub t: u64,

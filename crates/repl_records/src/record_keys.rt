@@ -84,8 +84,8 @@ impl PartKey for InFlightKey {
     ghost small = { key_in_flight_key };
 }
 
-/// What tells the rows of a change-data table apart, in the order of the log's units and of the changes
-/// in each.
+/// What tells the rows of a change-data table apart, in the order of the log's units and of the
+/// changes in each.
 #[derive(Clone, Copy, Debug, PartialEq, Eq)]
 pub struct CdKey {
     pub commitseq: u64,

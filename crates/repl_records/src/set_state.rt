@@ -15,9 +15,9 @@ use std::alloc::{AllocError, Global};
 /// How far a set is at its target. Points are positions of the log, and 0 where they are absent.
 #[derive(Clone, Copy, Debug, PartialEq, Eq)]
 pub enum SetState {
-    /// `synchpoint` is the point of the source that the targets are copies of, `time` that commit's time
-    /// in seconds, `base` the point of the last refresh, `flag` whether the next step is to be a
-    /// refresh, and `entries` the number of entries in the trail.
+    /// `synchpoint` is the point of the source that the targets are copies of, `time` that commit's
+    /// time in seconds, `base` the point of the last refresh, `flag` whether the next step is to be
+    /// a refresh, and `entries` the number of entries in the trail.
     ReadOnly {
         has_points: bool,
         synchpoint: u64,
@@ -26,8 +26,8 @@ pub enum SetState {
         flag: bool,
         entries: u64,
     },
-    /// `m` and `f` are the points of master and replica at which the tables agree, and `signal` the seq
-    /// of the signal at the replica, 0 for none.
+    /// `m` and `f` are the points of master and replica at which the tables agree, and `signal` the
+    /// seq of the signal at the replica, 0 for none.
     Replica {
         has_points: bool,
         m: u64,
@@ -119,8 +119,8 @@ fn is_zero_where_absent(state: &SetState) -> bool
     }
 }
 
-/// A state of a set from the front of the bytes, whatever stands in the place of absent points, and the
-/// bytes after it.
+/// A state of a set from the front of the bytes, whatever stands in the place of absent points, and
+/// the bytes after it.
 #[tactic(auto, using(crate::specs::laws::SetState::only_read_only, crate::specs::laws::SetState::only_replica))]
 fn take_state(alloc: Global, bytes: &[u8]) -> Result<(SetState, &[u8]), TakeError>
     ensures ok { IfOk result (λ part. HasNumbers part.0 × (bytes.now ≡ state_spelling part.0 ++ part.1.now)) }

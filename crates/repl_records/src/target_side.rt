@@ -56,8 +56,8 @@ impl Stored for CopyRow {
     ghost again_stored = { λ x fits sized. (again_copy x fits, sized) };
 }
 
-/// A row of a point-in-time copy, kept under its key. `marker` is the time, in seconds, of the unit that
-/// wrote it.
+/// A row of a point-in-time copy, kept under its key. `marker` is the time, in seconds, of the unit
+/// that wrote it.
 #[derive(Clone, Debug, Drop, PartialEq, Eq)]
 pub struct PointRow {
     pub marker: u64,
@@ -104,8 +104,8 @@ impl Stored for PointRow {
     ghost again_stored = { λ x fits sized. (again_point x fits, sized) };
 }
 
-/// A row of an aggregate, kept under its number, which counts from 1. `low` and `high` bound what it
-/// sums up.
+/// A row of an aggregate, kept under its number, which counts from 1. `low` and `high` bound what
+/// it sums up.
 #[derive(Clone, Debug, Drop, PartialEq, Eq)]
 pub struct AggregateRow {
     pub low: u64,
@@ -154,8 +154,8 @@ impl Stored for AggregateRow {
     ghost again_stored = { λ x fits sized. (again_aggregate x fits, sized) };
 }
 
-/// A row of a consistent-change-data table that keeps every change, under its number, which counts from
-/// 1.
+/// A row of a consistent-change-data table that keeps every change, under its number, which counts
+/// from 1.
 #[derive(Clone, Debug, Drop, PartialEq, Eq)]
 pub struct HistoryRow {
     pub intentseq: Sequence,

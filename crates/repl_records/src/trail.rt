@@ -1,10 +1,11 @@
 //! What a set's trail keeps of its steps.
 
-ghost use Rattle.std.specs.Prelude.{◌≡◌, ◌++◌, OnOk};
+ghost use Rattle.std.specs.Prelude.{◌≡◌, ◌∷◌, ◌++◌, IfOk, OnOk};
 ghost use Rattle.repl_records.specs.Trail.{IsBase, base_spelling, IsEntry, entry_spelling};
 ghost use Rattle.repl_records.specs.laws.Trail.{one_base, one_entry, small_entry};
 ghost use Rattle.repl_types.specs.declared.area.Area.TheVariants as areas;
 ghost use Rattle.row_codec.specs.Spelling.{Any, b64};
+ghost use Rattle.row_codec.specs.Takes.{NoFront};
 
 use repl_types::Area;
 use row_codec::{Part, Stored, TakeError, take_four, take_six, take_three};
@@ -71,8 +72,8 @@ const LOAD: u8 = 3;
 /// What the spelling of a settling's entry begins with.
 const SETTLE: u8 = 4;
 
-/// What a set's trail keeps of a step, under its number, which counts from 1. `base` is the point of
-/// base aggregates, where some were read.
+/// What a set's trail keeps of a step, under its number, which counts from 1. `base` is the point
+/// of base aggregates, where some were read.
 #[derive(Clone, Copy, Debug, PartialEq, Eq)]
 pub enum TrailEntry {
     Refresh {
@@ -131,14 +132,12 @@ impl Part for TrailEntry {
                 out.push(BLOCK)?;
                 from.put_part(out)?;
                 to.put_part(out)?;
-                put_counts(*inserts, *updates, *deletes, out)?;
+                put_three(*inserts, *updates, *deletes, out)?;
                 put_base(*base, out)
             }
             TrailEntry::Load { m, f, rows } => {
                 out.push(LOAD)?;
-                m.put_part(out)?;
-                f.put_part(out)?;
-                rows.put_part(out)
+                put_three(*m, *f, *rows, out)
             }
             TrailEntry::Settle {
                 m,
@@ -155,29 +154,14 @@ impl Part for TrailEntry {
         }
     }
 
-    #[tactic(auto, using(crate::specs::laws::Trail::only_refresh, crate::specs::laws::Trail::only_block, crate::specs::laws::Trail::only_load, crate::specs::laws::Trail::only_settle))]
+    #[tactic(auto, using(crate::specs::laws::Trail::only_refresh, crate::specs::laws::Trail::only_load, crate::specs::laws::Trail::only_settle))]
     fn take_part(alloc: Global, bytes: &[u8]) -> Result<(TrailEntry, &[u8]), TakeError> {
         match bytes {
             [REFRESH, rest @ ..] => {
                 let (p, rows, Base { point: base }, rest) = take_three(alloc, rest)?;
                 Ok((TrailEntry::Refresh { p, rows, base }, rest))
             }
-            [BLOCK, rest @ ..] => {
-                let (from, to, inserts, updates, deletes, Base { point: base }, rest) = take_six(
-                    alloc, rest,
-                )?;
-                Ok((
-                    TrailEntry::Block {
-                        from,
-                        to,
-                        inserts,
-                        updates,
-                        deletes,
-                        base,
-                    },
-                    rest,
-                ))
-            }
+            [BLOCK, rest @ ..] => take_block(alloc, rest),
             [LOAD, rest @ ..] => {
                 let (m, f, rows, rest) = take_three(alloc, rest)?;
                 Ok((TrailEntry::Load { m, f, rows }, rest))
@@ -199,21 +183,45 @@ impl Part for TrailEntry {
     }
 }
 
-/// Appends three counts.
-fn put_counts(
-    inserts: u64,
-    updates: u64,
-    deletes: u64,
-    out: &mut Vec<u8>,
-) -> Result<(), AllocError>
+/// Appends three numbers.
+fn put_three(first: u64, second: u64, third: u64, out: &mut Vec<u8>) -> Result<(), AllocError>
     ensures {
-        OnOk result
-            (out.new.items ≡ out.old.items ++ b64 inserts ++ b64 updates ++ b64 deletes)
+        OnOk result (out.new.items ≡ out.old.items ++ b64 first ++ b64 second ++ b64 third)
     }
 {
-    inserts.put_part(out)?;
-    updates.put_part(out)?;
-    deletes.put_part(out)
+    first.put_part(out)?;
+    second.put_part(out)?;
+    third.put_part(out)
+}
+
+/// The entry of a block from the front of the bytes after its tag, and the bytes after it.
+#[tactic(auto, using(crate::specs::laws::Trail::only_block))]
+fn take_block(alloc: Global, bytes: &[u8]) -> Result<(TrailEntry, &[u8]), TakeError>
+    ensures ok {
+        IfOk result
+            (λ taken. IsEntry taken.0 × (2 ∷ bytes.now ≡ entry_spelling taken.0 ++ taken.1.now))
+    }
+    ensures spelling {
+        result ≡ Err TakeError.Spelling → NoFront IsEntry entry_spelling (2 ∷ bytes.now)
+    }
+{
+    let (from, to, inserts, updates, deletes, base, rest) = take_six::<
+        u64,
+        u64,
+        u64,
+        u64,
+        u64,
+        Base,
+    >(alloc, bytes)?;
+    let block = TrailEntry::Block {
+        from,
+        to,
+        inserts,
+        updates,
+        deletes,
+        base: base.point,
+    };
+    Ok((block, rest))
 }
 
 impl Stored for TrailEntry {

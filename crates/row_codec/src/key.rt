@@ -18,7 +18,8 @@ use crate::take_error::TakeError;
 use repl_types::{Name, SetId};
 use std::alloc::{AllocError, Global};
 
-/// What the records of one table are told apart by. Byte order of spelled keys is the order of keys.
+/// What the records of one table are told apart by. Byte order of spelled keys is the order of
+/// keys.
 pub trait Key: Sized + Drop {
     /// Which of the values that a clause can speak of are keys.
     ghost fits: { Self → Type 0 };
@@ -53,8 +54,8 @@ pub trait Key: Sized + Drop {
     ghost again: { (k : Self) → fits k → IsKeySize (spelling k) → storable k };
 }
 
-/// A part that is a key as it is: each of its values has a spelling of bounded length, and these lie in
-/// the order of the values whatever follows them.
+/// A part that is a key as it is: each of its values has a spelling of bounded length, and these
+/// lie in the order of the values whatever follows them.
 pub trait PartKey: Part {
     ghost cmp: { Self → Self → Ordering };
 
@@ -112,8 +113,8 @@ impl PartKey for u64 {
     ghost small = { key64 };
 }
 
-// The names that are keys have implementations of their own: a kind of record in another crate whose
-// key is a type of a third one can't take it from the implementation for all parts.
+// The names that are keys have implementations of their own: a kind of record in another crate
+// whose key is a type of a third one can't take it from the implementation for all parts.
 impl Key for Name {
     ghost fits = { IsName };
 

@@ -12,9 +12,9 @@ ghost use Rattle.row_codec.specs.LogRecords.{IsLogRecord, HasLogSpelling, HasSho
 ghost use Rattle.row_codec.specs.Spelling.{IsCounted, IsKey, IsRow, b16, b32, b64, value_spelling, row_spelling, key_spelling};
 ghost use Rattle.row_codec.specs.Storable.{IsStorable};
 
-/// Byte order of spelled keys is the order of keys: column by column, NULL first, then the integers by
-/// number, then the texts by bytes. So a map that is kept by bytes is one that is kept by keys in order.
-/// Only equal keys have one spelling.
+/// Byte order of spelled keys is the order of keys: column by column, NULL first, then the integers
+/// by number, then the texts by bytes. So a map that is kept by bytes is one that is kept by keys
+/// in order. Only equal keys have one spelling.
 pub fn keys_in_byte_order()
     ensures order { (x y : Values) → IsKey x → IsKey y → bytes_cmp (key_spelling x) (key_spelling y) ≡ key_cmp x y }
     ensures of_rows { (places : List ℕ) (x y : Values) → IsKey (images places x) → IsKey (images places y) → bytes_cmp (key_spelling (images places x)) (key_spelling (images places y)) ≡ key_cmp (images places x) (images places y) }
@@ -43,8 +43,8 @@ pub fn lengths_of_numbers()
     ensures b64 { (n : ℕ) → length (b64 n) ≡ 8 }
 {}
 
-/// A row of at most 64 values may be stored, and so may a log record whose rows have at most 64 values:
-/// a value takes at most 2,003 bytes, so two such rows take less than a stored value may.
+/// A row of at most 64 values may be stored, and so may a log record whose rows have at most 64
+/// values: a value takes at most 2,003 bytes, so two such rows take less than a stored value may.
 pub fn rows_of_64_values_are_storable()
     ensures row { (row : Values) → IsKey row → length row ≤ 64 → IsStorable IsCounted row_spelling row }
     ensures log_record {

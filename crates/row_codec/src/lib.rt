@@ -1,12 +1,13 @@
 //! Records as bytes: of each value, row, key and log record the one spelling, both ways.
 //!
-//! What a server keeps is bytes in a map that is ordered by bytes. This crate says what a spelling is
-//! (`Part`), what a key is (`Key`), and what a kind of record is (`Stored`): the layers above put and
-//! take typed records and never see a byte. Each value has one spelling, bytes that aren't the spelling
-//! of a value are refused, and keys lie in byte order just as their values do.
+//! What a server keeps is bytes in a map that is ordered by bytes. This crate says what a spelling
+//! is (`Part`), what a key is (`Key`), and what a kind of record is (`Stored`): the layers above
+//! put and take typed records and never see a byte. Each value has one spelling, bytes that aren't
+//! the spelling of a value are refused, and keys lie in byte order just as their values do.
 //!
-//! It stands on `repl_types` alone, and spells that crate's types. `repl_records` and `repl_definitions`
-//! have the other kinds of records, each with its spelling, and `site_store` keeps them.
+//! It stands on `repl_types` alone, and spells that crate's types. `repl_records` and
+//! `repl_definitions` have the other kinds of records, each with its spelling, and `site_store`
+//! keeps them.
 #![tactic(auto)]
 
 mod key;

@@ -1,9 +1,11 @@
 //! Records of a log.
 
 ghost use Rattle.repl_types.specs.declared.area.Area.TheVariants as areas;
-ghost use Rattle.std.specs.Prelude.{◌≡◌, ◌++◌, OnOk};
+ghost use Rattle.std.specs.Prelude.{◌≡◌, ◌∷◌, ◌++◌, IfOk, OnOk};
 ghost use Rattle.row_codec.specs.LogRecords.{change_spelling, IsChange, HasChangeSpelling, log_spelling, IsLogRecord, HasLogSpelling};
+ghost use Rattle.row_codec.specs.Spelling.{Is32, IsCounted, IsName, IsRow, b32, short_text, row_spelling};
 ghost use Rattle.row_codec.specs.Storable.{IsStorable};
+ghost use Rattle.row_codec.specs.Takes.{NoFront};
 ghost use Rattle.row_codec.specs.laws.Again.{log_again};
 ghost use Rattle.row_codec.specs.laws.LogRecords.{one_log_record};
 
@@ -55,34 +57,13 @@ impl Part for LogRecord {
                 let change = Change::Insert { table, row };
                 Ok((LogRecord::Change { tx, change }, rest))
             }
-            [0x12, rest @ ..] => {
-                let (tx, table, before, after, rest) = take_four::<u32, Name, Row, Row>(
-                    alloc, rest,
-                )?;
-                let change = Change::Update {
-                    table,
-                    before,
-                    after,
-                };
-                Ok((LogRecord::Change { tx, change }, rest))
-            }
+            [0x12, rest @ ..] => take_update(alloc, rest),
             [0x13, rest @ ..] => {
                 let (tx, table, row, rest) = take_three::<u32, Name, Row>(alloc, rest)?;
                 let change = Change::Delete { table, row };
                 Ok((LogRecord::Change { tx, change }, rest))
             }
-            [0x14, rest @ ..] => {
-                let (tx, time, authid, origin, rest) = take_four::<u32, u64, Name, Option<SetId>>(
-                    alloc, rest,
-                )?;
-                let commit = LogRecord::Commit {
-                    tx,
-                    time,
-                    authid,
-                    origin,
-                };
-                Ok((commit, rest))
-            }
+            [0x14, rest @ ..] => take_commit(alloc, rest),
             [0x15, rest @ ..] => {
                 let (tx, rest) = u32::take_part(alloc, rest)?;
                 Ok((LogRecord::Abort { tx }, rest))
@@ -127,12 +108,7 @@ fn put_change(tx: u32, change: &Change, out: &mut Vec<u8>) -> Result<(), AllocEr
     ensures fits { OnOk result (IsChange tx change.now) }
 {
     match change {
-        Change::Insert { table, row } => {
-            out.push(0x11)?;
-            tx.put_part(out)?;
-            table.put_part(out)?;
-            row.put_part(out)
-        }
+        Change::Insert { table, row } => put_row_of(0x11, tx, table, row, out),
         Change::Update {
             table,
             before,
@@ -144,12 +120,7 @@ fn put_change(tx: u32, change: &Change, out: &mut Vec<u8>) -> Result<(), AllocEr
             before.put_part(out)?;
             after.put_part(out)
         }
-        Change::Delete { table, row } => {
-            out.push(0x13)?;
-            tx.put_part(out)?;
-            table.put_part(out)?;
-            row.put_part(out)
-        }
+        Change::Delete { table, row } => put_row_of(0x13, tx, table, row, out),
         Change::Start { table } => {
             out.push(0x16)?;
             tx.put_part(out)?;
@@ -161,4 +132,65 @@ fn put_change(tx: u32, change: &Change, out: &mut Vec<u8>) -> Result<(), AllocEr
             table.put_part(out)
         }
     }
+}
+
+/// Appends the spelling of an insert or a delete, which begins with the tag.
+fn put_row_of(
+    tag: u8,
+    tx: u32,
+    table: &Name,
+    row: &Row,
+    out: &mut Vec<u8>,
+) -> Result<(), AllocError>
+    requires { IsCounted row.now }
+    ensures ok {
+        OnOk result
+            (out.new.items
+                ≡ out.old.items ++ tag ∷ b32 tx ++ short_text table.now ++ row_spelling row.now)
+    }
+    ensures fits { OnOk result (Is32 tx × IsName table.now × IsRow row.now) }
+{
+    out.push(tag)?;
+    tx.put_part(out)?;
+    table.put_part(out)?;
+    row.put_part(out)
+}
+
+/// An update from the front of the bytes after its tag, and the bytes after it.
+fn take_update(alloc: Global, bytes: &[u8]) -> Result<(LogRecord, &[u8]), TakeError>
+    ensures ok {
+        IfOk result
+            (λ taken. IsLogRecord taken.0 × (18 ∷ bytes.now ≡ log_spelling taken.0 ++ taken.1.now))
+    }
+    ensures spelling {
+        result ≡ Err TakeError.Spelling → NoFront IsLogRecord log_spelling (18 ∷ bytes.now)
+    }
+{
+    let (tx, table, before, after, rest) = take_four::<u32, Name, Row, Row>(alloc, bytes)?;
+    let change = Change::Update {
+        table,
+        before,
+        after,
+    };
+    Ok((LogRecord::Change { tx, change }, rest))
+}
+
+/// A commit from the front of the bytes after its tag, and the bytes after it.
+fn take_commit(alloc: Global, bytes: &[u8]) -> Result<(LogRecord, &[u8]), TakeError>
+    ensures ok {
+        IfOk result
+            (λ taken. IsLogRecord taken.0 × (20 ∷ bytes.now ≡ log_spelling taken.0 ++ taken.1.now))
+    }
+    ensures spelling {
+        result ≡ Err TakeError.Spelling → NoFront IsLogRecord log_spelling (20 ∷ bytes.now)
+    }
+{
+    let (tx, time, authid, origin, rest) = take_four::<u32, u64, Name, Option<SetId>>(alloc, bytes)?;
+    let commit = LogRecord::Commit {
+        tx,
+        time,
+        authid,
+        origin,
+    };
+    Ok((commit, rest))
 }

@@ -8,8 +8,8 @@ ghost use Rattle.row_codec.specs.laws.Ones.{one_pair};
 use crate::take_error::TakeError;
 use std::alloc::{AllocError, Global};
 
-/// A part of a record. Each value has one spelling, and bytes that begin with a spelling begin with no
-/// other, so parts can stand one after another.
+/// A part of a record. Each value has one spelling, and bytes that begin with a spelling begin with
+/// no other, so parts can stand one after another.
 pub trait Part: Sized + Drop {
     /// Which of the values that a clause can speak of are values of the type that have a spelling.
     ghost fits: { Self → Type 0 };

@@ -14,8 +14,8 @@ use crate::take_error::TakeError;
 use repl_types::{List, Row, Value};
 use std::alloc::{AllocError, Global};
 
-/// Appends the spelling of a row: the count of its values in two bytes, and the values. Without memory
-/// some of it may have been appended.
+/// Appends the spelling of a row: the count of its values in two bytes, and the values. Without
+/// memory some of it may have been appended.
 pub fn put_row(row: &Row, out: &mut Vec<u8>) -> Result<(), AllocError>
     requires { IsCounted row.now }
     ensures ok { OnOk result (out.new.items ≡ out.old.items ++ row_spelling row.now) }

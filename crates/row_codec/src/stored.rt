@@ -26,8 +26,8 @@ pub trait Stored: Part {
 
     ghost AREA: { Area };
 
-    /// What a record must meet to be stored, beyond its type: nothing for kinds of bounded length, each
-    /// of whose values has a spelling.
+    /// What a record must meet to be stored, beyond its type: nothing for kinds of bounded length,
+    /// each of whose values has a spelling.
     ghost storable: { Self → Type 0 };
 
     /// A record that may be stored has a spelling.

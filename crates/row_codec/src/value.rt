@@ -45,8 +45,8 @@ pub fn put_text(text: &Text, out: &mut Vec<u8>) -> Result<(), AllocError>
     out.extend_from_slice(&[0, 0])
 }
 
-/// The byte of a text that the bytes begin with, and what follows it; None at the end of the text, and
-/// where no byte of a text stands so.
+/// The byte of a text that the bytes begin with, and what follows it; None at the end of the text,
+/// and where no byte of a text stands so.
 fn next_byte(bytes: &[u8]) -> Option<(u8, &[u8])>
     ensures some { IfSome result (λ next. bytes.now ≡ marked_byte next.0 ++ next.1.now) }
     ensures none { result ≡ None → ((b : ℕ) (after : List ℕ) → bytes.now ≢ marked_byte b ++ after) }
