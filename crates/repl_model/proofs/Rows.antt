@@ -7,7 +7,7 @@ use Rattle.std.specs.FinMap.{empty, get, insert, remove, get-empty, get-insert, 
 use Rattle.std.proofs.lemmas.Bool.{cases_Bool, both_ways}
 use Rattle.repl_types.specs.Value.{Values, key_cmp}
 use Rattle.repl_model.specs.Tables.{Rows, same_values}
-use Rattle.repl_types.proofs.Order.{key_cmp_total, exact_key}
+use Rattle.repl_types.specs.laws.Order.{key_cmp_total, exact_key}
 
 -- values that are tested to be alike are equal
 pub same_values_exact : (a b : Values) → same_values a b ≡ true → a ≡ b

@@ -1,6 +1,6 @@
 use Rattle.std.proofs.Common.{[], refl}
-use Rattle.rows_in_order.proofs.Changed.{one_at, one_put}
-use Rattle.rows_in_order.proofs.Rising.{table_pop}
+use Rattle.rows_in_order.specs.laws.Changed.{one_at, one_put}
+use Rattle.rows_in_order.specs.laws.Rising.{table_pop}
 use Rattle.rows_in_order.proofs.changes.one_row.Goals as goal
 
 pub returns-clause-at : goal.returns-clause-at

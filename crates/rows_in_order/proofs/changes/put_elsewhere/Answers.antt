@@ -1,4 +1,4 @@
-use Rattle.rows_in_order.proofs.Written.{put_here, put_other_table, put_other_area}
+use Rattle.rows_in_order.specs.laws.Written.{put_here, put_other_table, put_other_area}
 use Rattle.rows_in_order.proofs.changes.put_elsewhere.Goals as goal
 
 pub returns-clause-here : goal.returns-clause-here

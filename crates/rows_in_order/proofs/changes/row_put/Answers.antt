@@ -1,7 +1,7 @@
 use Rattle.std.proofs.Common.{refl}
 use Rattle.std.specs.Prelude.{filter}
 use Rattle.rows_in_order.specs.Rows.{is_before}
-use Rattle.rows_in_order.proofs.Changed.{table_with, rises_with}
+use Rattle.rows_in_order.specs.laws.Changed.{table_with, rises_with}
 use Rattle.rows_in_order.proofs.changes.row_put.Goals as goal
 
 pub returns-clause-table : goal.returns-clause-table

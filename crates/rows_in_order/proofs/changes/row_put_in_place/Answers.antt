@@ -1,4 +1,4 @@
-use Rattle.rows_in_order.proofs.Changed.{with_between, with_replaced, with_last}
+use Rattle.rows_in_order.specs.laws.Changed.{with_between, with_replaced, with_last}
 use Rattle.rows_in_order.proofs.changes.row_put_in_place.Goals as goal
 
 pub returns-clause-new : goal.returns-clause-new

@@ -1,4 +1,4 @@
-use Rattle.rows_in_order.proofs.Changed.{table_without, rises_without, without_split, without_absent}
+use Rattle.rows_in_order.specs.laws.Changed.{table_without, rises_without, without_split, without_absent}
 use Rattle.rows_in_order.proofs.changes.row_removed.Goals as goal
 
 pub returns-clause-table : goal.returns-clause-table

@@ -1,4 +1,4 @@
-use Rattle.rows_in_order.proofs.Written.{set_at, set_other, set_again, set_apart, set_same}
+use Rattle.rows_in_order.specs.laws.Written.{set_at, set_other, set_again, set_apart, set_same}
 use Rattle.rows_in_order.proofs.changes.table_set.Goals as goal
 
 pub returns-clause-at : goal.returns-clause-at

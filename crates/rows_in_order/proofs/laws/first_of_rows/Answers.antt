@@ -1,4 +1,4 @@
-use Rattle.rows_in_order.proofs.Found.{all_some, first_row, no_first_row}
+use Rattle.rows_in_order.specs.laws.Found.{all_some, first_row, no_first_row}
 use Rattle.rows_in_order.proofs.laws.first_of_rows.Goals as goal
 
 pub returns-clause-some : goal.returns-clause-some

@@ -1,4 +1,4 @@
-use Rattle.rows_in_order.proofs.Before.{upto_itself, empty_first, empty_before, not_back, upto_trans, upto_before, before_upto}
+use Rattle.rows_in_order.specs.laws.Before.{upto_itself, empty_first, empty_before, not_back, upto_trans, upto_before, before_upto}
 use Rattle.rows_in_order.proofs.laws.key_bytes_in_order.Goals as goal
 
 pub returns-clause-itself : goal.returns-clause-itself

@@ -1,5 +1,5 @@
-use Rattle.rows_in_order.proofs.Found.{next_of, is_next, is_last}
-use Rattle.rows_in_order.proofs.Rising.{next_row, no_row}
+use Rattle.rows_in_order.specs.laws.Found.{next_of, is_next, is_last}
+use Rattle.rows_in_order.specs.laws.Rising.{next_row, no_row}
 use Rattle.rows_in_order.proofs.laws.next_of_rows.Goals as goal
 
 pub returns-clause-next : goal.returns-clause-next

@@ -1,6 +1,6 @@
 use Rattle.std.specs.Prelude.{not, ◌&&◌}
 use Rattle.rows_in_order.specs.Rows.{is_before}
-use Rattle.rows_in_order.proofs.Rising.{between_parts, between_within, between_after, between_before, filter_rises}
+use Rattle.rows_in_order.specs.laws.Rising.{between_parts, between_within, between_after, between_before, filter_rises}
 use Rattle.rows_in_order.proofs.laws.parts_of_rows.Goals as goal
 
 pub returns-clause-parts : goal.returns-clause-parts

@@ -1,4 +1,4 @@
-use Rattle.rows_in_order.proofs.Rising.{rises_push, table_push, table_next}
+use Rattle.rows_in_order.specs.laws.Rising.{rises_push, table_push, table_next}
 use Rattle.rows_in_order.proofs.laws.row_after_all.Goals as goal
 
 pub returns-clause-rises : goal.returns-clause-rises

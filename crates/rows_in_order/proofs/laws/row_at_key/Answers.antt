@@ -1,5 +1,5 @@
-use Rattle.rows_in_order.proofs.Found.{row_of}
-use Rattle.rows_in_order.proofs.Rising.{row_found, no_row_at, found_row}
+use Rattle.rows_in_order.specs.laws.Found.{row_of}
+use Rattle.rows_in_order.specs.laws.Rising.{row_found, no_row_at, found_row}
 use Rattle.rows_in_order.proofs.laws.row_at_key.Goals as goal
 
 pub returns-clause-found : goal.returns-clause-found

@@ -1,4 +1,4 @@
-use Rattle.rows_in_order.proofs.Rising.{table_pop, table_rest}
+use Rattle.rows_in_order.specs.laws.Rising.{table_pop, table_rest}
 use Rattle.rows_in_order.proofs.laws.row_before_all.Goals as goal
 
 pub returns-clause-table : goal.returns-clause-table

@@ -1,4 +1,4 @@
-use Rattle.rows_in_order.proofs.Rising.{between_nothing, between_next, between_first, between_yet, between_none, between_all}
+use Rattle.rows_in_order.specs.laws.Rising.{between_nothing, between_next, between_first, between_yet, between_none, between_all}
 use Rattle.rows_in_order.proofs.laws.rows_between.Goals as goal
 
 pub returns-clause-nothing : goal.returns-clause-nothing

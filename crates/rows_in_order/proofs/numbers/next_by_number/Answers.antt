@@ -1,4 +1,4 @@
-use Rattle.rows_in_order.proofs.ByNumber.{read_next, read_last}
+use Rattle.rows_in_order.specs.laws.ByNumber.{read_next, read_last}
 use Rattle.rows_in_order.proofs.numbers.next_by_number.Goals as goal
 
 pub returns-clause-next : goal.returns-clause-next

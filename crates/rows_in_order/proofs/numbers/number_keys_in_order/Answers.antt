@@ -1,4 +1,4 @@
-use Rattle.rows_in_order.proofs.ByNumber.{key_same, key_less, key_before, key_upto, key_most, key_one}
+use Rattle.rows_in_order.specs.laws.ByNumber.{key_same, key_less, key_before, key_upto, key_most, key_one}
 use Rattle.rows_in_order.proofs.numbers.number_keys_in_order.Goals as goal
 
 pub returns-clause-same : goal.returns-clause-same

@@ -1,5 +1,5 @@
-use Rattle.rows_in_order.proofs.Numbered.{numbered_rises, numbered_below, numbered_above, numbered_parts}
-use Rattle.rows_in_order.proofs.NumberedParts.{numbered_between}
+use Rattle.rows_in_order.specs.laws.Numbered.{numbered_rises, numbered_below, numbered_above, numbered_parts}
+use Rattle.rows_in_order.specs.laws.NumberedParts.{numbered_between}
 use Rattle.rows_in_order.proofs.numbers.numbered_rows.Goals as goal
 
 pub returns-clause-rises : goal.returns-clause-rises

@@ -1,4 +1,4 @@
-use Rattle.rows_in_order.proofs.Numbered.{numbered_start, numbered_none}
+use Rattle.rows_in_order.specs.laws.Numbered.{numbered_start, numbered_none}
 use Rattle.rows_in_order.proofs.numbers.numbered_rows_begun.Goals as goal
 
 pub returns-clause-first : goal.returns-clause-first

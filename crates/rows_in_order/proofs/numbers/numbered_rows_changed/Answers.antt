@@ -1,4 +1,4 @@
-use Rattle.rows_in_order.proofs.Numbered.{numbered_push, numbered_set, numbered_rest}
+use Rattle.rows_in_order.specs.laws.Numbered.{numbered_push, numbered_set, numbered_rest}
 use Rattle.rows_in_order.proofs.numbers.numbered_rows_changed.Goals as goal
 
 pub returns-clause-push : goal.returns-clause-push

@@ -1,4 +1,4 @@
-use Rattle.rows_in_order.proofs.Numbered.{numbered_at, numbered_found, numbered_next, numbered_last}
+use Rattle.rows_in_order.specs.laws.Numbered.{numbered_at, numbered_found, numbered_next, numbered_last}
 use Rattle.rows_in_order.proofs.numbers.numbered_rows_read.Goals as goal
 
 pub returns-clause-at : goal.returns-clause-at

@@ -1,4 +1,4 @@
-use Rattle.rows_in_order.proofs.BetweenNumbers.{numbers_nothing, numbers_next, numbers_first, numbers_yet, numbers_none, numbers_all, numbers_parts}
+use Rattle.rows_in_order.specs.laws.BetweenNumbers.{numbers_nothing, numbers_next, numbers_first, numbers_yet, numbers_none, numbers_all, numbers_parts}
 use Rattle.rows_in_order.proofs.numbers.rows_between_numbers.Goals as goal
 
 pub returns-clause-nothing : goal.returns-clause-nothing

@@ -1,5 +1,5 @@
-use Rattle.rows_in_order.proofs.ChangedNumbers.{same_numbers}
-use Rattle.rows_in_order.proofs.ByNumber.{rises, all_before, all_after, between_is, found_at}
+use Rattle.rows_in_order.specs.laws.ChangedNumbers.{same_numbers}
+use Rattle.rows_in_order.specs.laws.ByNumber.{rises, all_before, all_after, between_is, found_at}
 use Rattle.rows_in_order.proofs.numbers.rows_by_number.Goals as goal
 
 pub returns-clause-rises : goal.returns-clause-rises

@@ -1,4 +1,4 @@
-use Rattle.rows_in_order.proofs.ChangedNumbers.{put_number, remove_number, number_put_rises, number_removed_rises, with_below, without_below, with_highest}
+use Rattle.rows_in_order.specs.laws.ChangedNumbers.{put_number, remove_number, number_put_rises, number_removed_rises, with_below, without_below, with_highest}
 use Rattle.rows_in_order.proofs.numbers.rows_changed_by_number.Goals as goal
 
 pub returns-clause-put : goal.returns-clause-put

@@ -1,4 +1,4 @@
-use Rattle.rows_in_order.proofs.Prefixed.{begins_longer, begins_parts, begins_itself, begins_after, begins_together}
+use Rattle.rows_in_order.specs.laws.Prefixed.{begins_longer, begins_parts, begins_itself, begins_after, begins_together}
 use Rattle.rows_in_order.proofs.prefixes.keys_with_a_prefix.Goals as goal
 
 pub returns-clause-longer : goal.returns-clause-longer

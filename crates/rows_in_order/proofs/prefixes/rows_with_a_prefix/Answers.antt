@@ -1,4 +1,4 @@
-use Rattle.rows_in_order.proofs.Prefixed.{prefix_next, prefix_past, prefix_last, prefix_after, prefix_first}
+use Rattle.rows_in_order.specs.laws.Prefixed.{prefix_next, prefix_past, prefix_last, prefix_after, prefix_first}
 use Rattle.rows_in_order.proofs.prefixes.rows_with_a_prefix.Goals as goal
 
 pub returns-clause-next : goal.returns-clause-next

@@ -1,6 +1,6 @@
 use Rattle.rows_in_order.specs.Rows.{begins_with}
-use Rattle.rows_in_order.proofs.Prefixed.{prefix_together, prefix_table, prefix_between}
-use Rattle.rows_in_order.proofs.Rising.{filter_rises}
+use Rattle.rows_in_order.specs.laws.Prefixed.{prefix_together, prefix_table, prefix_between}
+use Rattle.rows_in_order.specs.laws.Rising.{filter_rises}
 use Rattle.rows_in_order.proofs.prefixes.rows_with_a_prefix_together.Goals as goal
 
 pub returns-clause-together : goal.returns-clause-together

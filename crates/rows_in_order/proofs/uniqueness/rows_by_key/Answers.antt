@@ -1,5 +1,5 @@
-use Rattle.rows_in_order.proofs.Found.{told_apart}
-use Rattle.rows_in_order.proofs.Unique.{one_row_at, same_rows}
+use Rattle.rows_in_order.specs.laws.Found.{told_apart}
+use Rattle.rows_in_order.specs.laws.Unique.{one_row_at, same_rows}
 use Rattle.rows_in_order.proofs.uniqueness.rows_by_key.Goals as goal
 
 pub returns-clause-one : goal.returns-clause-one

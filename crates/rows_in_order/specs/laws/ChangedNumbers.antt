@@ -5,11 +5,11 @@ use Rattle.std.specs.List.{AllByRecursion}
 use Rattle.keep_core.specs.Contents.{same_key, set_key}
 use Rattle.rows_in_order.specs.Rows.{is_before, table_of, IsRising, IsToldApart, with_row, without_row}
 use Rattle.rows_in_order.specs.Numbers.{SpellsInOrder, AllBelow, NumbersRise, with_number, without_number}
-use Rattle.rows_in_order.proofs.Filtered.{filter_alike, filter_all, filter_none, all_weaker, all_append, all_filter}
-use Rattle.rows_in_order.proofs.Changed.{table_with, table_without, rises_with, rises_without}
-use Rattle.rows_in_order.proofs.Unique.{same_rows}
-use Rattle.rows_in_order.proofs.BetweenNumbers.{lone, lone_order, limit_of, below}
-use Rattle.rows_in_order.proofs.ByNumber.{key_same, key_is_before, key_one, rises, number_rises, lt_ltb, ltb_false}
+use Rattle.rows_in_order.specs.laws.Filtered.{filter_alike, filter_all, filter_none, all_weaker, all_append, all_filter}
+use Rattle.rows_in_order.specs.laws.Changed.{table_with, table_without, rises_with, rises_without}
+use Rattle.rows_in_order.specs.laws.Unique.{same_rows}
+use Rattle.rows_in_order.specs.laws.BetweenNumbers.{lone, lone_order, limit_of, below}
+use Rattle.rows_in_order.specs.laws.ByNumber.{key_same, key_is_before, key_one, rises, number_rises, lt_ltb, ltb_false}
 
 module _ {X : Type 0} where
   -- ---- limits

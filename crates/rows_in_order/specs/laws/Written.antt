@@ -5,7 +5,7 @@ use Rattle.std.proofs.lemmas.Bool.Decides.{nat_tests}
 use Rattle.repl_types.specs.Area.{area_number, same_area}
 use Rattle.repl_types.specs.declared.area.Area.{Area}
 use Rattle.keep_core.specs.Contents.{Contents, Table, same_key, set_key, put_at}
-use Rattle.rows_in_order.proofs.Rising.{same_itself, same_is}
+use Rattle.rows_in_order.specs.laws.Rising.{same_itself, same_is}
 
 -- a number is itself
 itself : (n : ℕ) → (n == n) ≡ true

@@ -5,8 +5,8 @@ use Rattle.std.specs.declared.cmp.Ordering.{Ordering}
 use Rattle.std.specs.declared.cmp.Ordering.TheVariants.{Less, Equal, Greater}
 use Rattle.rows_in_order.specs.Rows.{between}
 use Rattle.rows_in_order.specs.Numbers.{SpellsInOrder, AllBelow, AllAbove, NoneAbove, NumbersRise, numbers_between, NextNumber}
-use Rattle.rows_in_order.proofs.ByNumber.{key_before, key_upto, all_after, none_after, rises, between_is, key_next}
-use Rattle.rows_in_order.proofs.Rising.{between_nothing, between_next, between_first, between_yet, between_none, between_all, between_parts}
+use Rattle.rows_in_order.specs.laws.ByNumber.{key_before, key_upto, all_after, none_after, rises, between_is, key_next}
+use Rattle.rows_in_order.specs.laws.Rising.{between_nothing, between_next, between_first, between_yet, between_none, between_all, between_parts}
 
 -- a number as the only item of a list
 pub lone : ℕ → List ℕ

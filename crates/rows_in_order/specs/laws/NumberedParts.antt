@@ -6,8 +6,8 @@ use Rattle.std.proofs.Math.Seq.{take-nil, drop-nil}
 use Rattle.std.proofs.lemmas.Bool.{cases_eq, cases_lt}
 use Rattle.std.proofs.lemmas.Bool.Decides.{nat_tests}
 use Rattle.rows_in_order.specs.Numbers.{AllAbove, numbers_between}
-use Rattle.rows_in_order.proofs.Filtered.{all_weaker, filter_none}
-use Rattle.rows_in_order.proofs.Numbered.{numbered_above}
+use Rattle.rows_in_order.specs.laws.Filtered.{all_weaker, filter_none}
+use Rattle.rows_in_order.specs.laws.Numbered.{numbered_above}
 
 -- ---- tests
 

@@ -10,9 +10,9 @@ use Rattle.std.proofs.lemmas.Map.Lookups.{exact_bytes}
 use Rattle.repl_types.specs.Bytes.{bytes_cmp}
 use Rattle.keep_core.specs.Contents.{Table, set_key}
 use Rattle.rows_in_order.specs.Rows.{table_of, AllAfter, IsRising, IsToldApart, HasRow}
-use Rattle.rows_in_order.proofs.Before.{order}
-use Rattle.rows_in_order.proofs.Filtered.{all_weaker}
-use Rattle.rows_in_order.proofs.Rising.{at_head, found_after, some_is, table_pop}
+use Rattle.rows_in_order.specs.laws.Before.{order}
+use Rattle.rows_in_order.specs.laws.Filtered.{all_weaker}
+use Rattle.rows_in_order.specs.laws.Rising.{at_head, found_after, some_is, table_pop}
 
 -- no key is before itself
 not_before_itself : (k : List ℕ) → bytes_cmp k k ≡ Less → ⊥

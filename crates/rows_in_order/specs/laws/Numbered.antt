@@ -8,9 +8,9 @@ use Rattle.std.proofs.lemmas.Bool.Decides.{nat_tests}
 use Rattle.keep_core.specs.Contents.{Table, IsNext, IsLast, same_key, set_key}
 use Rattle.rows_in_order.specs.Rows.{table_of}
 use Rattle.rows_in_order.specs.Numbers.{SpellsInOrder, AllBelow, AllAbove, NumbersRise}
-use Rattle.rows_in_order.proofs.Before.{empty_before}
-use Rattle.rows_in_order.proofs.Rising.{same_is, some_none, table_push, table_pop}
-use Rattle.rows_in_order.proofs.ByNumber.{key_same, key_less, key_before, key_one, all_before, all_after}
+use Rattle.rows_in_order.specs.laws.Before.{empty_before}
+use Rattle.rows_in_order.specs.laws.Rising.{same_is, some_none, table_push, table_pop}
+use Rattle.rows_in_order.specs.laws.ByNumber.{key_same, key_less, key_before, key_one, all_before, all_after}
 
 -- tests of numbers
 equal : (a b : ℕ) → a ≡ b → (a == b) ≡ true

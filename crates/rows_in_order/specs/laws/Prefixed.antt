@@ -12,11 +12,11 @@ use Rattle.std.proofs.lemmas.Map.Lookups.{exact_bytes}
 use Rattle.std.proofs.lemmas.Slice.Eq.{starts_is}
 use Rattle.repl_types.specs.Bytes.{bytes_cmp}
 use Rattle.rows_in_order.specs.Rows.{is_before, IsUpTo, table_of, AllAfter, NoneAfter, IsRising, between, NextRow, begins_with, with_prefix}
-use Rattle.rows_in_order.proofs.Before.{order, is_less, not_both}
-use Rattle.rows_in_order.proofs.Filtered.{all_weaker, all_filter, filter_none}
-use Rattle.rows_in_order.proofs.Rising.{at_seam, both_true, not_true, part}
-use Rattle.rows_in_order.proofs.Changed.{filter_at}
-use Rattle.rows_in_order.proofs.Found.{first_row}
+use Rattle.rows_in_order.specs.laws.Before.{order, is_less, not_both}
+use Rattle.rows_in_order.specs.laws.Filtered.{all_weaker, all_filter, filter_none}
+use Rattle.rows_in_order.specs.laws.Rising.{at_seam, both_true, not_true, part}
+use Rattle.rows_in_order.specs.laws.Changed.{filter_at}
+use Rattle.rows_in_order.specs.laws.Found.{first_row}
 
 -- ---- keys
 

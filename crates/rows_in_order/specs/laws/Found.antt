@@ -7,11 +7,11 @@ use Rattle.std.specs.declared.cmp.Ordering.TheVariants.{Less}
 use Rattle.repl_types.specs.Bytes.{bytes_cmp}
 use Rattle.keep_core.specs.Contents.{IsNext, IsLast, same_key}
 use Rattle.rows_in_order.specs.Rows.{is_before, table_of, AllAfter, NoneAfter, IsRising, IsToldApart, HasRow, NextRow}
-use Rattle.rows_in_order.proofs.Before.{order, not_both, upto_before, empty_before}
-use Rattle.rows_in_order.proofs.Filtered.{all_weaker}
-use Rattle.rows_in_order.proofs.Rising.{same_is, differ, past_head, some_is, some_none, found_row, next_row}
-use Rattle.rows_in_order.proofs.Changed.{or_else, append_at}
-use Rattle.rows_in_order.proofs.Unique.{one_row_at}
+use Rattle.rows_in_order.specs.laws.Before.{order, not_both, upto_before, empty_before}
+use Rattle.rows_in_order.specs.laws.Filtered.{all_weaker}
+use Rattle.rows_in_order.specs.laws.Rising.{same_is, differ, past_head, some_is, some_none, found_row, next_row}
+use Rattle.rows_in_order.specs.laws.Changed.{or_else, append_at}
+use Rattle.rows_in_order.specs.laws.Unique.{one_row_at}
 
 module _ {A X : Type 0} where
   -- one of the later rows is one of all

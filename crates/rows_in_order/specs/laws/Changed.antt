@@ -10,9 +10,9 @@ use Rattle.std.proofs.lemmas.List.Elements.{filter-append}
 use Rattle.repl_types.specs.Bytes.{bytes_cmp}
 use Rattle.keep_core.specs.Contents.{same_key, set_key}
 use Rattle.rows_in_order.specs.Rows.{is_before, table_of, AllBefore, AllAfter, IsRising, with_row, without_row}
-use Rattle.rows_in_order.proofs.Before.{order, is_less, upto_itself}
-use Rattle.rows_in_order.proofs.Filtered.{all_weaker, all_append, all_kept, filter_none, filter_all}
-use Rattle.rows_in_order.proofs.Rising.{same_itself, same_is, differ, filter_rises, no_row_at}
+use Rattle.rows_in_order.specs.laws.Before.{order, is_less, upto_itself}
+use Rattle.rows_in_order.specs.laws.Filtered.{all_weaker, all_append, all_kept, filter_none, filter_all}
+use Rattle.rows_in_order.specs.laws.Rising.{same_itself, same_is, differ, filter_rises, no_row_at}
 
 -- the first of two where it is something, else the second
 abbrev pub or_else : Option (List ℕ) → Option (List ℕ) → Option (List ℕ)

@@ -11,8 +11,8 @@ use Rattle.std.proofs.lemmas.Map.Lookups.{exact_bytes}
 use Rattle.repl_types.specs.Bytes.{bytes_cmp}
 use Rattle.keep_core.specs.Contents.{Table, IsNext, IsLast, same_key, set_key}
 use Rattle.rows_in_order.specs.Rows.{is_before, IsUpTo, table_of, AllBefore, AllAfter, NoneAfter, IsRising, between, HasRow, NextRow}
-use Rattle.rows_in_order.proofs.Before.{order, is_less, is_equal, not_both, not_back, upto_itself, upto_before, upto_trans}
-use Rattle.rows_in_order.proofs.Filtered.{all_weaker, all_filter, filter_none, filter_all, filter_alike}
+use Rattle.rows_in_order.specs.laws.Before.{order, is_less, is_equal, not_both, not_back, upto_itself, upto_before, upto_trans}
+use Rattle.rows_in_order.specs.laws.Filtered.{all_weaker, all_filter, filter_none, filter_all, filter_alike}
 
 -- ---- tests of keys
 

@@ -12,8 +12,8 @@ use Rattle.repl_types.specs.Bytes.{bytes_cmp}
 use Rattle.keep_core.specs.Contents.{IsNext, IsLast, same_key}
 use Rattle.rows_in_order.specs.Rows.{is_before, IsUpTo, table_of, AllBefore, AllAfter, NoneAfter, IsRising, IsToldApart, between, NextRow}
 use Rattle.rows_in_order.specs.Numbers.{SpellsInOrder, AllBelow, AllAbove, NoneAbove, NumbersRise, numbers_between, NextNumber}
-use Rattle.rows_in_order.proofs.Filtered.{filter_alike}
-use Rattle.rows_in_order.proofs.Rising.{part, next_row, no_row}
+use Rattle.rows_in_order.specs.laws.Filtered.{filter_alike}
+use Rattle.rows_in_order.specs.laws.Rising.{part, next_row, no_row}
 
 -- ---- tests
 
