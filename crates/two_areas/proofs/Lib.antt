@@ -1,1 +1,4 @@
-pub mod Taking
+pub mod Copying
+pub mod Evidence
+pub mod Stepping
+pub mod Talking

@@ -1,51 +1,44 @@
-//! One number more is taken.
+//! The next numbers are copied in one commit.
 
-ghost use Rattle.std.specs.Prelude.{◌≡◌, ◌<◌, length, OnOk, OnErr, IfOk, IfErr};
+ghost use Rattle.std.specs.Prelude.{◌≡◌, ◌≢◌, ◌<◌, length, IfOk, IfErr};
 ghost use Rattle.site_store.specs.Servers.{AllClosed};
 ghost use Rattle.site_store.specs.Views.{names, held, work};
-ghost use Rattle.site_store.specs.Calls.{Grows, Goes, Stops, Blames};
-ghost use Rattle.two_areas.specs.World.{World, Stands, StandsAfter, took_next};
+ghost use Rattle.site_store.specs.Calls.{Passes, Blames};
+ghost use Rattle.site_store.specs.Damage.{Damages, IsNoDamage};
+ghost use Rattle.two_areas.specs.World.{World, Stands, StandsAfter, copied, OneOf, rules, in_step};
 
-use crate::records::{Number, Place, Taken};
+use crate::copied::{copy_from, taken_of};
+use crate::records::Taken;
+use faults::Fault;
 use keep_core::Keeper;
-use repl_records::Fault;
+use row_codec::Table0;
 use site_store::Sites;
 use std::alloc::Global;
 
-/// How many numbers were taken.
-pub fn taken_of<K: Keeper>(sites: &mut Sites<K>, alloc: Global, server: u32) -> Result<u64, Fault>
-    requires server { server < length (names sites.old) }
+/// Copies the next numbers, at most so many, in one commit, and answers how many are copied now. After a
+/// fault none was copied; but after one of the target's keeper they may have been.
+pub fn copy_numbers<K: Keeper>(
+    sites: &mut Sites<K>,
+    alloc: Global,
+    source: u32,
+    target: u32,
+    most: u64,
+) -> Result<u64, Fault>
+    requires source { source < length (names sites.old) }
+    requires target { target < length (names sites.old) }
+    requires apart { source ≢ target }
     requires closed { AllClosed (work K.kept sites.old) }
-    ensures ok { OnOk result (Goes K.kept sites.old sites.new) }
-    ensures taken { IfOk result (λ taken. (w : World) → Stands (held K.kept sites.old) server w → taken ≡ w.taken) }
-    ensures err { OnErr result (Stops K.kept sites.old sites.new) }
-    ensures blames { IfErr result (Blames K.kept sites.old sites.new) }
-{
-    match sites.get::<Taken>(alloc, server, 0, &Place { place: 0 })? {
-        None => Ok(0),
-        Some(taken) => Ok(taken.count),
-    }
-}
-
-/// Takes the next number, where there is one, in one commit. After a fault no number was taken; but
-/// after one of the keeper it may have been.
-pub fn take_next<K: Keeper>(sites: &mut Sites<K>, alloc: Global, server: u32) -> Result<(), Fault>
-    requires server { server < length (names sites.old) }
-    requires closed { AllClosed (work K.kept sites.old) }
-    ensures ok { OnOk result ((w : World) → Stands (held K.kept sites.old) server w → Stands (held K.kept sites.new) server (took_next w)) }
-    ensures err { IfErr result (StandsAfter (held K.kept sites.old) (held K.kept sites.new) server took_next) }
+    ensures ok { IfOk result (λ to. (w : World) → Stands source target (held K.kept sites.old) w → Stands source target (held K.kept sites.new) (copied most w) × (to ≡ (copied most w).taken)) }
+    ensures fault { IfErr result (StandsAfter source target (held K.kept sites.old) (held K.kept sites.new) (copied most)) }
+    ensures blames { IfErr result (Blames K.kept sites.old sites.new (Damages (OneOf source target) rules K.kept sites.old)) }
+    ensures undamaged { IfErr result (λ e. (w : World) → Stands source target (held K.kept sites.old) w → IsNoDamage e) }
     ensures closed { AllClosed (work K.kept sites.new) }
-    ensures names { names sites.new ≡ names sites.old }
-    ensures grows { Grows K.kept sites.old sites.new }
-    ensures blames { IfErr result (Blames K.kept sites.old sites.new) }
+    ensures reads { Passes K.kept sites.old sites.new (in_step most source target) }
 {
-    let place = taken_of(sites, alloc, server)?;
-    let Some((next, _)) = sites.next::<Number>(alloc, server, 0, Some(&Place { place }))? else {
-        return Ok(());
-    };
-    sites.begin(server)?;
-    let taken = Taken { count: next.place };
-    sites.put::<Taken>(alloc, server, 0, &Place { place: 0 }, &taken)?;
-    sites.commit(server)?;
-    Ok(())
+    let from = taken_of(sites, alloc, target)?;
+    sites.begin(target)?;
+    let to = copy_from(sites, alloc, source, target, from, most)?;
+    sites.put::<Taken>(alloc, target, Table0, &0, &Taken { count: to })?;
+    sites.commit(target)?;
+    Ok(to)
 }

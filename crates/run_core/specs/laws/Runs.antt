@@ -62,16 +62,16 @@ module _ {W : Type 0} (Stands : List (Option Contents) → W → Type 0) where
     is_part = no_part events;
   }
 
-  -- a run stopped after its first event, which was a commit
-  pub stopped_after : (w v : W) (events : List (Event W)) (h : List (Option Contents)) (t : Option (List ℕ)) → Stands h v → Stopped Stands (commits v ∷ events) w h t t
-  stopped_after w v events h t at = record {
-    done = commits v ∷ [];
-    rest = events;
-    part = [];
-    split = refl;
-    stands = at;
-    bytes = takes_nothing t;
-    is_part = no_part events;
+  -- a commit took place, and then a run stopped
+  pub stopped_after : (w v : W) (events : List (Event W)) (h : List (Option Contents)) (t u : Option (List ℕ)) → Stopped Stands events v h t u → Stopped Stands (commits v ∷ events) w h t u
+  stopped_after w v events h t u stopped = record {
+    done = commits v ∷ stopped.done;
+    rest = stopped.rest;
+    part = stopped.part;
+    split = ap (λ (x : List (Event W)). commits v ∷ x) stopped.split;
+    stands = stopped.stands;
+    bytes = stopped.bytes;
+    is_part = stopped.is_part;
   }
 
   -- a run stopped in its first event, which was a line

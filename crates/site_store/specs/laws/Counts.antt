@@ -36,6 +36,22 @@ reads_more m n s a = record { reads = only_more m n s a; writes = λ q b. omega 
 pub writes_more : (m n s : ℕ) (a : Area) → IsAtMost (both (writes_of_one m s a) (writes_of_one n s a)) (writes_of_one (m + n) s a)
 writes_more m n s a = record { reads = λ q b. omega arith; writes = only_more m n s a }
 
+-- bounds by a number are wider for a larger one
+only_wider : (m n s : ℕ) (a : Area) (q : ℕ) (b : Area) → m ≤ n → only m s a q b ≤ only n s a q b
+only_wider m n s a q b le = pick (same_area a b && (s == q))
+  where
+    pick : (t : Bool) → cond t m 0 ≤ cond t n 0
+    pick true = le
+    pick false = omega arith
+
+-- so for reads
+pub reads_wider : (m n s : ℕ) (a : Area) → m ≤ n → IsAtMost (reads_of_one m s a) (reads_of_one n s a)
+reads_wider m n s a le = record { reads = λ q b. only_wider m n s a q b le; writes = λ q b. omega arith }
+
+-- and for writes
+pub writes_wider : (m n s : ℕ) (a : Area) → m ≤ n → IsAtMost (writes_of_one m s a) (writes_of_one n s a)
+writes_wider m n s a le = record { reads = λ q b. omega arith; writes = λ q b. only_wider m n s a q b le }
+
 -- bounds add up in any order
 pub both_at_most : (x y u v : Bounds) → IsAtMost x u → IsAtMost y v → IsAtMost (both x y) (both u v)
 both_at_most x y u v first second = record {

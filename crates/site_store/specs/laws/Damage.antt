@@ -1,12 +1,13 @@
 -- Laws of evidence for damage: proofs, and nothing to believe.
 use Rattle.std.proofs.Common.{◌≡◌, ◌≢◌, ℕ, ◌<◌, Bool, true, false, cond, List, length, get_or, refl, sym, ap, subst, ◌∙◌, arith, inl, inr}
 use Rattle.std.specs.Prelude.{◌⊎◌, ◌&&◌, ◌==◌, Option, Some, None, IsSome, IfSome}
-use Rattle.std.proofs.lemmas.Bool.{cases_eq}
+use Rattle.std.proofs.lemmas.Bool.{cases_eq, eqb-true}
 use Rattle.std.proofs.lemmas.List.{get_or-set_same, get_or-set_other, length-map}
 use Rattle.std.proofs.lemmas.Bool.Decides.{nat_tests}
 use Rattle.repl_types.specs.Area.{same_area, area_number}
 use Rattle.repl_types.specs.Bytes.{bytes_cmp}
 use Rattle.repl_types.specs.declared.area.Area.{Area}
+use Rattle.repl_types.specs.declared.area.Area.TheVariants as areas
 use Rattle.repl_types.specs.declared.status.DamageCause.{DamageCause}
 use Rattle.repl_types.specs.declared.status.DamageCause.TheVariants as causes
 use Rattle.faults.specs.declared.fault.Fault.{Fault}
@@ -14,14 +15,14 @@ use Rattle.faults.specs.declared.fault.Fault.TheVariants as faults
 use Rattle.keep_core.specs.Contents.{Contents, same_key, put_at, IsNext}
 use Rattle.keep_core.specs.Kept.{Kept, seen_of}
 use Rattle.keep_core.specs.Told.{Rises}
-use Rattle.row_codec.specs.Takes.{NoSpelling}
+use Rattle.rows_in_order.specs.laws.Rising.{same_is}
 use Rattle.site_store.specs.declared.sites.Sites.{Sites}
 use Rattle.site_store.specs.Records.{Misread, Misspelt, MisspeltNext}
 use Rattle.site_store.specs.Views.{held, work, sees, IsOpenAt, IsClosedAt}
 use Rattle.site_store.specs.Works.{Works}
-use Rattle.site_store.specs.Calls.{Bounds, no_access, both, Passes, Stays, Begins, Blames, Fails}
+use Rattle.site_store.specs.Calls.{Bounds, no_access, both, Passes, Stays, Begins, AtServer, Blames, Fails}
 use Rattle.site_store.specs.Damage.{Rules, Shows, ShowsMisspelt, Damages, IsUndamaged, IsNoDamage, IsSpelt, AddsOnlySpelt, ShownBefore}
-use Rattle.site_store.specs.laws.Counts.{IsAtMost, passes_then}
+use Rattle.site_store.specs.laws.Counts.{IsAtMost, passes_within, passes_then}
 use Rattle.site_store.specs.laws.Transactions.{begun_sees}
 
 -- what isn't seen shows no less
@@ -68,6 +69,10 @@ misspelt_next_shows key_fits key_spelling fits spelling rules a b t after saw (c
 misspelt_next_shows key_fits key_spelling fits spelling rules a b t after saw (causes.Unfit bytes) only_key only h = absurd h
 misspelt_next_shows key_fits key_spelling fits spelling rules a b t after saw (causes.NoRest steps) only_key only h = absurd h
 
+-- damage that a call at one server showed is shown there
+pub shows_at : {K : Type 0} (kept : K → Kept) (sites : Sites K) (rules : Rules) (server : ℕ) (damage : Area → DamageCause → Type 0) → ((a : Area) (cause : DamageCause) → damage a cause → Shows rules a cause (sees kept sites server)) → (s : ℕ) (a : Area) (cause : DamageCause) → AtServer server damage s a cause → Shows rules a cause (sees kept sites s)
+shows_at kept sites rules server damage shows s a cause h = subst (λ (k : ℕ). Shows rules a cause (sees kept sites k)) (sym h.0) (shows a cause h.1)
+
 -- ---- what contents show
 
 -- contents of which each entry is spelt show no bytes that aren't
@@ -94,6 +99,61 @@ misspelt_before rules c d a bytes adds h = elim h.1 [
 pub adds_nothing : (rules : Rules) (c : Contents) → AddsOnlySpelt rules c c
 adds_nothing rules c a t key value h = inr h
 
+-- an area is known by its number
+area_is : (a b : Area) → same_area a b ≡ true → a ≡ b
+area_is a b same = sym (named_by a) ∙ ap named (eqb-true (area_number a) (area_number b) same) ∙ named_by b
+  where
+    named : ℕ → Area
+    named n = cond (n == 1) areas.Log (cond (n == 2) areas.Source (cond (n == 3) areas.Inflight (cond (n == 4) areas.Head (cond (n == 5) areas.Defs (cond (n == 6) areas.Cd (cond (n == 7) areas.Uow (cond (n == 8) areas.Capture (cond (n == 9) areas.Prune (cond (n == 10) areas.Spill (cond (n == 11) areas.Target (cond (n == 12) areas.SetState areas.Trail)))))))))))
+
+    named_by : (a : Area) → named (area_number a) ≡ a
+    named_by areas.Log = refl
+    named_by areas.Source = refl
+    named_by areas.Inflight = refl
+    named_by areas.Head = refl
+    named_by areas.Defs = refl
+    named_by areas.Cd = refl
+    named_by areas.Uow = refl
+    named_by areas.Capture = refl
+    named_by areas.Prune = refl
+    named_by areas.Spill = refl
+    named_by areas.Target = refl
+    named_by areas.SetState = refl
+    named_by areas.Trail = refl
+
+-- an entry after a change at one key is the new one, or it stood there before
+entry_after : (c : Contents) (a b : Area) (t u : ℕ) (k q : List ℕ) (v : Option (List ℕ)) (w : List ℕ) → put_at c a t k v b u q ≡ Some w → ((a ≡ b) × (t ≡ u) × (k ≡ q) × (v ≡ Some w)) ⊎ (c b u q ≡ Some w)
+entry_after c a b t u k q v w h = pick (same_area a b) refl (t == u) refl (same_key k q) refl h
+  where
+    pick : (x : Bool) → same_area a b ≡ x → (y : Bool) → (t == u) ≡ y → (z : Bool) → same_key k q ≡ z → cond (x && y) (λ (p : List ℕ). cond (same_key k p) v (c a t p)) (c b u) q ≡ Some w → ((a ≡ b) × (t ≡ u) × (k ≡ q) × (v ≡ Some w)) ⊎ (c b u q ≡ Some w)
+    pick false ex y ey z ez h = inr h
+    pick true ex false ey z ez h = inr h
+    pick true ex true ey z ez h = at z ez (area_is a b ex) (eqb-true t u ey) h
+      where
+        at : (z : Bool) → same_key k q ≡ z → a ≡ b → t ≡ u → cond (same_key k q) v (c a t q) ≡ Some w → ((a ≡ b) × (t ≡ u) × (k ≡ q) × (v ≡ Some w)) ⊎ (c b u q ≡ Some w)
+        at true same area table h = inl (area, table, same_is k q same, sym (ap (λ (s : Bool). cond s v (c a t q)) same) ∙ h)
+        at false same area table h = inr (sym (λ i. c (area i) (table i) q) ∙ sym (ap (λ (s : Bool). cond s v (c a t q)) same) ∙ h)
+
+-- a record of the table was put
+pub adds_put : (rules : Rules) (c : Contents) (a : Area) (t : ℕ) (k v : List ℕ) → rules.is_key a t k → rules.is_value a t v → AddsOnlySpelt rules c (put_at c a t k (Some v))
+adds_put rules c a t k v is_key is_value b u q w h = elim (entry_after c a b t u k q (Some v) w h) [
+  | inl new ↦ inl (subst (λ (p : Area × ℕ × List ℕ). rules.is_key p.0 p.1 p.2) (λ i. (new.0 i, new.1 i, new.2 i)) is_key, subst (λ (p : Area × ℕ × List ℕ). rules.is_value p.0 p.1 p.2) (λ i. (new.0 i, new.1 i, inside v w new.3 i)) is_value)
+  | inr old ↦ inr old
+]
+  where
+    inside : (v w : List ℕ) → ◌≡◌ {A = Option (List ℕ)} (Some v) (Some w) → v ≡ w
+    inside v w e = cc
+
+-- what stood at a key was removed
+pub adds_remove : (rules : Rules) (c : Contents) (a : Area) (t : ℕ) (k : List ℕ) → AddsOnlySpelt rules c (put_at c a t k None)
+adds_remove rules c a t k b u q w h = elim (entry_after c a b t u k q None w h) [
+  | inl new ↦ absurd (never w new.3)
+  | inr old ↦ inr old
+]
+  where
+    never : (w : List ℕ) → ◌≡◌ {A = Option (List ℕ)} None (Some w) → ⊥
+    never w e = cc
+
 -- one change after another
 pub adds_then : (rules : Rules) (c d e : Contents) → AddsOnlySpelt rules c d → AddsOnlySpelt rules d e → AddsOnlySpelt rules c e
 adds_then rules c d e first second a t key value h = elim (second a t key value h) [
@@ -118,6 +178,13 @@ module _ {K : Type 0} (kept : K → Kept) (s0 s1 : Sites K) where
   -- and so does a call fail
   pub fails_by : (D E : ℕ → Area → DamageCause → Type 0) (x : Bounds) (e : Fault) → Fails kept s0 s1 x D e → ((s : ℕ) (a : Area) (cause : DamageCause) → D s a cause → E s a cause) → Fails kept s0 s1 x E e
   fails_by D E x e f weaker = record { closes = f.closes; blames = blames_by D E e f.blames weaker }
+
+  -- a call fails within wider bounds too
+  pub fails_within : (D : ℕ → Area → DamageCause → Type 0) (x y : Bounds) (e : Fault) → Fails kept s0 s1 x D e → IsAtMost x y → Fails kept s0 s1 y D e
+  fails_within D x y e f most = record {
+    closes = record { passes = passes_within kept s0 s1 x y f.closes.passes most; held = f.closes.held; closed = f.closes.closed };
+    blames = f.blames;
+  }
 
   -- no fault is of damage if the servers have contents that show none
   pub no_damage : (servers : ℕ → Type 0) (rules : Rules) (e : Fault) → ((s : ℕ) → servers s → (c : Contents) × (sees kept s0 s ≡ Some c) × IsUndamaged rules c) → Blames kept s0 s1 (Damages servers rules kept s0) e → IsNoDamage e

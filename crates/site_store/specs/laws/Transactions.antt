@@ -1,7 +1,7 @@
 -- Laws of transactions: proofs, and nothing to believe. Calls inside a transaction compose by `works_then`
 -- and `works_seen`.
 use Rattle.std.proofs.Common.{◌≡◌, ◌≢◌, ℕ, ◌<◌, List, length, get_or, refl, sym, ap, subst, ◌∙◌, inl, inr}
-use Rattle.std.specs.Prelude.{Option, Some, None, IsSome, IfSome}
+use Rattle.std.specs.Prelude.{Bool, true, false, Option, Some, None, IsSome, is_some, IfSome}
 use Rattle.std.specs.Option.{option_map}
 use Rattle.std.proofs.Math.ListN.{set}
 use Rattle.std.proofs.lemmas.Bool.{cases_eq, cases_lt}
@@ -37,6 +37,16 @@ works_set old new s a t key v open_at is = pick (get_or old s None) refl open_at
 -- what the transaction sees after its work
 now_at : (w0 w1 : List (Option (Option Contents))) (s : ℕ) (P : Contents → Contents → Type 0) (works : Works w0 w1 s P) → s < length w0 → get_or w1 s None ≡ Some works.now
 now_at w0 w1 s P works lt = ap (λ (l : List (Option (Option Contents))). get_or l s None) works.is ∙ get_or-set_same w0 s (Some works.now) None lt
+
+-- an open transaction is one of the list's
+pub open_below : (w : List (Option (Option Contents))) (s : ℕ) → IsOpenAt w s → s < length w
+open_below w s open_at = elim (cases_lt s (length w)) [
+  | inl lt ↦ lt
+  | inr le ↦ absurd (none_some (sym (ap is_some (get_or_past w s None le)) ∙ open_at))
+]
+  where
+    none_some : false ≡ true → ⊥
+    none_some e = cc
 
 -- nothing was done
 pub works_start : (w : List (Option (Option Contents))) (s : ℕ) → IsSome (get_or w s None) → Works w w s (λ c d. d ≡ c)

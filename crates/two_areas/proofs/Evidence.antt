@@ -1,0 +1,118 @@
+-- What the tables have is spelt, and what is misread is damage by the rules.
+use Rattle.std.proofs.Common.{◌≡◌, ◌≢◌, ℕ, zero, suc, ◌+◌, ◌^◌, ◌<◌, ◌≤◌, Bool, true, false, cond, List, [], ◌∷◌, ◌++◌, length, refl, sym, ap, subst, ◌∙◌, arith}
+use Rattle.std.specs.Prelude.{Option, Some, None, IfSome, take}
+use Rattle.std.specs.List.{AllByRecursion, enumerate_from}
+use Rattle.std.proofs.lemmas.List.{length-take-le}
+use Rattle.repl_types.specs.declared.area.Area.{Area}
+use Rattle.repl_types.specs.declared.area.Area.TheVariants as areas
+use Rattle.repl_types.specs.declared.status.DamageCause.{DamageCause}
+use Rattle.repl_types.specs.declared.status.DamageCause.TheVariants as causes
+use Rattle.keep_core.specs.Contents.{Contents, Table, same_key}
+use Rattle.row_codec.specs.Spelling.{b64, Is64}
+use Rattle.row_codec.specs.laws.Orders.{order64, whole_order}
+use Rattle.std.specs.Ordering.{nat_cmp}
+use Rattle.rows_in_order.specs.Numbers.{SpellsInOrder}
+use Rattle.rows_in_order.specs.Rows.{table_of, HasRow}
+use Rattle.rows_in_order.specs.laws.Rising.{same_is}
+use Rattle.rows_in_order.specs.laws.Found.{row_of}
+use Rattle.site_store.specs.Records.{or_first}
+use Rattle.site_store.specs.Damage.{Rules, Shows, IsSpelt, IsUndamaged, AddsOnlySpelt, ShownBefore}
+use Rattle.site_store.specs.laws.Damage.{spelt_shows_none, misspelt_before}
+use Rattle.two_areas.specs.declared.records.Number.{Number}
+use Rattle.two_areas.specs.declared.records.Taken.{Taken}
+use Rattle.two_areas.specs.World.{World, IsSound, numbered, source_tables, target_tables, with_count, shown, Shows as ShowsTables, IsNumber, only_numbers, rules}
+
+-- spelled numbers lie in the order of the numbers
+pub in_order : SpellsInOrder b64 (2 ^ 64)
+in_order a b la lb = whole_order Is64 b64 nat_cmp order64 a b la lb
+
+-- ---- rows of numbers
+
+-- the rows of some numbers are numbers under numbers
+enumerated : (p : ℕ) (xs : List ℕ) → p + length xs ≤ 2 ^ 64 → AllByRecursion Is64 xs → AllByRecursion (λ (r : ℕ × ℕ). Is64 r.0 × Is64 r.1) (enumerate_from p xs)
+enumerated p [] few small = tt
+enumerated p (x ∷ xs) few small = ((omega arith, small.0), enumerated (p + 1) xs (omega arith) small.1)
+
+-- what holds of all rows holds of one of them
+one_of_all : {X : Type 0} (P : X → Type 0) (front : List X) (x : X) (back : List X) (rows : List X) → rows ≡ front ++ x ∷ back → AllByRecursion P rows → P x
+one_of_all P front x back rows split all = at front (subst (AllByRecursion P) split all)
+  where
+    at : (front : List _) → AllByRecursion P (front ++ x ∷ back) → P x
+    at [] all = all.0
+    at (y ∷ ys) all = at ys all.1
+
+-- an entry of a table of numbers is a number under a number
+entry_is : (rows : List (ℕ × ℕ)) (k v : List ℕ) → AllByRecursion (λ (r : ℕ × ℕ). Is64 r.0 × Is64 r.1) rows → table_of b64 b64 rows k ≡ Some v → IsNumber k × IsNumber v
+entry_is rows k v all has =
+    let r = row_of b64 b64 rows k v has in
+    let fits = one_of_all (λ (r : ℕ × ℕ). Is64 r.0 × Is64 r.1) r.1.front r.0 r.1.back rows r.1.split all in
+    ((r.0.0, fits.0, sym r.2), (r.0.1, fits.1, sym r.3))
+
+-- the first numbers are numbers
+first_small : (n : ℕ) (xs : List ℕ) → AllByRecursion Is64 xs → AllByRecursion Is64 (take n xs)
+first_small zero [] small = tt
+first_small zero (x ∷ xs) small = tt
+first_small (suc n) [] small = tt
+first_small (suc n) (x ∷ xs) small = (small.0, first_small n xs small.1)
+
+-- ---- contents that stand
+
+-- an entry of a table is one of what is shown of it
+counted : (t : Table) (k v : List ℕ) → t k ≡ Some v → with_count t k ≡ Some v
+counted t k v has = pick (same_key (b64 0) k) refl
+  where
+    pick : (b : Bool) → same_key (b64 0) k ≡ b → cond b (Some (or_first b64 0 (t (b64 0)))) (t k) ≡ Some v
+    pick true same = ap (λ (o : Option (List ℕ)). Some (or_first b64 0 o)) (ap t (same_is (b64 0) k same) ∙ has)
+    pick false same = has
+
+-- the rows of the count
+count_fits : (n : ℕ) → n < 2 ^ 64 → AllByRecursion (λ (r : ℕ × ℕ). Is64 r.0 × Is64 r.1) ((0, n) ∷ [])
+count_fits n lt = ((omega arith, lt), tt)
+
+-- the source has only numbers
+pub source_spelt : (w : World) (c : Contents) → IsSound w → ((a : Area) (t : ℕ) → shown a t (c a t) ≡ source_tables w a t) → IsSpelt rules c
+source_spelt w c sound shows areas.Log zero k v has = entry_is (enumerate_from 1 w.numbers) k v (enumerated 1 w.numbers (omega (arith, sound.short)) sound.small) (sym (ap (λ (t : Table). t k) (shows areas.Log 0)) ∙ has)
+source_spelt w c sound shows areas.Target zero k v has = absurd (some_none (sym has ∙ ap (λ (t : Table). t k) (shows areas.Target 0)))
+  where
+    some_none : {v : List ℕ} → ◌≡◌ {A = Option (List ℕ)} (Some v) None → ⊥
+    some_none e = cc
+source_spelt w c sound shows areas.Capture zero k v has = entry_is ((0, 0) ∷ []) k v (count_fits 0 (omega arith)) (sym (ap (λ (t : Table). t k) (shows areas.Capture 0)) ∙ counted (c areas.Capture 0) k v has)
+source_spelt w c sound shows a t k v has = (tt, tt)
+
+-- the target has only numbers
+pub target_spelt : (w : World) (c : Contents) → IsSound w → ((a : Area) (t : ℕ) → shown a t (c a t) ≡ target_tables w a t) → IsSpelt rules c
+target_spelt w c sound shows areas.Target zero k v has = entry_is (enumerate_from 1 (take w.taken w.numbers)) k v (enumerated 1 (take w.taken w.numbers) (omega (arith, sound.short, length-take-le w.taken w.numbers sound.taken, sound.taken)) (first_small w.taken w.numbers sound.small)) (sym (ap (λ (t : Table). t k) (shows areas.Target 0)) ∙ has)
+target_spelt w c sound shows areas.Log zero k v has = absurd (some_none (sym has ∙ ap (λ (t : Table). t k) (shows areas.Log 0)))
+  where
+    some_none : {v : List ℕ} → ◌≡◌ {A = Option (List ℕ)} (Some v) None → ⊥
+    some_none e = cc
+target_spelt w c sound shows areas.Capture zero k v has = entry_is ((0, w.taken) ∷ []) k v (count_fits w.taken (omega (arith, sound.taken, sound.short))) (sym (ap (λ (t : Table). t k) (shows areas.Capture 0)) ∙ counted (c areas.Capture 0) k v has)
+target_spelt w c sound shows a t k v has = (tt, tt)
+
+-- contents that have only numbers show no damage
+pub undamaged : (c : Contents) → IsSpelt rules c → IsUndamaged rules c
+undamaged c spelt a (causes.Spelling bytes) h = spelt_shows_none rules c a bytes spelt h
+undamaged c spelt a (causes.Absent key) h = h.1.1
+undamaged c spelt a (causes.Unfit bytes) h = h.1.2
+undamaged c spelt a (causes.NoRest steps) h = h
+
+-- damage that is shown after only numbers were added was shown before
+pub shown_before : (c d : Contents) → AddsOnlySpelt rules c d → ShownBefore rules c d
+shown_before c d adds a (causes.Spelling bytes) h = misspelt_before rules c d a bytes adds h
+shown_before c d adds a (causes.Absent key) h = absurd h.1.1
+shown_before c d adds a (causes.Unfit bytes) h = absurd h.1.2
+shown_before c d adds a (causes.NoRest steps) h = absurd h
+
+-- ---- records by the rules
+
+-- what is no number of the log is no record of it
+pub only_logged : (bytes : List ℕ) → rules.is_value areas.Log 0 bytes → (x : Number) × Is64 x.number × (bytes ≡ b64 x.number)
+only_logged bytes h = (record { number = h.0 }, h.1, h.2)
+
+-- nor is it a key
+pub only_places : (bytes : List ℕ) → rules.is_key areas.Log 0 bytes → (n : ℕ) × Is64 n × (bytes ≡ b64 n)
+only_places bytes h = h
+
+-- what is no number of the counts is no count
+pub only_counts : (bytes : List ℕ) → rules.is_value areas.Capture 0 bytes → (x : Taken) × Is64 x.count × (bytes ≡ b64 x.count)
+only_counts bytes h = (record { count = h.0 }, h.1, h.2)
