@@ -1,6 +1,7 @@
 -- What a write changes, and what it leaves alone.
 use Rattle.std.proofs.Common.{◌≡◌, ◌≢◌, ℕ, Bool, true, false, cond, List, [], ◌∷◌, ◌++◌, refl, sym, ap, ◌∙◌, arith}
 use Rattle.std.specs.Prelude.{Option, Some, None, ◌==◌, ◌&&◌}
+use Rattle.std.proofs.lemmas.Bool.{eq-eqb}
 use Rattle.std.proofs.lemmas.Bool.Decides.{nat_tests}
 use Rattle.repl_types.specs.Area.{area_number, same_area}
 use Rattle.repl_types.specs.declared.area.Area.{Area}
@@ -9,21 +10,17 @@ use Rattle.rows_in_order.specs.Rows.{table_of, AllBefore, AllAfter, with_row, wi
 use Rattle.rows_in_order.proofs.Changed.{table_with, table_without}
 use Rattle.rows_in_order.proofs.Rising.{same_itself, same_is, table_push, table_pop}
 
--- a number is itself
-itself : (n : ℕ) → (n == n) ≡ true
-itself n = grind (arith, nat_tests)
-
--- two numbers differ
-differ : (t u : ℕ) → t ≢ u → (t == u) ≡ false
-differ t u ne = grind (arith, nat_tests)
+-- two numbers that differ are told apart
+pub differ_numbers : (t u : ℕ) → t ≢ u → (t == u) ≡ false
+differ_numbers t u ne = grind (arith, nat_tests)
 
 -- the table that is written
 pub put_here : (c : Contents) (a : Area) (t : ℕ) (k : List ℕ) (v : Option (List ℕ)) → put_at c a t k v a t ≡ set_key (c a t) k v
-put_here c a t k v = let new = set_key (c a t) k v in ap (λ (b : Bool). cond (b && (t == t)) new (c a t)) (itself (area_number a)) ∙ ap (λ (b : Bool). cond b new (c a t)) (itself t)
+put_here c a t k v = let new = set_key (c a t) k v in ap (λ (b : Bool). cond (b && (t == t)) new (c a t)) (eq-eqb (area_number a) (area_number a) refl) ∙ ap (λ (b : Bool). cond b new (c a t)) (eq-eqb t t refl)
 
 -- another table of the area
 pub put_other_table : (c : Contents) (a : Area) (t u : ℕ) (k : List ℕ) (v : Option (List ℕ)) → t ≢ u → put_at c a t k v a u ≡ c a u
-put_other_table c a t u k v ne = let new = set_key (c a t) k v in ap (λ (b : Bool). cond (same_area a a && b) new (c a u)) (differ t u ne) ∙ none (same_area a a)
+put_other_table c a t u k v ne = let new = set_key (c a t) k v in ap (λ (b : Bool). cond (same_area a a && b) new (c a u)) (differ_numbers t u ne) ∙ none (same_area a a)
   where
     none : (b : Bool) → cond (b && false) (set_key (c a t) k v) (c a u) ≡ c a u
     none true = refl
