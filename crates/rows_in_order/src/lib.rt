@@ -25,6 +25,7 @@ mod changes;
 mod laws;
 mod numbers;
 mod prefixes;
+mod relations;
 mod uniqueness;
 
 pub use changes::{
@@ -40,4 +41,5 @@ pub use numbers::{
     rows_changed_by_number,
 };
 pub use prefixes::{keys_with_a_prefix, rows_with_a_prefix, rows_with_a_prefix_together};
+pub use relations::{FitsRows, rows_still_fit, rows_that_fit};
 pub use uniqueness::rows_by_key;
