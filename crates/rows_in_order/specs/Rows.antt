@@ -60,6 +60,10 @@ with_prefix key bytes rows = filter (λ r. begins_with bytes (key r.0)) rows
 abbrev pub IsToldApart : {A X : Type 0} → (A → List ℕ) → (X → List ℕ) → List (A × X) → A × X → Type 0
 IsToldApart key value rows row = AllByRecursion (λ r. key r.0 ≡ key row.0 → value r.1 ≡ value row.1 → r ≡ row) rows
 
+-- rows of which a relation holds are equal if their keys and values are spelled alike
+abbrev pub SpellsApart : {A X : Type 0} → (A × X → Type 0) → (A → List ℕ) → (X → List ℕ) → Type 0
+SpellsApart {A} {X} fits key value = (r s : A × X) → fits r → fits s → key r.0 ≡ key s.0 → value r.1 ≡ value s.1 → r ≡ s
+
 -- this is one of the rows
 pub record HasRow {A X : Type 0} (rows : List (A × X)) (row : A × X) : Type 0 where
   pub front : List (A × X)

@@ -4,6 +4,7 @@ pub mod ByNumber
 pub mod Changed
 pub mod ChangedNumbers
 pub mod Filtered
+pub mod Fitting
 pub mod Found
 pub mod Numbered
 pub mod NumberedParts

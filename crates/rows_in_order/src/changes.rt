@@ -84,3 +84,25 @@ pub fn put_elsewhere()
         → same_area a b ≡ false
         → put_at c a t k v b u ≡ c b u }
 {}
+
+/// What a write makes of a table that is made of rows.
+pub fn row_written<A, X>()
+    ensures put { (key : A → List ℕ) (value : X → List ℕ) (c : Contents) (a : Area)
+        (t : ℕ) (row : A × X) (rows : List (A × X))
+        → c a t ≡ table_of key value rows
+        → put_at c a t (key row.0) (Some (value row.1)) a t
+        ≡ table_of key value (with_row key row rows) }
+    ensures removed { (key : A → List ℕ) (value : X → List ℕ) (c : Contents) (a : Area)
+        (t : ℕ) (k : List ℕ) (rows : List (A × X))
+        → c a t ≡ table_of key value rows
+        → put_at c a t k None a t ≡ table_of key value (without_row key k rows) }
+    ensures last { (key : A → List ℕ) (value : X → List ℕ) (c : Contents) (a : Area)
+        (t : ℕ) (row : A × X) (rows : List (A × X))
+        → c a t ≡ table_of key value rows → AllBefore key (key row.0) rows
+        → put_at c a t (key row.0) (Some (value row.1)) a t
+        ≡ table_of key value (rows ++ row ∷ []) }
+    ensures first { (key : A → List ℕ) (value : X → List ℕ) (c : Contents) (a : Area)
+        (t : ℕ) (row : A × X) (rows : List (A × X))
+        → c a t ≡ table_of key value (row ∷ rows) → AllAfter key (key row.0) rows
+        → put_at c a t (key row.0) None a t ≡ table_of key value rows }
+{}

@@ -13,6 +13,10 @@
 //! the keeper's answer is the next row. By `rows_between` the rows up to it are the rows so far and
 //! this row. If the keeper has no key above `after`, the rows so far are all rows.
 //!
+//! A caller names the types whose values its keys and records are: `rows_between::<(Name, u64),
+//! List<u8>>()` is the law for keys of a name and a number and for records of bytes. Its proof then
+//! cites a clause of that call, and a lemma of its own takes the clause as a premise.
+//!
 //! The crate stands on `keep_core`, which says what a keeper's table is, and on `repl_types`, for
 //! the order of bytes. `site_store` and the layers that read and write stored rows stand on it.
 #![tactic(auto)]
@@ -21,9 +25,12 @@ mod changes;
 mod laws;
 mod numbers;
 mod prefixes;
+mod relations;
 mod uniqueness;
 
-pub use changes::{one_row, put_elsewhere, row_put, row_put_in_place, row_removed, table_set};
+pub use changes::{
+    one_row, put_elsewhere, row_put, row_put_in_place, row_removed, row_written, table_set,
+};
 pub use laws::{
     first_of_rows, key_bytes_in_order, next_of_rows, parts_of_rows, row_after_all, row_at_key,
     row_before_all, rows_between,
@@ -34,4 +41,5 @@ pub use numbers::{
     rows_changed_by_number,
 };
 pub use prefixes::{keys_with_a_prefix, rows_with_a_prefix, rows_with_a_prefix_together};
+pub use relations::{FitsRows, rows_still_fit, rows_that_fit};
 pub use uniqueness::rows_by_key;

@@ -7,6 +7,7 @@ use Rattle.std.specs.Map.{lookup}
 use Rattle.std.specs.Ordering.{nat_cmp, is_lt, is_eq}
 use Rattle.std.specs.Cmp.{ranked}
 use Rattle.std.specs.declared.cmp.Ordering.TheVariants.{Less}
+use Rattle.std.proofs.lemmas.Bool.{eq-eqb, eqb-true, le-ltb, ltb-false}
 use Rattle.std.proofs.lemmas.Bool.Decides.{nat_tests}
 use Rattle.repl_types.specs.Bytes.{bytes_cmp}
 use Rattle.keep_core.specs.Contents.{IsNext, IsLast, same_key}
@@ -24,26 +25,11 @@ is_ltb a b = grind (arith, nat_tests)
 is_eqb : (a b : ℕ) → is_eq (nat_cmp a b) ≡ (a == b)
 is_eqb a b = grind (arith, nat_tests)
 
-pub lt_ltb : (a b : ℕ) → a < b → ltb a b ≡ true
-lt_ltb a b lt = grind (arith, nat_tests)
-
 lt_less : (a b : ℕ) → a < b → nat_cmp a b ≡ Less
 lt_less a b lt = grind (arith, nat_tests)
 
-pub ltb_false : (a b : ℕ) → b ≤ a → ltb a b ≡ false
-ltb_false a b le = grind (arith, nat_tests)
-
-false_ltb : (a b : ℕ) → ltb a b ≡ false → b ≤ a
-false_ltb a b e = grind (arith, nat_tests)
-
 not_ltb : (a b : ℕ) → not (ltb a b) ≡ leb b a
 not_ltb a b = grind (arith, nat_tests)
-
-itself : (a : ℕ) → (a == a) ≡ true
-itself a = grind (arith, nat_tests)
-
-is_number : (a b : ℕ) → (a == b) ≡ true → a ≡ b
-is_number a b e = grind (arith, nat_tests)
 
 module _ (key : ℕ → List ℕ) (limit : ℕ) (in_order : SpellsInOrder key limit) where
   -- ---- spelled numbers
@@ -61,13 +47,13 @@ module _ (key : ℕ → List ℕ) (limit : ℕ) (in_order : SpellsInOrder key li
   key_before a b la lb lt = in_order a b la lb ∙ lt_less a b lt
 
   pub key_upto : (a b : ℕ) → a < limit → b < limit → a ≤ b → IsUpTo (key a) (key b)
-  key_upto a b la lb le = key_is_before b a lb la ∙ ltb_false b a le
+  key_upto a b la lb le = key_is_before b a lb la ∙ le-ltb b a le
 
   pub key_most : (a b : ℕ) → a < limit → b < limit → IsUpTo (key a) (key b) → a ≤ b
-  key_most a b la lb e = false_ltb b a (sym (key_is_before b a lb la) ∙ e)
+  key_most a b la lb e = ltb-false b a (sym (key_is_before b a lb la) ∙ e)
 
   pub key_one : (a b : ℕ) → a < limit → b < limit → key a ≡ key b → a ≡ b
-  key_one a b la lb e = is_number a b (sym (key_same a b la lb) ∙ ap (λ (k : List ℕ). same_key k (key b)) e ∙ key_same b b lb lb ∙ itself b)
+  key_one a b la lb e = eqb-true a b (sym (key_same a b la lb) ∙ ap (λ (k : List ℕ). same_key k (key b)) e ∙ key_same b b lb lb ∙ eq-eqb b b refl)
 
   module _ {X : Type 0} where
     -- ---- rows

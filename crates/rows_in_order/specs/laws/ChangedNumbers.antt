@@ -2,6 +2,7 @@
 use Rattle.std.proofs.Common.{◌≡◌, ℕ, ◌+◌, ◌<◌, true, false, List, [], ◌∷◌, ◌++◌, sym, ap, subst, ◌∙◌, arith}
 use Rattle.std.specs.Prelude.{Some, None, ltb, not, ◌==◌, filter}
 use Rattle.std.specs.List.{AllByRecursion}
+use Rattle.std.proofs.lemmas.Bool.{lt-ltb, le-ltb}
 use Rattle.keep_core.specs.Contents.{same_key, set_key}
 use Rattle.rows_in_order.specs.Rows.{is_before, table_of, IsRising, IsToldApart, with_row, without_row}
 use Rattle.rows_in_order.specs.Numbers.{SpellsInOrder, AllBelow, NumbersRise, with_number, without_number}
@@ -9,7 +10,7 @@ use Rattle.rows_in_order.specs.laws.Filtered.{filter_alike, filter_all, filter_n
 use Rattle.rows_in_order.specs.laws.Changed.{table_with, table_without, rises_with, rises_without}
 use Rattle.rows_in_order.specs.laws.Unique.{same_rows}
 use Rattle.rows_in_order.specs.laws.BetweenNumbers.{lone, lone_order, limit_of, below}
-use Rattle.rows_in_order.specs.laws.ByNumber.{key_same, key_is_before, key_one, rises, number_rises, lt_ltb, ltb_false}
+use Rattle.rows_in_order.specs.laws.ByNumber.{key_same, key_is_before, key_one, rises, number_rises}
 
 module _ {X : Type 0} where
   -- ---- limits
@@ -23,11 +24,11 @@ module _ {X : Type 0} where
   -- a row above all others goes to the end
   pub with_highest : (row : ℕ × X) (rows : List (ℕ × X)) → AllBelow row.0 rows → with_number row rows ≡ rows ++ row ∷ []
   with_highest row rows small =
-      ap (λ (l : List (ℕ × X)). l ++ row ∷ filter (λ r. ltb row.0 r.0) rows) (filter_all (λ r. ltb r.0 row.0) rows (all_weaker (λ r. r.0 < row.0) (λ r. ltb r.0 row.0 ≡ true) rows (λ r lt. lt_ltb r.0 row.0 lt) small))
+      ap (λ (l : List (ℕ × X)). l ++ row ∷ filter (λ r. ltb row.0 r.0) rows) (filter_all (λ r. ltb r.0 row.0) rows (all_weaker (λ r. r.0 < row.0) (λ r. ltb r.0 row.0 ≡ true) rows (λ r lt. lt-ltb r.0 row.0 lt) small))
       ∙ ap (λ (l : List (ℕ × X)). rows ++ row ∷ l) (filter_none (λ r. ltb row.0 r.0) rows (all_weaker (λ r. r.0 < row.0) (λ r. ltb row.0 r.0 ≡ false) rows (λ r lt. above r.0 lt) small))
     where
       above : (n : ℕ) → n < row.0 → ltb row.0 n ≡ false
-      above n lt = ltb_false row.0 n (omega arith)
+      above n lt = le-ltb row.0 n (omega arith)
 
 module _ {X : Type 0} (key : ℕ → List ℕ) (limit : ℕ) (in_order : SpellsInOrder key limit) where
   -- ---- the same rows, by keys and by numbers

@@ -1,5 +1,5 @@
 -- Filters of lists.
-use Rattle.std.proofs.Common.{◌≡◌, Bool, true, false, cond, List, [], ◌∷◌, ◌++◌, refl, ap, ◌∙◌}
+use Rattle.std.proofs.Common.{◌≡◌, Bool, true, false, cond, List, [], ◌∷◌, ◌++◌, refl, ap, subst, ◌∙◌}
 use Rattle.std.specs.Prelude.{filter}
 use Rattle.std.specs.List.{AllByRecursion}
 
@@ -45,3 +45,11 @@ all_kept {X} p (x ∷ xs) = pick (p x) refl (all_kept p xs)
     pick : (t : Bool) → p x ≡ t → AllByRecursion (λ y. p y ≡ true) (filter p xs) → AllByRecursion (λ y. p y ≡ true) (cond t (x ∷ filter p xs) (filter p xs))
     pick true e rest = (e, rest)
     pick false e rest = rest
+
+-- what holds of all holds of one among them
+pub all_at : {X : Type 0} (P : X → Type 0) (xs : List X) (x : X) (front back : List X) → xs ≡ front ++ x ∷ back → AllByRecursion P xs → P x
+all_at {X} P xs x front back split all = at front (subst (AllByRecursion P) split all)
+  where
+    at : (front : List X) → AllByRecursion P (front ++ x ∷ back) → P x
+    at [] all = all.0
+    at (y ∷ ys) all = at ys all.1

@@ -1,23 +1,16 @@
 -- Rows that are numbered in turn.
-use Rattle.std.proofs.Common.{◌≡◌, ◌≢◌, ℕ, zero, suc, ◌+◌, ◌-◌, ◌<◌, ◌≤◌, Bool, true, false, cond, List, [], ◌∷◌, ◌++◌, length, get_or, refl, sym, ap, ◌∙◌, arith, inl, inr}
-use Rattle.std.specs.Prelude.{Option, Some, None, ◌==◌}
+use Rattle.std.proofs.Common.{◌≡◌, ℕ, zero, suc, ◌+◌, ◌-◌, ◌<◌, ◌≤◌, Bool, true, false, cond, List, [], ◌∷◌, ◌++◌, length, get_or, refl, sym, ap, ◌∙◌, arith, inl, inr}
+use Rattle.std.specs.Prelude.{Option, Some, None}
 use Rattle.std.specs.List.{enumerate_from}
 use Rattle.std.proofs.Math.ListN.{set}
-use Rattle.std.proofs.lemmas.Bool.{cases_eq, cases_lt}
-use Rattle.std.proofs.lemmas.Bool.Decides.{nat_tests}
+use Rattle.std.proofs.lemmas.Bool.{cases_eq, cases_lt, eq-eqb}
 use Rattle.keep_core.specs.Contents.{Table, IsNext, IsLast, same_key, set_key}
 use Rattle.rows_in_order.specs.Rows.{table_of}
 use Rattle.rows_in_order.specs.Numbers.{SpellsInOrder, AllBelow, AllAbove, NumbersRise}
 use Rattle.rows_in_order.specs.laws.Before.{empty_before}
 use Rattle.rows_in_order.specs.laws.Rising.{same_is, some_none, table_push, table_pop}
+use Rattle.rows_in_order.specs.laws.Written.{differ_numbers}
 use Rattle.rows_in_order.specs.laws.ByNumber.{key_same, key_less, key_before, key_one, all_before, all_after}
-
--- tests of numbers
-equal : (a b : ℕ) → a ≡ b → (a == b) ≡ true
-equal a b e = grind (arith, nat_tests)
-
-differ : (a b : ℕ) → a ≢ b → (a == b) ≡ false
-differ a b ne = grind (arith, nat_tests)
 
 module _ {X : Type 0} where
   -- a later beginning is above
@@ -46,8 +39,8 @@ module _ {X : Type 0} (key : ℕ → List ℕ) (limit : ℕ) (in_order : SpellsI
   placed_at : (b q : ℕ) (xs : List X) (d : X) → b + length xs ≤ limit → b ≤ q → q < b + length xs → table_of key value (enumerate_from b xs) (key q) ≡ Some (value (get_or xs (q - b) d))
   placed_at b q [] d few low high = absurd (omega arith)
   placed_at b q (x ∷ xs) d few low high = elim (cases_eq b q) [
-    | inl e ↦ head_at b x xs true q (key_same key limit in_order b q (omega arith) (omega arith) ∙ equal b q e) ∙ ap (λ (n : ℕ). Some (value (get_or (x ∷ xs) n d))) (first (omega arith))
-    | inr ne ↦ head_at b x xs false q (key_same key limit in_order b q (omega arith) (omega arith) ∙ differ b q ne) ∙ placed_at (b + 1) q xs d (omega arith) (omega arith) (omega arith) ∙ ap (λ (n : ℕ). Some (value (get_or (x ∷ xs) n d))) (later (omega arith))
+    | inl e ↦ head_at b x xs true q (key_same key limit in_order b q (omega arith) (omega arith) ∙ eq-eqb b q e) ∙ ap (λ (n : ℕ). Some (value (get_or (x ∷ xs) n d))) (first (omega arith))
+    | inr ne ↦ head_at b x xs false q (key_same key limit in_order b q (omega arith) (omega arith) ∙ differ_numbers b q ne) ∙ placed_at (b + 1) q xs d (omega arith) (omega arith) (omega arith) ∙ ap (λ (n : ℕ). Some (value (get_or (x ∷ xs) n d))) (later (omega arith))
   ]
     where
       first : q ≡ b → 0 ≡ q - b
@@ -68,7 +61,7 @@ module _ {X : Type 0} (key : ℕ → List ℕ) (limit : ℕ) (in_order : SpellsI
   numbered_found b q (x ∷ xs) v few small has = elim (cases_eq b q) [
     | inl e ↦ (omega arith, omega arith)
     | inr ne ↦
-        let rest = numbered_found (b + 1) q xs v (omega arith) small (sym (head_at b x xs false q (key_same key limit in_order b q (omega arith) small ∙ differ b q ne)) ∙ has) in
+        let rest = numbered_found (b + 1) q xs v (omega arith) small (sym (head_at b x xs false q (key_same key limit in_order b q (omega arith) small ∙ differ_numbers b q ne)) ∙ has) in
         (omega arith, omega arith)
   ]
 

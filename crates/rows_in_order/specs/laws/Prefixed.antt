@@ -6,7 +6,8 @@ use Rattle.std.specs.Ordering.{nat_cmp, is_lt, ordering_then, ordering_reverse}
 use Rattle.std.specs.Cmp.{ranked}
 use Rattle.std.specs.declared.cmp.Ordering.{Ordering}
 use Rattle.std.specs.declared.cmp.Ordering.TheVariants.{Less, Equal, Greater}
-use Rattle.std.proofs.lemmas.Bool.Decides.{nat_tests, Decides-eqb}
+use Rattle.std.proofs.lemmas.Bool.Decides.{Decides-eqb}
+use Rattle.std.proofs.lemmas.Cmp.{tied_itself, nat_cmp_total}
 use Rattle.std.proofs.lemmas.List.{append-nil}
 use Rattle.std.proofs.lemmas.Map.Lookups.{exact_bytes}
 use Rattle.std.proofs.lemmas.Slice.Eq.{starts_is}
@@ -36,10 +37,7 @@ begins_itself bytes = subst (λ (k : List ℕ). begins_with bytes k ≡ true) (a
 after_front : (bytes rest : List ℕ) → bytes ++ rest ≢ bytes → bytes_cmp bytes (bytes ++ rest) ≡ Less
 after_front [] [] ne = absurd (ne refl)
 after_front [] (x ∷ xs) ne = refl
-after_front (b ∷ bs) rest ne = ap (λ (o : Ordering). ordering_then o (bytes_cmp bs (bs ++ rest))) (tied b) ∙ after_front bs rest (λ e. ne (ap (λ (l : List ℕ). b ∷ l) e))
-  where
-    tied : (n : ℕ) → nat_cmp n n ≡ Equal
-    tied n = grind (arith, nat_tests)
+after_front (b ∷ bs) rest ne = ap (λ (o : Ordering). ordering_then o (bytes_cmp bs (bs ++ rest))) (tied_itself nat_cmp_total b) ∙ after_front bs rest (λ e. ne (ap (λ (l : List ℕ). b ∷ l) e))
 
 -- a longer key that begins with these bytes is after them
 pub begins_after : (bytes k : List ℕ) → begins_with bytes k ≡ true → k ≢ bytes → bytes_cmp bytes k ≡ Less

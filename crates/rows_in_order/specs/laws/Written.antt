@@ -1,27 +1,26 @@
 -- What a write changes, and what it leaves alone.
-use Rattle.std.proofs.Common.{◌≡◌, ◌≢◌, ℕ, Bool, true, false, cond, List, refl, sym, ap, ◌∙◌, arith}
-use Rattle.std.specs.Prelude.{Option, ◌==◌, ◌&&◌}
+use Rattle.std.proofs.Common.{◌≡◌, ◌≢◌, ℕ, Bool, true, false, cond, List, [], ◌∷◌, ◌++◌, refl, sym, ap, ◌∙◌, arith}
+use Rattle.std.specs.Prelude.{Option, Some, None, ◌==◌, ◌&&◌}
+use Rattle.std.proofs.lemmas.Bool.{eq-eqb}
 use Rattle.std.proofs.lemmas.Bool.Decides.{nat_tests}
 use Rattle.repl_types.specs.Area.{area_number, same_area}
 use Rattle.repl_types.specs.declared.area.Area.{Area}
 use Rattle.keep_core.specs.Contents.{Contents, Table, same_key, set_key, put_at}
-use Rattle.rows_in_order.specs.laws.Rising.{same_itself, same_is}
+use Rattle.rows_in_order.specs.Rows.{table_of, AllBefore, AllAfter, with_row, without_row}
+use Rattle.rows_in_order.specs.laws.Changed.{table_with, table_without}
+use Rattle.rows_in_order.specs.laws.Rising.{same_itself, same_is, table_push, table_pop}
 
--- a number is itself
-itself : (n : ℕ) → (n == n) ≡ true
-itself n = grind (arith, nat_tests)
-
--- two numbers differ
-differ : (t u : ℕ) → t ≢ u → (t == u) ≡ false
-differ t u ne = grind (arith, nat_tests)
+-- two numbers that differ are told apart
+pub differ_numbers : (t u : ℕ) → t ≢ u → (t == u) ≡ false
+differ_numbers t u ne = grind (arith, nat_tests)
 
 -- the table that is written
 pub put_here : (c : Contents) (a : Area) (t : ℕ) (k : List ℕ) (v : Option (List ℕ)) → put_at c a t k v a t ≡ set_key (c a t) k v
-put_here c a t k v = let new = set_key (c a t) k v in ap (λ (b : Bool). cond (b && (t == t)) new (c a t)) (itself (area_number a)) ∙ ap (λ (b : Bool). cond b new (c a t)) (itself t)
+put_here c a t k v = let new = set_key (c a t) k v in ap (λ (b : Bool). cond (b && (t == t)) new (c a t)) (eq-eqb (area_number a) (area_number a) refl) ∙ ap (λ (b : Bool). cond b new (c a t)) (eq-eqb t t refl)
 
 -- another table of the area
 pub put_other_table : (c : Contents) (a : Area) (t u : ℕ) (k : List ℕ) (v : Option (List ℕ)) → t ≢ u → put_at c a t k v a u ≡ c a u
-put_other_table c a t u k v ne = let new = set_key (c a t) k v in ap (λ (b : Bool). cond (same_area a a && b) new (c a u)) (differ t u ne) ∙ none (same_area a a)
+put_other_table c a t u k v ne = let new = set_key (c a t) k v in ap (λ (b : Bool). cond (same_area a a && b) new (c a u)) (differ_numbers t u ne) ∙ none (same_area a a)
   where
     none : (b : Bool) → cond (b && false) (set_key (c a t) k v) (c a u) ≡ c a u
     none true = refl
@@ -70,3 +69,22 @@ set_same t k v is = λ i q. pick q (same_key k q) refl i
     pick : (q : List ℕ) (b : Bool) → same_key k q ≡ b → set_key t k v q ≡ t q
     pick q true e = ap (λ (c : Bool). cond c v (t q)) e ∙ sym is ∙ ap t (same_is k q e)
     pick q false e = ap (λ (c : Bool). cond c v (t q)) e
+
+-- ---- rows
+
+module _ {A X : Type 0} (key : A → List ℕ) (value : X → List ℕ) (c : Contents) (a : Area) (t : ℕ) where
+  -- what is written where a table of rows stands
+  write_at : (k : List ℕ) (v : Option (List ℕ)) (rows : List (A × X)) → c a t ≡ table_of key value rows → put_at c a t k v a t ≡ set_key (table_of key value rows) k v
+  write_at k v rows is = put_here c a t k v ∙ ap (λ (u : Table). set_key u k v) is
+
+  pub written_put : (row : A × X) (rows : List (A × X)) → c a t ≡ table_of key value rows → put_at c a t (key row.0) (Some (value row.1)) a t ≡ table_of key value (with_row key row rows)
+  written_put row rows is = write_at (key row.0) (Some (value row.1)) rows is ∙ sym (table_with key value row rows)
+
+  pub written_removed : (k : List ℕ) (rows : List (A × X)) → c a t ≡ table_of key value rows → put_at c a t k None a t ≡ table_of key value (without_row key k rows)
+  written_removed k rows is = write_at k None rows is ∙ sym (table_without key value k rows)
+
+  pub written_last : (row : A × X) (rows : List (A × X)) → c a t ≡ table_of key value rows → AllBefore key (key row.0) rows → put_at c a t (key row.0) (Some (value row.1)) a t ≡ table_of key value (rows ++ row ∷ [])
+  written_last row rows is before = write_at (key row.0) (Some (value row.1)) rows is ∙ sym (table_push key value rows row before)
+
+  pub written_first : (row : A × X) (rows : List (A × X)) → c a t ≡ table_of key value (row ∷ rows) → AllAfter key (key row.0) rows → put_at c a t (key row.0) None a t ≡ table_of key value rows
+  written_first row rows is after = write_at (key row.0) None (row ∷ rows) is ∙ table_pop key value row rows after
