@@ -1,5 +1,5 @@
 -- Which log records are applicable after a log.
-use Rattle.std.specs.Prelude.{ℕ, Bool, true, false, ◌&&◌, nat_le, List, [], ◌∷◌, sum_by}
+use Rattle.std.specs.Prelude.{Bool, true, false, ◌&&◌, nat_le, List, [], ◌∷◌, sum_by}
 use Rattle.std.specs.Str.{bytes_eq}
 use Rattle.repl_types.specs.Sizes.{key_limit}
 use Rattle.repl_types.specs.Value.{Values, images, spelled_len}

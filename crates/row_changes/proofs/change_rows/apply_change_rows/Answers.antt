@@ -1,5 +1,4 @@
-use Rattle.std.proofs.Common.{List, [], ◌∷◌, ap, sym, ◌∙◌, append_assoc}
-use Rattle.repl_types.specs.declared.change_row.CdRow.{CdRow}
+use Rattle.std.proofs.Common.{[], ◌∷◌, ap, sym, ◌∙◌, append_assoc}
 use Rattle.repl_model.specs.Tables.{Rows}
 use Rattle.repl_model.specs.ChangeRows.{after_change_rows}
 use Rattle.row_changes.proofs.change_rows.apply_change_rows.Goals as goal
