@@ -57,12 +57,10 @@ pub(crate) trait Nested: Sized + Drop {
 
     /// What joins the two trees below the top, and these trees; None for a leaf.
     fn joined(&self) -> Option<(Self::Joint, &Self, &Self)>
-        ensures {
-            MatchOption result
-                (IsLeaf (top self.now))
-                (λ parts.
-                    nodes self.now ≡ Joined parts.0 ∷ nodes parts.1.now ++ nodes parts.2.now)
-        };
+        ensures { MatchOption result
+            (IsLeaf (top self.now))
+            (λ parts.
+            nodes self.now ≡ Joined parts.0 ∷ nodes parts.1.now ++ nodes parts.2.now) };
 
     /// A copy of a tree that is one leaf.
     fn copy_leaf(&self) -> Result<Self, AllocError>

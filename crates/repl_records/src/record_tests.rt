@@ -5,8 +5,8 @@ ghost use Rattle.row_codec.specs.Spelling.{IsCounted};
 
 use crate::{
     AggregateRow, CaptureState, CdKey, ChangeRow, CopyRow, Decided, Head, HistoryRow, InFlight,
-    InFlightKey, LastNumber, LatestRow, MemberKey, PointRow, RegState, RejectedUnit,
-    SetState, Single, SourceRow, SyncMark, TrailEntry, UnitKey, UowRow,
+    InFlightKey, LastNumber, LatestRow, MemberKey, PointRow, RegState, RejectedUnit, SetState,
+    Single, SourceRow, SyncMark, TrailEntry, UnitKey, UowRow,
 };
 use repl_types::{List, Name, Op, Row, Sequence, SetId, Value};
 use row_codec::{Key, Stored, TakeError};

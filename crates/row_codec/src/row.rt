@@ -8,8 +8,8 @@ ghost use Rattle.row_codec.specs.Takes.{NoSpelling};
 ghost use Rattle.row_codec.specs.Spelling.{IsCounted, IsRow, IsKey, row_spelling, key_spelling};
 ghost use Rattle.row_codec.specs.laws.Values.{one_key, order_key};
 
-use crate::part::{Part, take_whole};
 use crate::key::Key;
+use crate::part::{Part, take_whole};
 use crate::take_error::TakeError;
 use repl_types::{List, Row, Value};
 use std::alloc::{AllocError, Global};
