@@ -149,25 +149,25 @@ fn deep_right(alloc: Global, joint: u8, leaf: u8) -> Result<Vec<u8>, Fail> {
     Ok(bytes)
 }
 
-/// Whether the bytes are an expression's that is put as these bytes again.
+/// Whether the bytes are an expression's of which a copy is put as these bytes again.
 fn is_expr(alloc: Global, bytes: &[u8]) -> Result<bool, Fail> {
     let (expr, rest) = match Expr::take_part(alloc, bytes) {
         Ok(taken) => taken,
         Err(_) => return Ok(false),
     };
     let mut out = Vec::new(alloc);
-    expr.put_part(&mut out)?;
+    expr.clone()?.put_part(&mut out)?;
     Ok(rest.is_empty() && out.as_slice() == bytes)
 }
 
-/// Whether the bytes are a predicate's that is put as these bytes again.
+/// Whether the bytes are a predicate's of which a copy is put as these bytes again.
 fn is_predicate(alloc: Global, bytes: &[u8]) -> Result<bool, Fail> {
     let (predicate, rest) = match Predicate::take_part(alloc, bytes) {
         Ok(taken) => taken,
         Err(_) => return Ok(false),
     };
     let mut out = Vec::new(alloc);
-    predicate.put_part(&mut out)?;
+    predicate.clone()?.put_part(&mut out)?;
     Ok(rest.is_empty() && out.as_slice() == bytes)
 }
 
