@@ -115,7 +115,7 @@ pub(crate) fn take_nested<T: Nested>(alloc: Global, bytes: &[u8]) -> Result<(T, 
     }
 }
 
-/// Puts a tree that is read below the node that waits for it, and so on where that is then a whole
+/// Puts a tree that is read below the node that waits for it, and so on if that is then a whole
 /// tree. It gives the tree if no node is left to wait.
 fn settle<T: Nested>(
     alloc: Global,

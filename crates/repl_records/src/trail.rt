@@ -73,7 +73,7 @@ const LOAD: u8 = 3;
 const SETTLE: u8 = 4;
 
 /// What a set's trail keeps of a step, under its number, which counts from 1. `base` is the point
-/// of base aggregates, where some were read.
+/// of base aggregates, if some were read.
 #[derive(Clone, Copy, Debug, PartialEq, Eq)]
 pub enum TrailEntry {
     Refresh {
@@ -192,7 +192,7 @@ fn put_three(first: u64, second: u64, third: u64, out: &mut Vec<u8>) -> Result<(
     third.put_part(out)
 }
 
-/// The entry of a block from the front of the bytes after its tag, and the bytes after it.
+/// The entry of a block from the start of the bytes after its tag, and the bytes after it.
 #[tactic(auto, using(crate::specs::laws::Trail::only_block))]
 fn take_block(alloc: Global, bytes: &[u8]) -> Result<(TrailEntry, &[u8]), TakeError>
     ensures ok { IfOk result

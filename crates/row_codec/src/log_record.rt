@@ -154,7 +154,7 @@ fn put_row_of(
     row.put_part(out)
 }
 
-/// An update from the front of the bytes after its tag, and the bytes after it.
+/// An update from the start of the bytes after its tag, and the bytes after it.
 fn take_update(alloc: Global, bytes: &[u8]) -> Result<(LogRecord, &[u8]), TakeError>
     ensures ok { IfOk result
         (λ taken. IsLogRecord taken.0 × (18 ∷ bytes.now ≡ log_spelling taken.0 ++ taken.1.now)) }
@@ -169,7 +169,7 @@ fn take_update(alloc: Global, bytes: &[u8]) -> Result<(LogRecord, &[u8]), TakeEr
     Ok((LogRecord::Change { tx, change }, rest))
 }
 
-/// A commit from the front of the bytes after its tag, and the bytes after it.
+/// A commit from the start of the bytes after its tag, and the bytes after it.
 fn take_commit(alloc: Global, bytes: &[u8]) -> Result<(LogRecord, &[u8]), TakeError>
     ensures ok { IfOk result
         (λ taken. IsLogRecord taken.0 × (20 ∷ bytes.now ≡ log_spelling taken.0 ++ taken.1.now)) }

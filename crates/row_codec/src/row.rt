@@ -38,7 +38,7 @@ pub fn put_key(row: &Row, key: &List<u32>, out: &mut Vec<u8>) -> Result<(), Allo
     Ok(())
 }
 
-/// The row whose spelling the bytes are. `Spelling` comes only where they are none.
+/// The row whose spelling the bytes are. `Spelling` comes only if they are none.
 pub fn take_row(alloc: Global, bytes: &[u8]) -> Result<Row, TakeError>
     ensures ok { IfOk result (λ row. IsRow row × (bytes.now ≡ row_spelling row)) }
     ensures spelling { result ≡ Err TakeError.Spelling → NoSpelling IsRow row_spelling bytes.now }
