@@ -15,10 +15,11 @@ expr_layer (expr.Sub left right) = 1 + 2 * left + right
 expr_layer (expr.Mul left right) = 1 + 2 * left + right
 expr_layer (expr.Concat left right) = 1 + 2 * left + right
 
+-- the weight of an expression
 abbrev pub expr_weight : Expr → ℕ
 expr_weight = fold-Expr ℕ expr_layer
 
--- the same of a predicate
+-- the same of a layer of a predicate
 abbrev pub predicate_layer : Predicate-F ℕ → ℕ
 predicate_layer (Compare left op right) = 0
 predicate_layer (IsNull place) = 0
@@ -26,5 +27,6 @@ predicate_layer (IsNotNull place) = 0
 predicate_layer (And left right) = 1 + 2 * left + right
 predicate_layer (Or left right) = 1 + 2 * left + right
 
+-- the weight of a predicate
 abbrev pub predicate_weight : Predicate → ℕ
 predicate_weight = fold-Predicate ℕ predicate_layer

@@ -6,8 +6,7 @@ use std::alloc::Global;
 use std::test::Fail;
 
 /// Whether the bytes are a record's that is put as these bytes again.
-fn is_spelling<T: Stored>(alloc: Global, bytes: &[u8]) -> Result<bool, Fail>
-{
+fn is_spelling<T: Stored>(alloc: Global, bytes: &[u8]) -> Result<bool, Fail> {
     let value = match T::take(alloc, bytes) {
         Ok(value) => value,
         Err(TakeError::Spelling) => return Ok(false),
@@ -27,8 +26,7 @@ fn is_refused<T: Stored>(alloc: Global, bytes: &[u8]) -> bool {
 }
 
 /// Whether the bytes are a record's, and no record's with a byte less or a byte more.
-fn is_whole<T: Stored>(alloc: Global, bytes: &[u8]) -> Result<bool, Fail>
-{
+fn is_whole<T: Stored>(alloc: Global, bytes: &[u8]) -> Result<bool, Fail> {
     let Some((_, front)) = bytes.split_last() else {
         return Ok(false);
     };
@@ -151,25 +149,25 @@ fn deep_right(alloc: Global, joint: u8, leaf: u8) -> Result<Vec<u8>, Fail> {
     Ok(bytes)
 }
 
-/// Whether the bytes are an expression's that is put as these bytes again.
+/// Whether the bytes are an expression's of which a copy is put as these bytes again.
 fn is_expr(alloc: Global, bytes: &[u8]) -> Result<bool, Fail> {
     let (expr, rest) = match Expr::take_part(alloc, bytes) {
         Ok(taken) => taken,
         Err(_) => return Ok(false),
     };
     let mut out = Vec::new(alloc);
-    expr.put_part(&mut out)?;
+    expr.clone()?.put_part(&mut out)?;
     Ok(rest.is_empty() && out.as_slice() == bytes)
 }
 
-/// Whether the bytes are a predicate's that is put as these bytes again.
+/// Whether the bytes are a predicate's of which a copy is put as these bytes again.
 fn is_predicate(alloc: Global, bytes: &[u8]) -> Result<bool, Fail> {
     let (predicate, rest) = match Predicate::take_part(alloc, bytes) {
         Ok(taken) => taken,
         Err(_) => return Ok(false),
     };
     let mut out = Vec::new(alloc);
-    predicate.put_part(&mut out)?;
+    predicate.clone()?.put_part(&mut out)?;
     Ok(rest.is_empty() && out.as_slice() == bytes)
 }
 

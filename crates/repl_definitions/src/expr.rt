@@ -259,10 +259,8 @@ impl Clone for Expr {
         match self {
             Expr::Column(_) | Expr::Int(_) => self.copy_leaf(),
             Expr::Text(_) => self.copy_leaf(),
-            Expr::Add(left, _)
-            | Expr::Sub(left, _)
-            | Expr::Mul(left, _)
-            | Expr::Concat(left, _) => clone_nested::<Expr>(left.allocator(), self),
+            Expr::Add(left, _) | Expr::Sub(left, _) | Expr::Mul(left, _) | Expr::Concat(left, _) =>
+                clone_nested::<Expr>(left.allocator(), self),
         }
     }
 }

@@ -3,9 +3,9 @@
 //!
 //! It stands on `row_codec`, which says what a kind of record is and spells its parts, and the
 //! crates that define and copy sets stand on it. What would be a `Box` in plain Rust is a `Boxed`
-//! here, which a clause sees as its value, so two trees are equal in a clause just where they say
-//! the same. A tree may be nested as deep as a stored value is long, so nothing here recurses on
-//! one.
+//! here, which a clause sees as its value, so two trees are equal in a clause if and only if they
+//! say the same. A tree may be nested as deep as a stored value is long, so reading, writing,
+//! copying and dropping one don't recurse.
 #![tactic(auto)]
 
 mod boxed;

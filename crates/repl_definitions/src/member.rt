@@ -66,8 +66,8 @@ pub enum TargetKind {
     PointInTime,
     BaseAggregate,
     ChangeAggregate,
-    /// A consistent-change-data table: `complete` where it holds rows that never changed,
-    /// `condensed` where it has at most one row a key.
+    /// A consistent-change-data table: `complete` if it holds rows that never changed,
+    /// `condensed` if it has at most one row a key.
     Ccd { complete: bool, condensed: bool },
     Replica,
 }

@@ -57,12 +57,10 @@ pub(crate) trait Nested: Sized + Drop {
 
     /// What joins the two trees below the top, and these trees; None for a leaf.
     fn joined(&self) -> Option<(Self::Joint, &Self, &Self)>
-        ensures {
-            MatchOption result
-                (IsLeaf (top self.now))
-                (λ parts.
-                    nodes self.now ≡ Joined parts.0 ∷ nodes parts.1.now ++ nodes parts.2.now)
-        };
+        ensures { MatchOption result
+            (IsLeaf (top self.now))
+            (λ parts.
+            nodes self.now ≡ Joined parts.0 ∷ nodes parts.1.now ++ nodes parts.2.now) };
 
     /// A copy of a tree that is one leaf.
     fn copy_leaf(&self) -> Result<Self, AllocError>
@@ -117,7 +115,7 @@ pub(crate) fn take_nested<T: Nested>(alloc: Global, bytes: &[u8]) -> Result<(T, 
     }
 }
 
-/// Puts a tree that is read below the node that waits for it, and so on where that is then a whole
+/// Puts a tree that is read below the node that waits for it, and so on if that is then a whole
 /// tree. It gives the tree if no node is left to wait.
 fn settle<T: Nested>(
     alloc: Global,

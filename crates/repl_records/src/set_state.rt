@@ -12,7 +12,7 @@ use repl_types::Area;
 use row_codec::{Part, Stored, Table0, Table1, TakeError, take_five, take_six};
 use std::alloc::{AllocError, Global};
 
-/// How far a set is at its target. Points are positions of the log, and 0 where they are absent.
+/// How far a set is at its target. Points are positions of the log, and 0 if they are absent.
 #[derive(Clone, Copy, Debug, PartialEq, Eq)]
 pub enum SetState {
     /// `synchpoint` is the point of the source that the targets are copies of, `time` that commit's
@@ -119,7 +119,7 @@ fn is_zero_where_absent(state: &SetState) -> bool
     }
 }
 
-/// A state of a set from the front of the bytes, whatever stands in the place of absent points, and
+/// A state of a set from the start of the bytes, whatever stands in the place of absent points, and
 /// the bytes after it.
 #[tactic(auto, using(crate::specs::laws::SetState::only_read_only, crate::specs::laws::SetState::only_replica))]
 fn take_state(alloc: Global, bytes: &[u8]) -> Result<(SetState, &[u8]), TakeError>

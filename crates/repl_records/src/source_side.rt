@@ -101,7 +101,7 @@ impl Stored for InFlight {
     ghost again_stored = { λ _ _ _. tt };
 }
 
-/// The end of a log: its last position, its last commit, 0 where there is none, and that commit's
+/// The end of a log: its last position, its last commit, 0 if there is none, and that commit's
 /// time in seconds.
 #[derive(Clone, Copy, Debug, PartialEq, Eq)]
 pub struct Head {

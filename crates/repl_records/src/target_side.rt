@@ -295,11 +295,9 @@ fn put_recorded(
     out: &mut Vec<u8>,
 ) -> Result<(), AllocError>
     requires { IsCounted row.now }
-    ensures ok {
-        OnOk result
-            (out.new.items
-                ≡ out.old.items ++ recorded_spelling intentseq.now op commitseq time row.now)
-    }
+    ensures ok { OnOk result
+        (out.new.items
+        ≡ out.old.items ++ recorded_spelling intentseq.now op commitseq time row.now) }
     ensures fits { OnOk result (IsRecorded intentseq.now commitseq time row.now) }
 {
     intentseq.put_part(out)?;

@@ -73,7 +73,7 @@ const LOAD: u8 = 3;
 const SETTLE: u8 = 4;
 
 /// What a set's trail keeps of a step, under its number, which counts from 1. `base` is the point
-/// of base aggregates, where some were read.
+/// of base aggregates, if some were read.
 #[derive(Clone, Copy, Debug, PartialEq, Eq)]
 pub enum TrailEntry {
     Refresh {
@@ -185,25 +185,19 @@ impl Part for TrailEntry {
 
 /// Appends three numbers.
 fn put_three(first: u64, second: u64, third: u64, out: &mut Vec<u8>) -> Result<(), AllocError>
-    ensures {
-        OnOk result (out.new.items ≡ out.old.items ++ b64 first ++ b64 second ++ b64 third)
-    }
+    ensures { OnOk result (out.new.items ≡ out.old.items ++ b64 first ++ b64 second ++ b64 third) }
 {
     first.put_part(out)?;
     second.put_part(out)?;
     third.put_part(out)
 }
 
-/// The entry of a block from the front of the bytes after its tag, and the bytes after it.
+/// The entry of a block from the start of the bytes after its tag, and the bytes after it.
 #[tactic(auto, using(crate::specs::laws::Trail::only_block))]
 fn take_block(alloc: Global, bytes: &[u8]) -> Result<(TrailEntry, &[u8]), TakeError>
-    ensures ok {
-        IfOk result
-            (λ taken. IsEntry taken.0 × (2 ∷ bytes.now ≡ entry_spelling taken.0 ++ taken.1.now))
-    }
-    ensures spelling {
-        result ≡ Err TakeError.Spelling → NoFront IsEntry entry_spelling (2 ∷ bytes.now)
-    }
+    ensures ok { IfOk result
+        (λ taken. IsEntry taken.0 × (2 ∷ bytes.now ≡ entry_spelling taken.0 ++ taken.1.now)) }
+    ensures spelling { result ≡ Err TakeError.Spelling → NoFront IsEntry entry_spelling (2 ∷ bytes.now) }
 {
     let (from, to, inserts, updates, deletes, base, rest) = take_six::<
         u64,

@@ -5,7 +5,7 @@ use Rattle.repl_types.specs.declared.table.Kind.TheVariants.{Int, Text}
 use Rattle.repl_types.specs.declared.table.ColumnDef.{ColumnDef}
 use Rattle.repl_types.specs.declared.table.TableDef.{TableDef}
 use Rattle.repl_types.specs.declared.change_row.Registration.{Registration}
-use Rattle.row_codec.specs.Spelling.{Any, b16, b32, Is16, Is32, flag, short_text, IsName, list_spelling, IsCounted, ListFits}
+use Rattle.row_codec.specs.Spelling.{Any, b16, Is16, flag, short_text, IsName, list_spelling, IsCounted, ListFits}
 
 -- ---- places
 

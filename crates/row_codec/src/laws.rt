@@ -47,7 +47,5 @@ pub fn lengths_of_numbers()
 /// values: a value takes at most 2,003 bytes, so two such rows take less than a stored value may.
 pub fn rows_of_64_values_are_storable()
     ensures row { (row : Values) → IsKey row → length row ≤ 64 → IsStorable IsCounted row_spelling row }
-    ensures log_record {
-        (x : LogRecord) → IsLogRecord x → HasShortRows x → IsStorable HasLogSpelling log_spelling x
-    }
+    ensures log_record { (x : LogRecord) → IsLogRecord x → HasShortRows x → IsStorable HasLogSpelling log_spelling x }
 {}

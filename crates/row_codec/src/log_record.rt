@@ -143,11 +143,9 @@ fn put_row_of(
     out: &mut Vec<u8>,
 ) -> Result<(), AllocError>
     requires { IsCounted row.now }
-    ensures ok {
-        OnOk result
-            (out.new.items
-                ≡ out.old.items ++ tag ∷ b32 tx ++ short_text table.now ++ row_spelling row.now)
-    }
+    ensures ok { OnOk result
+        (out.new.items
+        ≡ out.old.items ++ tag ∷ b32 tx ++ short_text table.now ++ row_spelling row.now) }
     ensures fits { OnOk result (Is32 tx × IsName table.now × IsRow row.now) }
 {
     out.push(tag)?;
@@ -156,15 +154,11 @@ fn put_row_of(
     row.put_part(out)
 }
 
-/// An update from the front of the bytes after its tag, and the bytes after it.
+/// An update from the start of the bytes after its tag, and the bytes after it.
 fn take_update(alloc: Global, bytes: &[u8]) -> Result<(LogRecord, &[u8]), TakeError>
-    ensures ok {
-        IfOk result
-            (λ taken. IsLogRecord taken.0 × (18 ∷ bytes.now ≡ log_spelling taken.0 ++ taken.1.now))
-    }
-    ensures spelling {
-        result ≡ Err TakeError.Spelling → NoFront IsLogRecord log_spelling (18 ∷ bytes.now)
-    }
+    ensures ok { IfOk result
+        (λ taken. IsLogRecord taken.0 × (18 ∷ bytes.now ≡ log_spelling taken.0 ++ taken.1.now)) }
+    ensures spelling { result ≡ Err TakeError.Spelling → NoFront IsLogRecord log_spelling (18 ∷ bytes.now) }
 {
     let (tx, table, before, after, rest) = take_four::<u32, Name, Row, Row>(alloc, bytes)?;
     let change = Change::Update {
@@ -175,17 +169,15 @@ fn take_update(alloc: Global, bytes: &[u8]) -> Result<(LogRecord, &[u8]), TakeEr
     Ok((LogRecord::Change { tx, change }, rest))
 }
 
-/// A commit from the front of the bytes after its tag, and the bytes after it.
+/// A commit from the start of the bytes after its tag, and the bytes after it.
 fn take_commit(alloc: Global, bytes: &[u8]) -> Result<(LogRecord, &[u8]), TakeError>
-    ensures ok {
-        IfOk result
-            (λ taken. IsLogRecord taken.0 × (20 ∷ bytes.now ≡ log_spelling taken.0 ++ taken.1.now))
-    }
-    ensures spelling {
-        result ≡ Err TakeError.Spelling → NoFront IsLogRecord log_spelling (20 ∷ bytes.now)
-    }
+    ensures ok { IfOk result
+        (λ taken. IsLogRecord taken.0 × (20 ∷ bytes.now ≡ log_spelling taken.0 ++ taken.1.now)) }
+    ensures spelling { result ≡ Err TakeError.Spelling → NoFront IsLogRecord log_spelling (20 ∷ bytes.now) }
 {
-    let (tx, time, authid, origin, rest) = take_four::<u32, u64, Name, Option<SetId>>(alloc, bytes)?;
+    let (tx, time, authid, origin, rest) = take_four::<u32, u64, Name, Option<SetId>>(
+        alloc, bytes,
+    )?;
     let commit = LogRecord::Commit {
         tx,
         time,

@@ -6,8 +6,7 @@ use std::alloc::Global;
 use std::test::Fail;
 
 /// Whether the bytes are a record's that is put as these bytes again.
-fn is_spelling<T: Stored>(alloc: Global, bytes: &[u8]) -> Result<bool, Fail>
-{
+fn is_spelling<T: Stored>(alloc: Global, bytes: &[u8]) -> Result<bool, Fail> {
     let value = match T::take(alloc, bytes) {
         Ok(value) => value,
         Err(TakeError::Spelling) => return Ok(false),
@@ -27,8 +26,7 @@ fn is_refused<T: Stored>(alloc: Global, bytes: &[u8]) -> bool {
 }
 
 /// Whether the bytes are a record's, and no record's with a byte less or a byte more.
-fn is_whole<T: Stored>(alloc: Global, bytes: &[u8]) -> Result<bool, Fail>
-{
+fn is_whole<T: Stored>(alloc: Global, bytes: &[u8]) -> Result<bool, Fail> {
     let Some((_, front)) = bytes.split_last() else {
         return Ok(false);
     };

@@ -1,4 +1,4 @@
-//! Parts of records, read from the front of bytes.
+//! Parts of records, read from the start of bytes.
 
 ghost use Rattle.std.specs.Prelude.{◌≡◌, ◌++◌, ℕ, List, OnOk, IfOk};
 ghost use Rattle.row_codec.specs.Takes.{NoFront, NoSpelling, One, PairFits, pair_spelling};

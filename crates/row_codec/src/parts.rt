@@ -6,11 +6,8 @@ use crate::part::Part;
 use crate::take_error::TakeError;
 use std::alloc::Global;
 
-/// Two parts from the front of the bytes, and the bytes after them.
-pub fn take_two<A: Part, B: Part>(
-    alloc: Global,
-    bytes: &[u8],
-) -> Result<(A, B, &[u8]), TakeError>
+/// Two parts from the start of the bytes, and the bytes after them.
+pub fn take_two<A: Part, B: Part>(alloc: Global, bytes: &[u8]) -> Result<(A, B, &[u8]), TakeError>
     ensures ok { IfOk result (λ taken. (A.fits taken.0 × B.fits taken.1) × (bytes.now ≡ (A.spelling taken.0 ++ B.spelling taken.1) ++ taken.2.now)) }
     ensures spelling { result ≡ Err TakeError.Spelling → ((a : A) (b : B) (rest : List ℕ) → A.fits a → B.fits b → bytes.now ≢ (A.spelling a ++ B.spelling b) ++ rest) }
 {

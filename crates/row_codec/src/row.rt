@@ -8,8 +8,8 @@ ghost use Rattle.row_codec.specs.Takes.{NoSpelling};
 ghost use Rattle.row_codec.specs.Spelling.{IsCounted, IsRow, IsKey, row_spelling, key_spelling};
 ghost use Rattle.row_codec.specs.laws.Values.{one_key, order_key};
 
-use crate::part::{Part, take_whole};
 use crate::key::Key;
+use crate::part::{Part, take_whole};
 use crate::take_error::TakeError;
 use repl_types::{List, Row, Value};
 use std::alloc::{AllocError, Global};
@@ -38,7 +38,7 @@ pub fn put_key(row: &Row, key: &List<u32>, out: &mut Vec<u8>) -> Result<(), Allo
     Ok(())
 }
 
-/// The row whose spelling the bytes are. `Spelling` comes only where they are none.
+/// The row whose spelling the bytes are. `Spelling` comes only if they are none.
 pub fn take_row(alloc: Global, bytes: &[u8]) -> Result<Row, TakeError>
     ensures ok { IfOk result (λ row. IsRow row × (bytes.now ≡ row_spelling row)) }
     ensures spelling { result ≡ Err TakeError.Spelling → NoSpelling IsRow row_spelling bytes.now }

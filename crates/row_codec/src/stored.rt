@@ -51,9 +51,7 @@ pub trait Stored: Part {
     /// The record whose spelling the bytes are. `Spelling` comes only if they are none.
     final fn take(alloc: Global, bytes: &[u8]) -> Result<Self, TakeError>
         ensures ok { IfOk result (λ value. Self.fits value × (bytes.now ≡ Self.spelling value)) }
-        ensures spelling {
-            result ≡ Err TakeError.Spelling → NoSpelling Self.fits Self.spelling bytes.now
-        }
+        ensures spelling { result ≡ Err TakeError.Spelling → NoSpelling Self.fits Self.spelling bytes.now }
     {
         take_whole::<Self>(alloc, bytes)
     }
@@ -69,9 +67,7 @@ pub trait Stored: Part {
     /// The key whose spelling the bytes are. `Spelling` comes only if they are none.
     final fn take_key(alloc: Global, bytes: &[u8]) -> Result<Self::Key, TakeError>
         ensures ok { IfOk result (λ key. Self.Key.fits key × (bytes.now ≡ Self.Key.spelling key)) }
-        ensures spelling {
-            result ≡ Err TakeError.Spelling → NoSpelling Self.Key.fits Self.Key.spelling bytes.now
-        }
+        ensures spelling { result ≡ Err TakeError.Spelling → NoSpelling Self.Key.fits Self.Key.spelling bytes.now }
     {
         Self::Key::take_key(alloc, bytes)
     }

@@ -46,7 +46,7 @@ pub fn put_text(text: &Text, out: &mut Vec<u8>) -> Result<(), AllocError>
 }
 
 /// The byte of a text that the bytes begin with, and what follows it; None at the end of the text,
-/// and where no byte of a text stands so.
+/// and if the bytes begin with no byte of a text.
 fn next_byte(bytes: &[u8]) -> Option<(u8, &[u8])>
     ensures some { IfSome result (λ next. bytes.now ≡ marked_byte next.0 ++ next.1.now) }
     ensures none { result ≡ None → ((b : ℕ) (after : List ℕ) → bytes.now ≢ marked_byte b ++ after) }
@@ -59,7 +59,7 @@ fn next_byte(bytes: &[u8]) -> Option<(u8, &[u8])>
     }
 }
 
-/// What follows the end of a text, where the bytes begin with one.
+/// What follows the end of a text, if the bytes begin with one.
 fn after_end(bytes: &[u8]) -> Option<&[u8]>
     ensures some { IfSome result (λ rest. bytes.now ≡ 0 ∷ 0 ∷ rest.now) }
     ensures none { result ≡ None → ((rest : List ℕ) → bytes.now ≢ 0 ∷ 0 ∷ rest) }
@@ -87,7 +87,7 @@ fn take_bytes(alloc: Global, bytes: &[u8]) -> Result<(Vec<u8>, &[u8]), TakeError
     }
 }
 
-/// The text of these bytes, where they are one.
+/// The text of these bytes, if they are one.
 fn text_of(bytes: Vec<u8>) -> Option<Text>
     ensures some { IfSome result (λ text. IsText text × (text ≡ bytes.items)) }
     ensures none { result ≡ None → ¬ (IsText bytes.items) }

@@ -105,42 +105,55 @@ top_joined Concat left right = ap layer_top (exprs.outs-Concat left right)
 pub top_column : (p : ℕ) → expr_top (exprs.Column p) ≡ Single (Column p)
 top_column p = top_leaf (Column p)
 
+-- an integer
 pub top_int : (n : ℤ) → expr_top (exprs.Int n) ≡ Single (Int n)
 top_int n = top_leaf (Int n)
 
+-- a text
 pub top_text : (t : List ℕ) → expr_top (exprs.Text t) ≡ Single (Text t)
 top_text t = top_leaf (Text t)
 
+-- a sum
 pub top_add : (left right : Expr) → expr_top (exprs.Add left right) ≡ Joined Add
 top_add = top_joined Add
 
+-- a difference
 pub top_sub : (left right : Expr) → expr_top (exprs.Sub left right) ≡ Joined Sub
 top_sub = top_joined Sub
 
+-- a product
 pub top_mul : (left right : Expr) → expr_top (exprs.Mul left right) ≡ Joined Mul
 top_mul = top_joined Mul
 
+-- texts, joined
 pub top_concat : (left right : Expr) → expr_top (exprs.Concat left right) ≡ Joined Concat
 top_concat = top_joined Concat
 
+-- the nodes of a column
 pub nodes_column : (p : ℕ) → expr_nodes (exprs.Column p) ≡ Single (Column p) ∷ []
 nodes_column p = at_leaf (Column p)
 
+-- of an integer
 pub nodes_int : (n : ℤ) → expr_nodes (exprs.Int n) ≡ Single (Int n) ∷ []
 nodes_int n = at_leaf (Int n)
 
+-- of a text
 pub nodes_text : (t : List ℕ) → expr_nodes (exprs.Text t) ≡ Single (Text t) ∷ []
 nodes_text t = at_leaf (Text t)
 
+-- of a sum
 pub nodes_add : (left right : Expr) → expr_nodes (exprs.Add left right) ≡ Joined Add ∷ expr_nodes left ++ expr_nodes right
 nodes_add = at_joined Add
 
+-- of a difference
 pub nodes_sub : (left right : Expr) → expr_nodes (exprs.Sub left right) ≡ Joined Sub ∷ expr_nodes left ++ expr_nodes right
 nodes_sub = at_joined Sub
 
+-- of a product
 pub nodes_mul : (left right : Expr) → expr_nodes (exprs.Mul left right) ≡ Joined Mul ∷ expr_nodes left ++ expr_nodes right
 nodes_mul = at_joined Mul
 
+-- of texts, joined
 pub nodes_concat : (left right : Expr) → expr_nodes (exprs.Concat left right) ≡ Joined Concat ∷ expr_nodes left ++ expr_nodes right
 nodes_concat = at_joined Concat
 

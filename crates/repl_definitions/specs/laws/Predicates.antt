@@ -117,30 +117,39 @@ top_joined Or left right = ap layer_top (predicates.outs-Or left right)
 pub top_compare : (l : Operand) (o : CompareOp) (r : Operand) → predicate_top (predicates.Compare l o r) ≡ Single (Compare l o r)
 top_compare l o r = top_leaf (Compare l o r)
 
+-- a test for NULL
 pub top_null : (p : ℕ) → predicate_top (predicates.IsNull p) ≡ Single (IsNull p)
 top_null p = top_leaf (IsNull p)
 
+-- a test for a value
 pub top_not_null : (p : ℕ) → predicate_top (predicates.IsNotNull p) ≡ Single (IsNotNull p)
 top_not_null p = top_leaf (IsNotNull p)
 
+-- a conjunction
 pub top_and : (left right : Predicate) → predicate_top (predicates.And left right) ≡ Joined And
 top_and = top_joined And
 
+-- a disjunction
 pub top_or : (left right : Predicate) → predicate_top (predicates.Or left right) ≡ Joined Or
 top_or = top_joined Or
 
+-- the nodes of a comparison
 pub nodes_compare : (l : Operand) (o : CompareOp) (r : Operand) → predicate_nodes (predicates.Compare l o r) ≡ Single (Compare l o r) ∷ []
 nodes_compare l o r = at_leaf (Compare l o r)
 
+-- of a test for NULL
 pub nodes_null : (p : ℕ) → predicate_nodes (predicates.IsNull p) ≡ Single (IsNull p) ∷ []
 nodes_null p = at_leaf (IsNull p)
 
+-- of a test for a value
 pub nodes_not_null : (p : ℕ) → predicate_nodes (predicates.IsNotNull p) ≡ Single (IsNotNull p) ∷ []
 nodes_not_null p = at_leaf (IsNotNull p)
 
+-- of a conjunction
 pub nodes_and : (left right : Predicate) → predicate_nodes (predicates.And left right) ≡ Joined And ∷ predicate_nodes left ++ predicate_nodes right
 nodes_and = at_joined And
 
+-- of a disjunction
 pub nodes_or : (left right : Predicate) → predicate_nodes (predicates.Or left right) ≡ Joined Or ∷ predicate_nodes left ++ predicate_nodes right
 nodes_or = at_joined Or
 

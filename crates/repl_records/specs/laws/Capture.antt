@@ -1,5 +1,5 @@
 -- Proofs about the spellings of what capture keeps. There is nothing to believe here.
-use Rattle.std.proofs.Common.{◌≡◌, ℕ, ◌≤◌, Bool, true, false, List, length, ◌++◌, Option, Some, None, refl, ap, arith, length-append}
+use Rattle.std.proofs.Common.{◌≡◌, ℕ, Bool, List, length, ◌++◌, Option, refl, ap, arith, length-append}
 use Rattle.repl_types.specs.Sizes.{IsValueSize}
 use Rattle.repl_types.specs.declared.change_row.Op.{Op}
 use Rattle.repl_types.specs.declared.record.SetId.{SetId}
@@ -11,7 +11,7 @@ use Rattle.repl_records.specs.declared.capture.RegState.{RegState}
 use Rattle.repl_records.specs.Capture.{change_row_spelling, IsChangeRow, HasChangeRowSpelling, IsCode, uow_spelling, IsUow, HasUowSpelling, capture_spelling, IsCapture, registration_state_spelling, IsRegistrationState}
 use Rattle.repl_records.specs.laws.Numbers.{one_three_numbers}
 use Rattle.row_codec.specs.Spelling.{Any, b8, b64, flag, short_text, origin}
-use Rattle.row_codec.specs.Takes.{One, PairFits, pair_spelling}
+use Rattle.row_codec.specs.Takes.{One}
 use Rattle.row_codec.specs.laws.Names.{one_name, one_op, one_origin}
 use Rattle.row_codec.specs.laws.Numbers.{length64, one64, one_flag}
 use Rattle.row_codec.specs.laws.Ones.{one_by, one_pair}

@@ -4,16 +4,14 @@ use Rattle.std.proofs.Common.{ℕ, Bool, List, drop, refl, ap}
 use Rattle.repl_types.specs.declared.table.Kind.{Kind}
 use Rattle.repl_types.specs.declared.table.Kind.TheVariants.{Int, Text}
 use Rattle.repl_types.specs.declared.table.ColumnDef.{ColumnDef}
-use Rattle.repl_types.specs.declared.table.TableDef.{TableDef}
-use Rattle.repl_types.specs.declared.change_row.Registration.{Registration}
 use Rattle.row_codec.specs.laws.Tags.{other_tag}
 use Rattle.row_codec.specs.Takes.{One, PairFits, pair_spelling}
 use Rattle.row_codec.specs.laws.Ones.{one_by}
 use Rattle.row_codec.specs.laws.Ones.{one_pair}
-use Rattle.row_codec.specs.laws.Numbers.{one16, one32, one_flag}
+use Rattle.row_codec.specs.laws.Numbers.{one16, one_flag}
 use Rattle.row_codec.specs.laws.Names.{one_name}
 use Rattle.row_codec.specs.laws.Values.{one_list}
-use Rattle.row_codec.specs.Spelling.{Any, b16, b32, Is16, Is32, flag, short_text, IsName, list_spelling, ListFits}
+use Rattle.row_codec.specs.Spelling.{Any, b16, Is16, flag, short_text, IsName, list_spelling, ListFits}
 use Rattle.row_codec.specs.Definitions.{places_spelling, ArePlaces, kind_spelling, column_spelling, IsColumn, table_spelling, IsTable, registration_spelling, IsRegistration}
 
 -- lists of places

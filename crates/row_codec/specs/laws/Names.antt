@@ -3,7 +3,6 @@
 use Rattle.std.proofs.Common.{◌≡◌, ℕ, List, ◌++◌, length, drop, Some, None, refl, ap}
 use Rattle.repl_types.specs.declared.change_row.Op.TheVariants.{I, U, D}
 use Rattle.repl_types.specs.declared.record.SetId.{SetId}
-use Rattle.repl_types.specs.declared.sequence.Sequence.{Sequence}
 use Rattle.row_codec.specs.Takes.{One, PairFits, pair_spelling}
 use Rattle.row_codec.specs.Spelling.{Any, Is16, Is64, IsName, IsSet, IsOrigin, IsSequence, OptionFits, b16, b64, short_text, set_spelling, origin, option_spelling, sequence_spelling, op_spelling}
 use Rattle.row_codec.specs.laws.Numbers.{first_is, fronts, one16, one64}

@@ -31,7 +31,7 @@ ranks_then m q r p s Equal Less lr ls ec ed = nat_cmp_is (m * q + r) (m * p + s)
 ranks_then m q r p s Equal Equal lr ls ec ed = nat_cmp_is (m * q + r) (m * p + s) Equal (let h : m * q ≡ m * p = ap (λ (n : ℕ). m * n) (ranked q p Equal ec) in let k : r ≡ s = ranked r s Equal ed in omega arith)
 ranks_then m q r p s Equal Greater lr ls ec ed = nat_cmp_is (m * q + r) (m * p + s) Greater (let h : m * q ≡ m * p = ap (λ (n : ℕ). m * n) (ranked q p Equal ec) in let k : s < r = ranked r s Greater ed in omega arith)
 
--- one more byte in front of what is compared already
+-- one more byte before what is compared already
 more : (m q r p s x y : ℕ) (rest z : Ordering) → x ≡ m * q + r → y ≡ m * p + s → r < m → s < m → rest ≡ ordering_then (nat_cmp r s) z → ordering_then (nat_cmp q p) rest ≡ ordering_then (nat_cmp x y) z
 more m q r p s x y rest z ex ey lr ls e =
     let mixed : ordering_then (nat_cmp q p) (nat_cmp r s) ≡ nat_cmp x y = ranks_then m q r p s _ _ lr ls refl refl ∙ ap (λ (n : ℕ). nat_cmp n (m * p + s)) (sym ex) ∙ ap (nat_cmp x) (sym ey) in

@@ -132,7 +132,7 @@ one_value x y a b fx fy e =
 
 -- ---- keys
 
--- a spelling is no front of nothing
+-- the empty list comes before the spelling of each value
 value_first : (v : Value) (x : List ℕ) → (bytes_cmp [] (value_spelling v ++ x) ≡ Less) × (bytes_cmp (value_spelling v ++ x) [] ≡ Greater)
 value_first Null x = (refl, refl)
 value_first (Int n) x = (refl, refl)
