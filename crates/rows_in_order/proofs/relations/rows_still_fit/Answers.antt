@@ -1,4 +1,4 @@
-use Rattle.rows_in_order.proofs.Fitting.{fits_put, fits_removed, fits_between, fits_prefix}
+use Rattle.rows_in_order.specs.laws.Fitting.{fits_put, fits_removed, fits_between, fits_prefix}
 use Rattle.rows_in_order.proofs.relations.rows_still_fit.Goals as goal
 
 pub returns-clause-put : goal.returns-clause-put

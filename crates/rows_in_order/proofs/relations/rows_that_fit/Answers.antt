@@ -1,4 +1,4 @@
-use Rattle.rows_in_order.proofs.Fitting.{fits_each, fits_told, fits_found, fits_next, fits_same}
+use Rattle.rows_in_order.specs.laws.Fitting.{fits_each, fits_told, fits_found, fits_next, fits_same}
 use Rattle.rows_in_order.proofs.relations.rows_that_fit.Goals as goal
 
 pub returns-clause-has : goal.returns-clause-has
