@@ -5,8 +5,9 @@ ghost use Rattle.keep_map.specs.Keepers.{kept_of};
 ghost use Rattle.site_store.specs.Views.{names, work, IsOpenAt, IsClosedAt};
 
 use crate::{Site, Sites};
+use faults::Fault;
 use keep_map::MapKeeper;
-use repl_records::{CopyRow, Fault};
+use repl_records::CopyRow;
 use repl_types::{KEY_LIMIT, List, Name, Row, Text, Value};
 use row_codec::Key;
 use std::alloc::{AllocError, Global};

@@ -1,21 +1,18 @@
 //! Which lists are servers, and records that come and go through a keeper of one slot.
 
-ghost use Rattle.std.specs.Prelude.{Some, None, ◌^◌, ◌-◌, if◌then◌else◌, [], ◌∷◌, refl};
+ghost use Rattle.std.specs.Prelude.{Some, None, ◌^◌, ◌-◌, if◌then◌else◌};
 ghost use Rattle.std.proofs.Common.{ap};
-ghost use Rattle.std.specs.declared.cmp.Ordering.TheVariants.{Equal};
 ghost use Rattle.repl_types.specs.declared.area.Area.TheVariants.{Capture};
 ghost use Rattle.row_codec.specs.Spelling.{b64, Is64, Any};
-ghost use Rattle.row_codec.specs.Numbers.{one64};
-ghost use Rattle.row_codec.specs.Takes.{one_by};
+ghost use Rattle.row_codec.specs.laws.Sizes.{value64};
+ghost use Rattle.row_codec.specs.laws.Numbers.{one64};
+ghost use Rattle.row_codec.specs.laws.Ones.{one_by};
 
-use crate::{
-    Site, Sites, SitesError, key_bytes_in_order, next_of_rows, row_after_all, row_at_key,
-    row_before_all, rows_between,
-};
+use crate::{Site, Sites, SitesError};
+use faults::Fault;
 use keep_core::{KeepError, Keeper};
-use repl_records::Fault;
 use repl_types::{Area, DamageCause, List, Name, VALUE_LIMIT};
-use row_codec::{Key, Part, Stored, TakeError};
+use row_codec::{Part, Stored, Table0, TakeError};
 use std::alloc::{AllocError, Global};
 use std::test::Fail;
 
@@ -89,38 +86,7 @@ impl Keeper for Slot {
     }
 }
 
-/// The key of a record that stands alone.
-struct Only {}
-
-impl Drop for Only {
-    fn drop(self) {
-        let Only {} = self;
-    }
-}
-
-impl Key for Only {
-    ghost fits = { Any };
-
-    ghost spelling = { λ x. 0 ∷ [] };
-
-    ghost cmp = { λ x y. Equal };
-
-    ghost one = { λ x y fx fy e. refl };
-
-    ghost order = { λ x y fx fy. refl };
-
-    fn put_key(&self, out: &mut Vec<u8>) -> Result<(), AllocError> {
-        Ok(out.push(0)?)
-    }
-
-    fn take_key(_: Global, bytes: &[u8]) -> Result<Only, TakeError> {
-        match bytes {
-            [0] => Ok(Only {}),
-            _ => Err(TakeError::Spelling),
-        }
-    }
-}
-
+/// A count, under 0.
 #[derive(Clone, Copy, Debug, PartialEq, Eq)]
 struct Count {
     count: u64,
@@ -135,6 +101,8 @@ impl Part for Count {
 
     ghost one = { one_by Is64 b64 (λ x. Is64 x.count) (λ x. x.count) (λ x y e. ap (λ n. record { count = n }) e) (λ x fits. fits) one64 };
 
+    ghost again = { λ _ _. tt };
+
     fn put_part(&self, out: &mut Vec<u8>) -> Result<(), AllocError> {
         self.count.put_part(out)
     }
@@ -146,11 +114,21 @@ impl Part for Count {
 }
 
 impl Stored for Count {
-    type Key = Only;
+    type Key = u64;
+
+    type Table = Table0;
 
     const AREA: Area = Area::Capture;
 
     ghost AREA = { Capture };
+
+    ghost storable = { Any };
+
+    ghost spelled = { λ _ _. tt };
+
+    ghost sized = { λ x _ _. value64 x.count };
+
+    ghost again_stored = { λ _ _ _. tt };
 }
 
 /// Servers of these names; None without memory, and where a name is none.
@@ -221,9 +199,9 @@ fn a_record_comes_back(rt: HostRuntime) -> Result<(), Fail> {
     let mut site = site_with(rt.alloc(), &[]).expect(&rt, "memory");
     site.rollback();
     site.begin()?;
-    site.put::<Count>(rt.alloc(), 0, &Only {}, &Count { count: 258 })?;
+    site.put::<Count>(rt.alloc(), Table0, &0, &Count { count: 258 })?;
     site.commit()?;
-    let found = site.get::<Count>(rt.alloc(), 0, &Only {})?;
+    let found = site.get::<Count>(rt.alloc(), Table0, &0)?;
     assert_eq!(rt; found, Some(Count { count: 258 }));
     let keeper = site.into_keeper();
     assert_eq!(rt;
@@ -236,7 +214,7 @@ fn a_record_comes_back(rt: HostRuntime) -> Result<(), Fail> {
 #[test]
 fn damage_shows_its_bytes(rt: HostRuntime) {
     let mut site = site_with(rt.alloc(), &[1, 2, 3]).expect(&rt, "memory");
-    match site.get::<Count>(rt.alloc(), 0, &Only {}) {
+    match site.get::<Count>(rt.alloc(), Table0, &0) {
         Err(
             Fault::Damaged {
                 server,
@@ -259,11 +237,11 @@ fn a_record_comes_back_from_its_server(rt: HostRuntime) -> Result<(), Fail> {
     assert_eq!(rt; sites.len(), 2);
     sites.rollback_all();
     sites.begin(1)?;
-    sites.put::<Count>(rt.alloc(), 1, 0, &Only {}, &Count { count: 7 })?;
+    sites.put::<Count>(rt.alloc(), 1, Table0, &0, &Count { count: 7 })?;
     sites.commit(1)?;
-    let found = sites.get::<Count>(rt.alloc(), 1, 0, &Only {})?;
+    let found = sites.get::<Count>(rt.alloc(), 1, Table0, &0)?;
     assert_eq!(rt; found, Some(Count { count: 7 }));
-    assert!(rt; sites.next::<Count>(rt.alloc(), 1, 0, None)?.is_none());
+    assert!(rt; sites.next::<Count>(rt.alloc(), 1, Table0, None)?.is_none());
     Ok(())
 }
 
@@ -289,7 +267,7 @@ fn servers_are_given_back(rt: HostRuntime) -> Result<(), Fail> {
     assert_eq!(rt; sites.len(), 2);
     sites.rollback_all();
     sites.begin(0)?;
-    assert!(rt; !sites.remove::<Count>(rt.alloc(), 0, 0, &Only {})?);
+    assert!(rt; !sites.remove::<Count>(rt.alloc(), 0, Table0, &0)?);
     sites.rollback(0);
     assert_eq!(rt; sites.name(1).as_str(), "shop");
     assert_eq!(rt; sites.into_list().len(), 2);
@@ -297,11 +275,46 @@ fn servers_are_given_back(rt: HostRuntime) -> Result<(), Fail> {
 }
 
 #[test]
-fn laws_are_called(_: HostRuntime) {
-    key_bytes_in_order();
-    next_of_rows::<u64, u64>();
-    rows_between::<u64, u64>();
-    row_after_all::<u64, u64>();
-    row_before_all::<u64, u64>();
-    row_at_key::<u64, u64>();
+fn a_missing_record_is_its_first_state_or_damage(rt: HostRuntime) -> Result<(), Fail> {
+    let sites = sites_of(rt.alloc(), &["hq", "shop"]).expect(&rt, "memory");
+    let mut sites = sites.expect(&rt, "servers");
+    assert_eq!(rt; sites.len(), 2);
+    let first = Count { count: 5 };
+    let state = sites.get_state::<Count>(rt.alloc(), 1, Table0, &0, first)?;
+    assert_eq!(rt; state, Count { count: 5 });
+    let Err(fault) = sites.get_needed::<Count>(rt.alloc(), 1, Table0, &258) else {
+        assert!(rt; false);
+        return Ok(());
+    };
+    match &fault {
+        Fault::Damaged {
+            server,
+            area,
+            cause: DamageCause::Absent(key),
+        } => {
+            assert_eq!(rt; (*server, *area), (1, Area::Capture));
+            assert_eq!(rt; key.as_slice(), [0, 0, 0, 0, 0, 0, 1, 2].as_slice());
+        }
+        _ => assert!(rt; false),
+    }
+    Ok(())
+}
+
+#[test]
+fn an_unfit_record_shows_its_bytes(rt: HostRuntime) -> Result<(), Fail> {
+    let sites = sites_of(rt.alloc(), &["hq", "shop"]).expect(&rt, "memory");
+    let mut sites = sites.expect(&rt, "servers");
+    let fault = sites.unfit(rt.alloc(), 1, &Count { count: 258 });
+    match &fault {
+        Fault::Damaged {
+            server,
+            area,
+            cause: DamageCause::Unfit(bytes),
+        } => {
+            assert_eq!(rt; (*server, *area), (1, Area::Capture));
+            assert_eq!(rt; bytes.as_slice(), [0, 0, 0, 0, 0, 0, 1, 2].as_slice());
+        }
+        _ => assert!(rt; false),
+    }
+    Ok(())
 }

@@ -6,7 +6,8 @@ ghost use Rattle.repl_types.specs.declared.area.Area.TheVariants.{Log, Target, C
 ghost use Rattle.row_codec.specs.Spelling.{b64, Is64, Any};
 ghost use Rattle.row_codec.specs.laws.Numbers.{one64};
 ghost use Rattle.row_codec.specs.laws.Ones.{one_by};
-ghost use Rattle.two_areas.specs.laws.Sizes.{value64};
+ghost use Rattle.row_codec.specs.laws.Sizes.{value64};
+
 
 use repl_types::Area;
 use row_codec::{Part, Stored, Table0, TakeError};

@@ -1,7 +1,7 @@
 -- Proofs of how many bytes numbers, names and keys take. There is nothing to believe here.
 use Rattle.std.proofs.Common.{◌≡◌, ℕ, ◌<◌, ◌≤◌, Bool, true, false, List, [], ◌∷◌, length, Option, Some, None, refl, arith, length-append}
 use Rattle.std.proofs.lemmas.Bool.{and_parts, leb-true}
-use Rattle.repl_types.specs.Sizes.{IsKeySize}
+use Rattle.repl_types.specs.Sizes.{IsKeySize, IsValueSize}
 use Rattle.repl_types.specs.declared.record.SetId.{SetId}
 use Rattle.row_codec.specs.Spelling.{Is32, Is64, IsName, IsSet, IsOrigin, b32, b64, flag, short_text, set_spelling, origin}
 use Rattle.row_codec.specs.laws.Numbers.{length32, length64}
@@ -17,6 +17,10 @@ key32 n fits = key_size (b32 n) (omega (arith, length32 n)) (omega (arith, lengt
 -- numbers of eight bytes
 pub key64 : (n : ℕ) → Is64 n → IsKeySize (b64 n)
 key64 n fits = key_size (b64 n) (omega (arith, length64 n)) (omega (arith, length64 n))
+
+-- they may be a value too
+pub value64 : (n : ℕ) → IsValueSize (b64 n)
+value64 n = omega (arith, length64 n)
 
 -- a name has at most 32 bytes
 pub name_length : (name : List ℕ) → IsName name → length name ≤ 32
