@@ -1,8 +1,7 @@
 -- A call of one server's keeper, as all servers see it.
-use Rattle.std.proofs.Common.{◌≡◌, ℕ, ◌-◌, ◌^◌, ◌<◌, ◌≤◌, List, length, get_or, refl, sym, ap, subst, ◌∙◌, arith, inl, inr}
-use Rattle.std.specs.Prelude.{◌⊎◌, Option, Some, None, IsSome}
+use Rattle.std.proofs.Common.{◌≡◌, ℕ, ◌<◌, ◌≤◌, List, length, get_or, refl, sym, ap, subst, ◌∙◌, arith, inl, inr}
+use Rattle.std.specs.Prelude.{Option, Some, None, IsSome}
 use Rattle.std.specs.Option.{option_map}
-use Rattle.std.proofs.Math.ListN.{set}
 use Rattle.std.specs.Vec.{with_item}
 use Rattle.std.proofs.lemmas.List.{length-map}
 use Rattle.repl_types.specs.declared.area.Area.{Area}
@@ -10,15 +9,15 @@ use Rattle.repl_types.specs.declared.status.DamageCause.{DamageCause}
 use Rattle.faults.specs.declared.fault.Fault.{Fault}
 use Rattle.faults.specs.declared.fault.Fault.TheVariants as faults
 use Rattle.keep_core.specs.Contents.{Contents, put_at}
-use Rattle.keep_core.specs.Kept.{Kept, Closes, seen_of, seen, opened, committed, after_read, after_write, changed, counted}
+use Rattle.keep_core.specs.Kept.{Kept, Closes, seen_of, seen, opened, committed, after_read, after_write, changed}
 use Rattle.keep_core.specs.Told.{Rises}
 use Rattle.site_store.specs.declared.site.Site.{Site}
 use Rattle.site_store.specs.declared.sites.Sites.{Sites}
 use Rattle.site_store.specs.Records.{NoDamage, BlamesOne, Halts, MayHalt}
-use Rattle.site_store.specs.Servers.{AreServers, AllClosed, names_of, held_of, work_of, faults_of, reads_of, writes_of}
+use Rattle.site_store.specs.Servers.{AreServers, AllClosed, names_of}
 use Rattle.site_store.specs.Views.{names, held, work, fault_counts, reads_in, writes_in, sees}
-use Rattle.site_store.specs.Calls.{Bounds, no_access, both, reads_of_one, writes_of_one, Passes, Stays, Reads, Puts, Begins, ClosesOne, ClosesAll, Commits, AtServer, Blames, Fails, InDoubt}
-use Rattle.site_store.specs.laws.Counts.{IsAtMost, passes_then}
+use Rattle.site_store.specs.Calls.{Bounds, no_access, reads_of_one, writes_of_one, Passes, Reads, Puts, Begins, ClosesOne, ClosesAll, Commits, AtServer, Blames, Fails, InDoubt}
+use Rattle.site_store.specs.laws.Counts.{passes_then}
 use Rattle.site_store.specs.laws.Transactions.{works_set}
 use Rattle.site_store.proofs.Replaced.{swapped, names_stay, stays, becomes, had, has, none_fell, none_back, within}
 use Rattle.site_store.proofs.Counting.{Counts, rises_later, counted_rises, counts_none, counts_read, counts_written, counts_halted}

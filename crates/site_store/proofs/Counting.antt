@@ -1,11 +1,11 @@
 -- What one call of a keeper makes of its counts.
-use Rattle.std.proofs.Common.{◌≡◌, ℕ, ◌+◌, ◌-◌, ◌^◌, ◌<◌, ◌≤◌, Bool, true, false, cond, sym, ap, subst, ◌∙◌, arith, inl, inr, eq-eqb, refl}
+use Rattle.std.proofs.Common.{◌≡◌, ℕ, ◌+◌, ◌-◌, ◌^◌, ◌<◌, ◌≤◌, Bool, true, false, cond, sym, ap, subst, arith, inl, inr, eq-eqb, refl}
 use Rattle.std.specs.Prelude.{min, ◌==◌, ◌&&◌}
 use Rattle.repl_types.specs.declared.area.Area.{Area}
 use Rattle.repl_types.specs.Area.{same_area, area_number}
 use Rattle.faults.specs.declared.fault.Fault.{Fault}
 use Rattle.repl_types.specs.declared.status.DamageCause.{DamageCause}
-use Rattle.keep_core.specs.Kept.{Kept, counted, after_read, after_write}
+use Rattle.keep_core.specs.Kept.{Kept, counted}
 use Rattle.keep_core.specs.Told.{Rises}
 use Rattle.site_store.specs.Calls.{Bounds, only, no_access, reads_of_one, writes_of_one}
 use Rattle.site_store.specs.Records.{Halts}

@@ -1,5 +1,5 @@
 -- Numbers are copied inside a transaction.
-use Rattle.std.proofs.Common.{◌≡◌, ◌≢◌, ℕ, zero, suc, ◌+◌, ◌^◌, ◌<◌, ◌≤◌, Bool, true, false, cond, List, [], ◌∷◌, ◌++◌, length, get_or, refl, sym, ap, subst, ◌∙◌, arith, inl, inr}
+use Rattle.std.proofs.Common.{◌≡◌, ◌≢◌, ℕ, zero, suc, ◌+◌, ◌^◌, ◌<◌, ◌≤◌, Bool, true, false, cond, List, length, get_or, refl, sym, ap, subst, ◌∙◌, arith}
 use Rattle.std.specs.Prelude.{Option, Some, None, IfSome, take, min, ◌==◌, ◌&&◌}
 use Rattle.std.specs.List.{enumerate_from}
 use Rattle.std.proofs.lemmas.Bool.Decides.{nat_tests}
@@ -10,7 +10,7 @@ use Rattle.repl_types.specs.declared.area.Area.TheVariants as areas
 use Rattle.faults.specs.declared.fault.Fault.{Fault}
 use Rattle.keep_core.specs.Contents.{Contents, Table, IsNext, IsLast, set_key, with_table, put_at}
 use Rattle.keep_core.specs.Kept.{Kept, seen_of}
-use Rattle.row_codec.specs.Spelling.{b64, Is64}
+use Rattle.row_codec.specs.Spelling.{b64}
 use Rattle.rows_in_order.specs.Rows.{table_of}
 use Rattle.rows_in_order.specs.laws.Numbered.{numbered_at, numbered_next, numbered_last, numbered_push}
 use Rattle.site_store.specs.declared.sites.Sites.{Sites}

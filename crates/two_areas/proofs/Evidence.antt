@@ -1,26 +1,25 @@
 -- What the tables have is spelt, and what is misread is damage by the rules.
-use Rattle.std.proofs.Common.{◌≡◌, ◌≢◌, ℕ, zero, suc, ◌+◌, ◌^◌, ◌<◌, ◌≤◌, Bool, true, false, cond, List, [], ◌∷◌, ◌++◌, length, refl, sym, ap, subst, ◌∙◌, arith}
-use Rattle.std.specs.Prelude.{Option, Some, None, IfSome, take}
+use Rattle.std.proofs.Common.{◌≡◌, ℕ, zero, suc, ◌+◌, ◌^◌, ◌<◌, ◌≤◌, Bool, true, false, cond, List, [], ◌∷◌, ◌++◌, length, refl, sym, ap, subst, ◌∙◌, arith}
+use Rattle.std.specs.Prelude.{Option, Some, None, take}
 use Rattle.std.specs.List.{AllByRecursion, enumerate_from}
 use Rattle.std.proofs.lemmas.List.{length-take-le}
 use Rattle.repl_types.specs.declared.area.Area.{Area}
 use Rattle.repl_types.specs.declared.area.Area.TheVariants as areas
-use Rattle.repl_types.specs.declared.status.DamageCause.{DamageCause}
 use Rattle.repl_types.specs.declared.status.DamageCause.TheVariants as causes
 use Rattle.keep_core.specs.Contents.{Contents, Table, same_key}
 use Rattle.row_codec.specs.Spelling.{b64, Is64}
 use Rattle.row_codec.specs.laws.Orders.{order64, whole_order}
 use Rattle.std.specs.Ordering.{nat_cmp}
 use Rattle.rows_in_order.specs.Numbers.{SpellsInOrder}
-use Rattle.rows_in_order.specs.Rows.{table_of, HasRow}
+use Rattle.rows_in_order.specs.Rows.{table_of}
 use Rattle.rows_in_order.specs.laws.Rising.{same_is}
 use Rattle.rows_in_order.specs.laws.Found.{row_of}
 use Rattle.site_store.specs.Records.{or_first}
-use Rattle.site_store.specs.Damage.{Rules, Shows, IsSpelt, IsUndamaged, AddsOnlySpelt, ShownBefore}
+use Rattle.site_store.specs.Damage.{IsSpelt, IsUndamaged, AddsOnlySpelt, ShownBefore}
 use Rattle.site_store.specs.laws.Damage.{spelt_shows_none, misspelt_before}
 use Rattle.two_areas.specs.declared.records.Number.{Number}
 use Rattle.two_areas.specs.declared.records.Taken.{Taken}
-use Rattle.two_areas.specs.World.{World, IsSound, numbered, source_tables, target_tables, with_count, shown, Shows as ShowsTables, IsNumber, only_numbers, rules}
+use Rattle.two_areas.specs.World.{World, IsSound, source_tables, target_tables, with_count, shown, IsNumber, rules}
 
 -- spelled numbers lie in the order of the numbers
 pub in_order : SpellsInOrder b64 (2 ^ 64)

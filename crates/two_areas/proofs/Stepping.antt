@@ -1,6 +1,6 @@
 -- A step copies numbers and counts them in one commit.
-use Rattle.std.proofs.Common.{◌≡◌, ◌≢◌, ℕ, zero, suc, ◌+◌, ◌^◌, ◌<◌, ◌≤◌, Bool, true, false, cond, List, [], ◌∷◌, length, get_or, refl, sym, ap, subst, ◌∙◌, arith, inl, inr}
-use Rattle.std.specs.Prelude.{Result, Ok, Err, OnErr, Option, Some, None, IfSome, take, min, ◌==◌, ◌⊎◌}
+use Rattle.std.proofs.Common.{◌≡◌, ◌≢◌, ℕ, zero, suc, ◌+◌, ◌^◌, ◌<◌, Bool, true, false, cond, List, [], ◌∷◌, length, get_or, refl, sym, ap, subst, ◌∙◌, arith, inl, inr}
+use Rattle.std.specs.Prelude.{Result, Ok, Err, OnErr, Option, Some, None, IfSome, take, min, ◌==◌}
 use Rattle.std.proofs.Math.ListN.{set}
 use Rattle.std.proofs.lemmas.Bool.Decides.{nat_tests}
 use Rattle.std.proofs.lemmas.List.{get_or-set_same, get_or-set_other, length-map, length-set}
@@ -21,10 +21,10 @@ use Rattle.site_store.specs.Views.{names, held, work, sees}
 use Rattle.site_store.specs.Works.{Works, Sets}
 use Rattle.site_store.specs.Calls.{reads_of_one, no_access, both, Reads, Begins, Puts, Blames, Fails}
 use Rattle.site_store.specs.Damage.{Damages, IsUndamaged, IsNoDamage}
-use Rattle.site_store.specs.laws.Counts.{IsAtMost, at_most_itself}
+use Rattle.site_store.specs.laws.Counts.{at_most_itself}
 use Rattle.site_store.specs.laws.Transactions.{works_then, seen_held, took}
 use Rattle.site_store.specs.laws.Damage.{no_damage, fails_after, fails_begun}
-use Rattle.two_areas.specs.World.{World, IsSound, copied, numbered, source_tables, target_tables, with_count, shown, Shows, Stands, StandsAfter, OneOf, rules, Copies, in_loop, CopiesOn}
+use Rattle.two_areas.specs.World.{World, copied, numbered, source_tables, target_tables, with_count, shown, Shows, Stands, OneOf, rules, Copies, in_loop, CopiesOn}
 use Rattle.two_areas.proofs.Evidence.{source_spelt, target_spelt, undamaged}
 
 -- what holds anyway holds of an error

@@ -1,10 +1,10 @@
 -- A run of steps, one after another.
-use Rattle.std.proofs.Common.{◌≡◌, ℕ, zero, suc, ◌+◌, ◌-◌, ◌<◌, ◌≤◌, List, [], ◌∷◌, ◌++◌, refl, ap, subst, ◌∙◌, arith}
+use Rattle.std.proofs.Common.{◌≡◌, ℕ, suc, ◌+◌, ◌-◌, ◌<◌, ◌≤◌, List, ◌++◌, ap, subst, arith}
 use Rattle.std.specs.Prelude.{Option}
 use Rattle.keep_core.specs.Contents.{Contents}
 use Rattle.run_core.specs.Runs.{Event, last_world, Went, Stopped, Going}
 use Rattle.run_core.specs.laws.Runs.{goes_on, stops_in, going_end}
-use Rattle.two_areas.specs.World.{World, copied, step_talk, talk}
+use Rattle.two_areas.specs.World.{World, step_talk, talk}
 
 -- what is left of a run with a step left is that step, and what is left after it
 talk_on : (most times done : ℕ) → done < times → (v : World) → talk most (times - done) v ≡ step_talk most v ++ talk most (times - (done + 1)) (last_world v (step_talk most v))

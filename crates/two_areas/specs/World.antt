@@ -7,7 +7,7 @@ use Rattle.repl_types.specs.declared.area.Area.TheVariants as areas
 use Rattle.faults.specs.declared.fault.Fault.{Fault}
 use Rattle.faults.specs.declared.fault.Fault.TheVariants as faults
 use Rattle.keep_core.specs.Contents.{Contents, Table, nothing, same_key, with_table}
-use Rattle.row_codec.specs.Spelling.{b64, Is64, Any}
+use Rattle.row_codec.specs.Spelling.{b64, Is64}
 use Rattle.rows_in_order.specs.Rows.{table_of}
 use Rattle.site_store.specs.Records.{or_first}
 use Rattle.keep_core.specs.Kept.{Kept}

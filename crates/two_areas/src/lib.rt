@@ -14,10 +14,9 @@
 
 mod copied;
 mod records;
-
 mod step;
 mod steps;
 
 pub use records::{Copied, Number, Taken};
-pub use steps::run;
 pub use step::copy_numbers;
+pub use steps::run;

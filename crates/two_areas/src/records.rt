@@ -8,7 +8,6 @@ ghost use Rattle.row_codec.specs.laws.Numbers.{one64};
 ghost use Rattle.row_codec.specs.laws.Ones.{one_by};
 ghost use Rattle.row_codec.specs.laws.Sizes.{value64};
 
-
 use repl_types::Area;
 use row_codec::{Part, Stored, Table0, TakeError};
 use std::alloc::{AllocError, Global};

@@ -1,11 +1,11 @@
 -- Laws of what calls keep and how often they read and write: proofs, and nothing to believe.
-use Rattle.std.proofs.Common.{◌≡◌, ℕ, ◌+◌, ◌≤◌, Bool, true, false, cond, ◌∙◌, refl, arith}
+use Rattle.std.proofs.Common.{ℕ, ◌+◌, ◌≤◌, Bool, true, false, cond, ◌∙◌, refl, arith}
 use Rattle.std.specs.Prelude.{◌&&◌, ◌==◌}
 use Rattle.repl_types.specs.Area.{same_area}
 use Rattle.repl_types.specs.declared.area.Area.{Area}
 use Rattle.keep_core.specs.Kept.{Kept}
 use Rattle.site_store.specs.declared.sites.Sites.{Sites}
-use Rattle.site_store.specs.Calls.{Bounds, only, no_access, reads_of_one, writes_of_one, both, IsWithin, Passes, Stays}
+use Rattle.site_store.specs.Calls.{Bounds, only, no_access, reads_of_one, writes_of_one, both, Passes, Stays}
 
 -- The one bounds allow no more than the others.
 pub record IsAtMost (x y : Bounds) : Type 0 where

@@ -2,10 +2,8 @@
 use Rattle.std.proofs.Common.{◌≡◌, ◌≢◌, ℕ, ◌<◌, Bool, true, false, cond, List, length, get_or, refl, sym, ap, subst, ◌∙◌, arith, inl, inr}
 use Rattle.std.specs.Prelude.{◌⊎◌, ◌&&◌, ◌==◌, Option, Some, None, IsSome, IfSome}
 use Rattle.std.proofs.lemmas.Bool.{cases_eq, eqb-true}
-use Rattle.std.proofs.lemmas.List.{get_or-set_same, get_or-set_other, length-map}
-use Rattle.std.proofs.lemmas.Bool.Decides.{nat_tests}
+use Rattle.std.proofs.lemmas.List.{get_or-set_same, get_or-set_other}
 use Rattle.repl_types.specs.Area.{same_area, area_number}
-use Rattle.repl_types.specs.Bytes.{bytes_cmp}
 use Rattle.repl_types.specs.declared.area.Area.{Area}
 use Rattle.repl_types.specs.declared.area.Area.TheVariants as areas
 use Rattle.repl_types.specs.declared.status.DamageCause.{DamageCause}
@@ -14,7 +12,6 @@ use Rattle.faults.specs.declared.fault.Fault.{Fault}
 use Rattle.faults.specs.declared.fault.Fault.TheVariants as faults
 use Rattle.keep_core.specs.Contents.{Contents, same_key, put_at, IsNext}
 use Rattle.keep_core.specs.Kept.{Kept, seen_of}
-use Rattle.keep_core.specs.Told.{Rises}
 use Rattle.rows_in_order.specs.laws.Rising.{same_is}
 use Rattle.site_store.specs.declared.sites.Sites.{Sites}
 use Rattle.site_store.specs.Records.{Misread, Misspelt, MisspeltNext}
@@ -85,14 +82,26 @@ spelt_shows_none rules c a bytes spelt h = elim h.1 [
 -- misspelt bytes that are seen after only spelt entries were added stood there before
 pub misspelt_before : (rules : Rules) (c d : Contents) (a : Area) (bytes : List ℕ) → AddsOnlySpelt rules c d → ShowsMisspelt rules a bytes (Some d) → ShowsMisspelt rules a bytes (Some c)
 misspelt_before rules c d a bytes adds h = elim h.1 [
-  | inl k ↦ (h.0, inl (k.0, elim (adds a h.0 bytes k.1.0 k.1.1) [
-    | inl new ↦ absurd (k.0 new.0)
-    | inr old ↦ (k.1.0, old)
-  ]))
-  | inr v ↦ (h.0, inr (v.0, elim (adds a h.0 v.1.0 bytes v.1.1) [
-    | inl new ↦ absurd (v.0 new.1)
-    | inr old ↦ (v.1.0, old)
-  ]))
+  | inl k ↦ (
+    h.0,
+    inl (
+      k.0,
+      elim (adds a h.0 bytes k.1.0 k.1.1) [
+        | inl new ↦ absurd (k.0 new.0)
+        | inr old ↦ (k.1.0, old)
+      ],
+    ),
+  )
+  | inr v ↦ (
+    h.0,
+    inr (
+      v.0,
+      elim (adds a h.0 v.1.0 bytes v.1.1) [
+        | inl new ↦ absurd (v.0 new.1)
+        | inr old ↦ (v.1.0, old)
+      ],
+    ),
+  )
 ]
 
 -- nothing was added

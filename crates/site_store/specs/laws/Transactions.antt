@@ -1,7 +1,7 @@
 -- Laws of transactions: proofs, and nothing to believe. Calls inside a transaction compose by `works_then`
 -- and `works_seen`.
 use Rattle.std.proofs.Common.{◌≡◌, ◌≢◌, ℕ, ◌<◌, List, length, get_or, refl, sym, ap, subst, ◌∙◌, inl, inr}
-use Rattle.std.specs.Prelude.{Bool, true, false, Option, Some, None, IsSome, is_some, IfSome}
+use Rattle.std.specs.Prelude.{true, false, Option, Some, None, IsSome, is_some, IfSome}
 use Rattle.std.specs.Option.{option_map}
 use Rattle.std.proofs.Math.ListN.{set}
 use Rattle.std.proofs.lemmas.Bool.{cases_eq, cases_lt}

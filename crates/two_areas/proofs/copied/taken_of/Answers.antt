@@ -1,8 +1,6 @@
 use Rattle.std.proofs.Common.{◌≡◌}
 use Rattle.std.proofs.lemmas.Result.{err_from_is_err_and}
-use Rattle.repl_types.specs.declared.area.Area.{Area}
 use Rattle.repl_types.specs.declared.area.Area.TheVariants as areas
-use Rattle.repl_types.specs.declared.status.DamageCause.{DamageCause}
 use Rattle.row_codec.specs.Spelling.{b64, Is64}
 use Rattle.site_store.specs.Records.{Misread, Misspelt}
 use Rattle.site_store.specs.Views.{sees}

@@ -1,4 +1,4 @@
-use Rattle.std.proofs.Common.{◌∙◌, [], ◌∷◌, List, ℕ, ap, subst, inl, inr}
+use Rattle.std.proofs.Common.{◌∙◌, [], ◌∷◌, ap, subst, inl, inr}
 use Rattle.keep_core.specs.Told.{TakesFront}
 use Rattle.site_store.specs.Views.{held}
 use Rattle.run_core.specs.Runs.{writes}
