@@ -1,14 +1,14 @@
 //! Servers by number, and the records that they keep.
 //!
-//! A `Site` is a server: its name and its keeper. `Sites` are all of them, each at its number. Records
-//! are put, read and removed by their kinds (`Stored` of `row_codec`), inside one transaction a server.
-//! Any fault of `Sites` leaves no transaction open at any server, so a layer above that hands a fault on
-//! by `?` knows what stands: each server holds what it held.
+//! A `Site` is a server: its name and its keeper. `Sites` are all of them, each at its number.
+//! Records are put, read and removed by their kinds (`Stored` of `row_codec`), inside one
+//! transaction a server. Any fault of `Sites` leaves no transaction open at any server, so a layer
+//! above that hands a fault on by `?` knows what stands: each server holds what it held.
 //!
-//! The crate's `specs/` have the words in which every layer above says what it changed: `Views` is what
-//! a clause sees of all servers, `Calls` is what a call leaves, at Ok and at a fault, `Works` what a
-//! transaction makes of what it sees, and `Damage` what shows that contents are damaged. `specs/laws` has
-//! the laws by which calls compose: `Counts`, `Transactions`, `Damage`.
+//! The crate's `specs/` have the words in which every layer above says what it changed: `Views` is
+//! what a clause sees of all servers, `Calls` is what a call leaves, at Ok and at a fault, `Works`
+//! what a transaction makes of what it sees, and `Damage` what shows that contents are damaged.
+//! `specs/laws` has the laws by which calls compose: `Counts`, `Transactions`, `Damage`.
 #![tactic(auto)]
 
 #[cfg(test)]

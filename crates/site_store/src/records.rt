@@ -47,10 +47,13 @@ pub(crate) fn get_record<K: Keeper, R: Stored>(
     key: &R::Key,
 ) -> Result<Option<R>, Fault>
     ensures ok { OnOk result (K.kept keeper.new ≡ after_read (K.kept keeper.old) R.AREA) }
-    ensures row { IfOk result (λ row. IfSome (seen (K.kept keeper.old)) (RowIs R.spelling R.AREA (R.Table.number table) (R.Key.spelling key.now) row)) }
+    ensures row { IfOk result (λ row. IfSome (seen (K.kept keeper.old))
+        (RowIs R.spelling R.AREA (R.Table.number table) (R.Key.spelling key.now) row)) }
     ensures fits { IfOk result (λ row. IfSome row (IsRow R.fits R.spelling)) }
-    ensures fault { let damaged = Misspelt R.fits R.spelling R.AREA (R.Table.number table) (R.Key.spelling key.now) (seen (K.kept keeper.old)) in
-        IfErr result (Halts server (K.kept keeper.old) (after_read (K.kept keeper.old) R.AREA) (K.kept keeper.new) (Misread R.AREA damaged)) }
+    ensures fault { let damaged = Misspelt R.fits R.spelling R.AREA (R.Table.number table)
+        (R.Key.spelling key.now) (seen (K.kept keeper.old)) in
+        IfErr result (Halts server (K.kept keeper.old) (after_read (K.kept keeper.old) R.AREA)
+        (K.kept keeper.new) (Misread R.AREA damaged)) }
 {
     let mut spelled = Vec::with_capacity(alloc, ROOM)?;
     R::put_key(key, &mut spelled)?;
@@ -68,7 +71,8 @@ pub(crate) fn get_record<K: Keeper, R: Stored>(
 
 /// Where the search for the next key begins.
 fn spell_after<R: Stored>(alloc: Global, after: Option<&R::Key>) -> Result<Vec<u8>, AllocError>
-    ensures { IfOk result (λ spelled. spelled.items ≡ after_key R.Key.spelling (option_copied after.entry)) }
+    ensures { IfOk result (λ spelled. spelled.items ≡ after_key R.Key.spelling
+        (option_copied after.entry)) }
 {
     let mut spelled = Vec::new(alloc);
     if let Some(key) = after {
@@ -86,11 +90,17 @@ pub(crate) fn next_record<K: Keeper, R: Stored>(
     after: Option<&R::Key>,
 ) -> Result<Option<(R::Key, R)>, Fault>
     ensures ok { OnOk result (K.kept keeper.new ≡ after_read (K.kept keeper.old) R.AREA) }
-    ensures row { IfOk result (λ row. IfSome (seen (K.kept keeper.old)) (NextRowIs R.Key.spelling R.spelling R.AREA (R.Table.number table) (after_key R.Key.spelling (option_copied after.entry)) row)) }
-    ensures rises { IfOk result (λ row. IfSome row (Follows R.Key.fits R.Key.spelling R.fits R.spelling (after_key R.Key.spelling (option_copied after.entry)))) }
+    ensures row { IfOk result (λ row. IfSome (seen (K.kept keeper.old))
+        (NextRowIs R.Key.spelling R.spelling R.AREA (R.Table.number table)
+        (after_key R.Key.spelling (option_copied after.entry)) row)) }
+    ensures rises { IfOk result (λ row. IfSome row
+        (Follows R.Key.fits R.Key.spelling R.fits R.spelling
+        (after_key R.Key.spelling (option_copied after.entry)))) }
     ensures fault { let from = after_key R.Key.spelling (option_copied after.entry) in
-        let damaged = MisspeltNext R.Key.fits R.Key.spelling R.fits R.spelling R.AREA (R.Table.number table) from (seen (K.kept keeper.old)) in
-        IfErr result (Halts server (K.kept keeper.old) (after_read (K.kept keeper.old) R.AREA) (K.kept keeper.new) (Misread R.AREA damaged)) }
+        let damaged = MisspeltNext R.Key.fits R.Key.spelling R.fits R.spelling R.AREA
+        (R.Table.number table) from (seen (K.kept keeper.old)) in
+        IfErr result (Halts server (K.kept keeper.old) (after_read (K.kept keeper.old) R.AREA)
+        (K.kept keeper.new) (Misread R.AREA damaged)) }
 {
     let spelled = spell_after::<R>(alloc, after)?;
     let mut key = Vec::new(alloc);
@@ -122,8 +132,10 @@ pub(crate) fn put_record<K: Keeper, R: Stored>(
     requires open { IsOpen (K.kept keeper.old) }
     requires key { R.Key.storable key.now }
     requires value { R.storable value.now }
-    ensures ok { OnOk result (K.kept keeper.new ≡ after_put (K.kept keeper.old) R.AREA (R.Table.number table) (R.Key.spelling key.now) (R.spelling value.now)) }
-    ensures fault { IfErr result (Halts server (K.kept keeper.old) (after_write (K.kept keeper.old) R.AREA) (K.kept keeper.new) NoDamage) }
+    ensures ok { OnOk result (K.kept keeper.new ≡ after_put (K.kept keeper.old) R.AREA
+        (R.Table.number table) (R.Key.spelling key.now) (R.spelling value.now)) }
+    ensures fault { IfErr result (Halts server (K.kept keeper.old)
+        (after_write (K.kept keeper.old) R.AREA) (K.kept keeper.new) NoDamage) }
 {
     let mut spelled = Vec::with_capacity(alloc, ROOM)?;
     R::put_key(key, &mut spelled)?;
@@ -144,9 +156,12 @@ pub(crate) fn remove_record<K: Keeper, R: Stored>(
     key: &R::Key,
 ) -> Result<bool, Fault>
     requires { IsOpen (K.kept keeper.old) }
-    ensures ok { OnOk result (K.kept keeper.new ≡ after_remove (K.kept keeper.old) R.AREA (R.Table.number table) (R.Key.spelling key.now)) }
-    ensures found { IfOk result (λ found. IfSome (seen (K.kept keeper.old)) (WasThere R.AREA (R.Table.number table) (R.Key.spelling key.now) found)) }
-    ensures fault { IfErr result (Halts server (K.kept keeper.old) (after_write (K.kept keeper.old) R.AREA) (K.kept keeper.new) NoDamage) }
+    ensures ok { OnOk result (K.kept keeper.new ≡ after_remove (K.kept keeper.old) R.AREA
+        (R.Table.number table) (R.Key.spelling key.now)) }
+    ensures found { IfOk result (λ found. IfSome (seen (K.kept keeper.old))
+        (WasThere R.AREA (R.Table.number table) (R.Key.spelling key.now) found)) }
+    ensures fault { IfErr result (Halts server (K.kept keeper.old)
+        (after_write (K.kept keeper.old) R.AREA) (K.kept keeper.new) NoDamage) }
 {
     let mut spelled = Vec::with_capacity(alloc, ROOM)?;
     R::put_key(key, &mut spelled)?;
@@ -160,7 +175,8 @@ pub(crate) fn remove_record<K: Keeper, R: Stored>(
 pub(crate) fn begin_at<K: Keeper>(server: u32, keeper: &mut K) -> Result<(), Fault>
     requires { IsClosed (K.kept keeper.old) }
     ensures ok { OnOk result (K.kept keeper.new ≡ opened (K.kept keeper.old)) }
-    ensures fault { IfErr result (Halts server (K.kept keeper.old) (K.kept keeper.old) (K.kept keeper.new) NoDamage) }
+    ensures fault { IfErr result (Halts server (K.kept keeper.old) (K.kept keeper.old)
+        (K.kept keeper.new) NoDamage) }
 {
     match keeper.begin() {
         Ok(()) => Ok(()),
@@ -190,8 +206,10 @@ pub(crate) fn put_spill_at<K: Keeper>(
     requires open { IsOpen (K.kept keeper.old) }
     requires key { IsKeySize key.now }
     requires value { IsValueSize value.now }
-    ensures ok { OnOk result (K.kept keeper.new ≡ after_put (K.kept keeper.old) Spill 0 key.now value.now) }
-    ensures fault { IfErr result (Halts server (K.kept keeper.old) (after_write (K.kept keeper.old) Spill) (K.kept keeper.new) NoDamage) }
+    ensures ok { OnOk result (K.kept keeper.new ≡ after_put (K.kept keeper.old) Spill 0 key.now
+        value.now) }
+    ensures fault { IfErr result (Halts server (K.kept keeper.old)
+        (after_write (K.kept keeper.old) Spill) (K.kept keeper.new) NoDamage) }
 {
     match keeper.put(Area::Spill, 0, key, value) {
         Ok(()) => Ok(()),
@@ -208,9 +226,11 @@ pub(crate) fn next_spill_at<K: Keeper>(
     out: &mut Vec<u8>,
 ) -> Result<bool, Fault>
     ensures ok { OnOk result (K.kept keeper.new ≡ after_read (K.kept keeper.old) Spill) }
-    ensures found { IfOk result (λ found. IfSome (seen (K.kept keeper.old)) (NextIs Spill 0 after.now found key.new.items out.new.items)) }
+    ensures found { IfOk result (λ found. IfSome (seen (K.kept keeper.old))
+        (NextIs Spill 0 after.now found key.new.items out.new.items)) }
     ensures gives { IfOk result (λ found. GivesNext after.now found key.new.items out.new.items) }
-    ensures fault { IfErr result (Halts server (K.kept keeper.old) (after_read (K.kept keeper.old) Spill) (K.kept keeper.new) NoDamage) }
+    ensures fault { IfErr result (Halts server (K.kept keeper.old)
+        (after_read (K.kept keeper.old) Spill) (K.kept keeper.new) NoDamage) }
 {
     match keeper.next(Area::Spill, 0, after, key, out) {
         Ok(found) => Ok(found),
@@ -218,17 +238,20 @@ pub(crate) fn next_spill_at<K: Keeper>(
     }
 }
 
-/// The open transaction sees nothing at the key, in table 0 of the Spill area. Tells whether there was
-/// something.
+/// The open transaction sees nothing at the key, in table 0 of the Spill area. Tells whether there
+/// was something.
 pub(crate) fn remove_spill_at<K: Keeper>(
     server: u32,
     keeper: &mut K,
     key: &[u8],
 ) -> Result<bool, Fault>
     requires { IsOpen (K.kept keeper.old) }
-    ensures ok { OnOk result (K.kept keeper.new ≡ after_remove (K.kept keeper.old) Spill 0 key.now) }
-    ensures found { IfOk result (λ found. IfSome (seen (K.kept keeper.old)) (WasThere Spill 0 key.now found)) }
-    ensures fault { IfErr result (Halts server (K.kept keeper.old) (after_write (K.kept keeper.old) Spill) (K.kept keeper.new) NoDamage) }
+    ensures ok { OnOk result (K.kept keeper.new ≡ after_remove (K.kept keeper.old) Spill 0
+        key.now) }
+    ensures found { IfOk result (λ found. IfSome (seen (K.kept keeper.old))
+        (WasThere Spill 0 key.now found)) }
+    ensures fault { IfErr result (Halts server (K.kept keeper.old)
+        (after_write (K.kept keeper.old) Spill) (K.kept keeper.new) NoDamage) }
 {
     match keeper.remove(Area::Spill, 0, key) {
         Ok(found) => Ok(found),

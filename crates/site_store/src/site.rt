@@ -35,7 +35,8 @@ impl<K: Keeper> Site<K> {
     pub fn begin(&mut self) -> Result<(), Fault>
         requires { IsClosed (state K.kept self.old) }
         ensures ok { OnOk result (state K.kept self.new ≡ opened (state K.kept self.old)) }
-        ensures fault { IfErr result (Halts 0 (state K.kept self.old) (state K.kept self.old) (state K.kept self.new) NoDamage) }
+        ensures fault { IfErr result (Halts 0 (state K.kept self.old) (state K.kept self.old)
+            (state K.kept self.new) NoDamage) }
         ensures closed { OnErr result (IsClosed (state K.kept self.new)) }
         ensures name { name_of self.new ≡ name_of self.old }
     {
@@ -81,11 +82,16 @@ impl<K: Keeper> Site<K> {
         table: R::Table,
         key: &R::Key,
     ) -> Result<Option<R>, Fault>
-        ensures ok { OnOk result (state K.kept self.new ≡ after_read (state K.kept self.old) R.AREA) }
-        ensures row { IfOk result (λ row. IfSome (seen (state K.kept self.old)) (RowIs R.spelling R.AREA (R.Table.number table) (R.Key.spelling key.now) row)) }
+        ensures ok { OnOk result (state K.kept self.new ≡ after_read (state K.kept self.old)
+            R.AREA) }
+        ensures row { IfOk result (λ row. IfSome (seen (state K.kept self.old))
+            (RowIs R.spelling R.AREA (R.Table.number table) (R.Key.spelling key.now) row)) }
         ensures fits { IfOk result (λ row. IfSome row (IsRow R.fits R.spelling)) }
-        ensures fault { let damaged = Misspelt R.fits R.spelling R.AREA (R.Table.number table) (R.Key.spelling key.now) (seen (state K.kept self.old)) in
-            IfErr result (Halts 0 (state K.kept self.old) (after_read (state K.kept self.old) R.AREA) (state K.kept self.new) (Misread R.AREA damaged)) }
+        ensures fault { let damaged = Misspelt R.fits R.spelling R.AREA (R.Table.number table)
+            (R.Key.spelling key.now) (seen (state K.kept self.old)) in
+            IfErr result (Halts 0 (state K.kept self.old)
+            (after_read (state K.kept self.old) R.AREA) (state K.kept self.new)
+            (Misread R.AREA damaged)) }
         ensures closed { OnErr result (IsClosed (state K.kept self.new)) }
         ensures name { name_of self.new ≡ name_of self.old }
     {
@@ -98,20 +104,28 @@ impl<K: Keeper> Site<K> {
         }
     }
 
-    /// The first record whose key is above `after`, or of all where `after` is `None`. After a fault
-    /// what is held is as before.
+    /// The first record whose key is above `after`, or of all where `after` is `None`. After a
+    /// fault what is held is as before.
     pub fn next<R: Stored>(
         &mut self,
         alloc: Global,
         table: R::Table,
         after: Option<&R::Key>,
     ) -> Result<Option<(R::Key, R)>, Fault>
-        ensures ok { OnOk result (state K.kept self.new ≡ after_read (state K.kept self.old) R.AREA) }
-        ensures row { IfOk result (λ row. IfSome (seen (state K.kept self.old)) (NextRowIs R.Key.spelling R.spelling R.AREA (R.Table.number table) (after_key R.Key.spelling (option_copied after.entry)) row)) }
-        ensures rises { IfOk result (λ row. IfSome row (Follows R.Key.fits R.Key.spelling R.fits R.spelling (after_key R.Key.spelling (option_copied after.entry)))) }
+        ensures ok { OnOk result (state K.kept self.new ≡ after_read (state K.kept self.old)
+            R.AREA) }
+        ensures row { IfOk result (λ row. IfSome (seen (state K.kept self.old))
+            (NextRowIs R.Key.spelling R.spelling R.AREA (R.Table.number table)
+            (after_key R.Key.spelling (option_copied after.entry)) row)) }
+        ensures rises { IfOk result (λ row. IfSome row
+            (Follows R.Key.fits R.Key.spelling R.fits R.spelling
+            (after_key R.Key.spelling (option_copied after.entry)))) }
         ensures fault { let from = after_key R.Key.spelling (option_copied after.entry) in
-            let damaged = MisspeltNext R.Key.fits R.Key.spelling R.fits R.spelling R.AREA (R.Table.number table) from (seen (state K.kept self.old)) in
-            IfErr result (Halts 0 (state K.kept self.old) (after_read (state K.kept self.old) R.AREA) (state K.kept self.new) (Misread R.AREA damaged)) }
+            let damaged = MisspeltNext R.Key.fits R.Key.spelling R.fits R.spelling R.AREA
+            (R.Table.number table) from (seen (state K.kept self.old)) in
+            IfErr result (Halts 0 (state K.kept self.old)
+            (after_read (state K.kept self.old) R.AREA) (state K.kept self.new)
+            (Misread R.AREA damaged)) }
         ensures closed { OnErr result (IsClosed (state K.kept self.new)) }
         ensures name { name_of self.new ≡ name_of self.old }
     {
@@ -135,8 +149,10 @@ impl<K: Keeper> Site<K> {
         requires open { IsOpen (state K.kept self.old) }
         requires key { R.Key.storable key.now }
         requires value { R.storable value.now }
-        ensures ok { OnOk result (state K.kept self.new ≡ after_put (state K.kept self.old) R.AREA (R.Table.number table) (R.Key.spelling key.now) (R.spelling value.now)) }
-        ensures fault { IfErr result (Halts 0 (state K.kept self.old) (after_write (state K.kept self.old) R.AREA) (state K.kept self.new) NoDamage) }
+        ensures ok { OnOk result (state K.kept self.new ≡ after_put (state K.kept self.old) R.AREA
+            (R.Table.number table) (R.Key.spelling key.now) (R.spelling value.now)) }
+        ensures fault { IfErr result (Halts 0 (state K.kept self.old)
+            (after_write (state K.kept self.old) R.AREA) (state K.kept self.new) NoDamage) }
         ensures closed { OnErr result (IsClosed (state K.kept self.new)) }
         ensures name { name_of self.new ≡ name_of self.old }
     {
@@ -149,8 +165,8 @@ impl<K: Keeper> Site<K> {
         }
     }
 
-    /// The open transaction sees no record at the key. Tells whether there was one. After a fault what
-    /// is held is as before.
+    /// The open transaction sees no record at the key. Tells whether there was one. After a fault
+    /// what is held is as before.
     pub fn remove<R: Stored>(
         &mut self,
         alloc: Global,
@@ -158,9 +174,12 @@ impl<K: Keeper> Site<K> {
         key: &R::Key,
     ) -> Result<bool, Fault>
         requires { IsOpen (state K.kept self.old) }
-        ensures ok { OnOk result (state K.kept self.new ≡ after_remove (state K.kept self.old) R.AREA (R.Table.number table) (R.Key.spelling key.now)) }
-        ensures found { IfOk result (λ found. IfSome (seen (state K.kept self.old)) (WasThere R.AREA (R.Table.number table) (R.Key.spelling key.now) found)) }
-        ensures fault { IfErr result (Halts 0 (state K.kept self.old) (after_write (state K.kept self.old) R.AREA) (state K.kept self.new) NoDamage) }
+        ensures ok { OnOk result (state K.kept self.new ≡ after_remove (state K.kept self.old)
+            R.AREA (R.Table.number table) (R.Key.spelling key.now)) }
+        ensures found { IfOk result (λ found. IfSome (seen (state K.kept self.old))
+            (WasThere R.AREA (R.Table.number table) (R.Key.spelling key.now) found)) }
+        ensures fault { IfErr result (Halts 0 (state K.kept self.old)
+            (after_write (state K.kept self.old) R.AREA) (state K.kept self.new) NoDamage) }
         ensures closed { OnErr result (IsClosed (state K.kept self.new)) }
         ensures name { name_of self.new ≡ name_of self.old }
     {

@@ -35,7 +35,8 @@ pub struct Sites<K> {
 /// The place of the name.
 fn place_of<K>(list: &[Site<K>], name: &Name) -> Option<u32>
     requires { length list.now < 2 ^ 32 }
-    ensures { MatchOption result (HasNone (names_of list.now) name.now) (IsPlace (names_of list.now) name.now) }
+    ensures { MatchOption result (HasNone (names_of list.now) name.now)
+        (IsPlace (names_of list.now) name.now) }
 {
     for (place, site) in list.iter().enumerate() {
         if site.name == *name {
@@ -62,7 +63,8 @@ fn are_apart<K>(list: &[Site<K>]) -> bool
 fn close_each<K: Keeper>(list: &mut [Site<K>])
     ensures names { names_of list.new ≡ names_of list.old }
     ensures held { held_of K.kept list.new ≡ held_of K.kept list.old }
-    ensures faults { (s : ℕ) → slice_index_or (faults_of K.kept list.old) s 0 ≤ slice_index_or (faults_of K.kept list.new) s 0 }
+    ensures faults { (s : ℕ) → slice_index_or (faults_of K.kept list.old) s 0 ≤ slice_index_or
+        (faults_of K.kept list.new) s 0 }
     ensures reads { (a : Area) → reads_of K.kept a list.new ≡ reads_of K.kept a list.old }
     ensures writes { (a : Area) → writes_of K.kept a list.new ≡ writes_of K.kept a list.old }
     ensures closed { AllClosed (work_of K.kept list.new) }
@@ -76,13 +78,14 @@ impl<K: Keeper> Sites<K> {
     ghost use Rattle.site_store.specs.Views.{list_of, names};
     ghost use Rattle.site_store.specs.Calls.{ClosesOne, ClosesAll, no_access};
 
-    /// All servers of the list. `BadSites` comes just where there are none, more than 16, or two of one
-    /// name. It takes no memory.
+    /// All servers of the list. `BadSites` comes just where there are none, more than 16, or two of
+    /// one name. It takes no memory.
     pub fn new(list: List<Site<K>>) -> Result<Sites<K>, SitesError>
     where
         K: Drop,
         ensures ok { IfOk result (λ sites. list_of sites ≡ list) }
-        ensures bad { IfErr result (λ e. (e ≡ SitesError.BadSites) × ¬ (AreServers (names_of list))) }
+        ensures bad { IfErr result (λ e. (e ≡ SitesError.BadSites)
+            × ¬ (AreServers (names_of list))) }
     {
         let list = list.into_vec();
         if list.is_empty() || list.len() > SITE_LIMIT || !are_apart(&list) {
@@ -109,7 +112,8 @@ impl<K: Keeper> Sites<K> {
 
     /// The server of that name. None comes just where there is none.
     pub fn find(&self, name: &Name) -> Option<u32>
-        ensures { MatchOption result (HasNone (names self.now) name.now) (IsPlace (names self.now) name.now) }
+        ensures { MatchOption result (HasNone (names self.now) name.now)
+            (IsPlace (names self.now) name.now) }
     {
         place_of(&self.list, name)
     }

@@ -16,8 +16,8 @@ use row_codec::{Part, Stored, Table0, TakeError};
 use std::alloc::{AllocError, Global};
 use std::test::Fail;
 
-/// A keeper of one slot, whatever the key. It doesn't tell what it holds, and its counts stand at their
-/// last values.
+/// A keeper of one slot, whatever the key. It doesn't tell what it holds, and its counts stand at
+/// their last values.
 #[derive(Drop)]
 struct Slot {
     open: bool,

@@ -24,9 +24,11 @@ pub(crate) fn taken_of<K: Keeper>(
 ) -> Result<u64, Fault>
     requires { target < length (names sites.old) }
     ensures ok { OnOk result (Reads K.kept sites.old sites.new target Capture) }
-    ensures taken { IfOk result (λ taken. IfSome (sees K.kept sites.old target) (StateIs b64 Capture 0 (b64 0) 0 taken)) }
+    ensures taken { IfOk result (λ taken. IfSome (sees K.kept sites.old target)
+        (StateIs b64 Capture 0 (b64 0) 0 taken)) }
     ensures small { IfOk result (λ taken. Is64 taken) }
-    ensures fault { IfErr result (Fails K.kept sites.old sites.new (reads_of_one 1 target Capture) (Damages (λ s. s ≡ target) rules K.kept sites.old)) }
+    ensures fault { IfErr result (Fails K.kept sites.old sites.new (reads_of_one 1 target Capture)
+        (Damages (λ s. s ≡ target) rules K.kept sites.old)) }
 {
     let first = Taken { count: 0 };
     let taken = sites.get_state::<Taken>(alloc, target, Table0, &0, first)?;
@@ -46,8 +48,10 @@ fn copy_next<K: Keeper>(
     requires apart { source ≢ target }
     requires open { IsOpenAt (work K.kept sites.old) target }
     requires closed { IsClosedAt (work K.kept sites.old) source }
-    ensures ok { IfOk result (λ next. CopiesOn K.kept sites.old sites.new source target after (reached after next) 1) }
-    ensures fault { IfErr result (Fails K.kept sites.old sites.new (in_loop 1 source target) (Damages (OneOf source target) rules K.kept sites.old)) }
+    ensures ok { IfOk result (λ next. CopiesOn K.kept sites.old sites.new source target after
+        (reached after next) 1) }
+    ensures fault { IfErr result (Fails K.kept sites.old sites.new (in_loop 1 source target)
+        (Damages (OneOf source target) rules K.kept sites.old)) }
 {
     let Some((place, number)) = sites.next::<Number>(alloc, source, Table0, Some(&after))? else {
         return Ok(None);
@@ -73,8 +77,10 @@ pub(crate) fn copy_from<K: Keeper>(
     requires apart { source ≢ target }
     requires open { IsOpenAt (work K.kept sites.old) target }
     requires closed { IsClosedAt (work K.kept sites.old) source }
-    ensures ok { IfOk result (λ to. CopiesOn K.kept sites.old sites.new source target from to most) }
-    ensures fault { IfErr result (Fails K.kept sites.old sites.new (in_loop most source target) (Damages (OneOf source target) rules K.kept sites.old)) }
+    ensures ok { IfOk result (λ to. CopiesOn K.kept sites.old sites.new source target from to
+        most) }
+    ensures fault { IfErr result (Fails K.kept sites.old sites.new (in_loop most source target)
+        (Damages (OneOf source target) rules K.kept sites.old)) }
 {
     let mut after = from;
     for _done in 0..most {

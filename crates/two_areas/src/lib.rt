@@ -1,15 +1,15 @@
 //! How a step of the product says what it changed, at the smallest step there is.
 //!
-//! The world is a list of numbers at one server, and how many of them another server has copied. A server
-//! stands for it: the one has the numbers in its Log area, the other has those that were copied in its
-//! Target area and their count in its Capture area, and neither has anything else. `copy_numbers` copies
-//! the next ones in one commit, and `run` does so again and again and writes a line after each commit.
-//! Their contracts say what stands at Ok, at each fault, and after a commit that failed, for every world
-//! that stood before; how often they read; and that they never call contents damaged that stand for a
-//! world.
+//! The world is a list of numbers at one server, and how many of them another server has copied. A
+//! server stands for it: the one has the numbers in its Log area, the other has those that were
+//! copied in its Target area and their count in its Capture area, and neither has anything else.
+//! `copy_numbers` copies the next ones in one commit, and `run` does so again and again and writes
+//! a line after each commit. Their contracts say what stands at Ok, at each fault, and after a
+//! commit that failed, for every world that stood before; how often they read; and that they never
+//! call contents damaged that stand for a world.
 //!
-//! No program uses this crate. It shows that the words of `site_store`, `rows_in_order` and `run_core`
-//! suffice, and is proved as they are.
+//! No program uses this crate. It shows that the words of `site_store`, `rows_in_order` and
+//! `run_core` suffice, and is proved as they are.
 #![tactic(auto)]
 
 mod copied;

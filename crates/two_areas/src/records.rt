@@ -1,5 +1,5 @@
-//! Three kinds of records, each one number under a number: the numbers, their copies, and how many were
-//! copied.
+//! Three kinds of records, each one number under a number: the numbers, their copies, and how many
+//! were copied.
 
 ghost use Rattle.std.proofs.Common.{ap};
 ghost use Rattle.repl_types.specs.declared.area.Area.TheVariants.{Log, Target, Capture};

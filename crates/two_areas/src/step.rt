@@ -15,8 +15,8 @@ use row_codec::Table0;
 use site_store::Sites;
 use std::alloc::Global;
 
-/// Copies the next numbers, at most so many, in one commit, and answers how many are copied now. After a
-/// fault none was copied; but after one of the target's keeper they may have been.
+/// Copies the next numbers, at most so many, in one commit, and answers how many are copied now.
+/// After a fault none was copied; but after one of the target's keeper they may have been.
 pub fn copy_numbers<K: Keeper>(
     sites: &mut Sites<K>,
     alloc: Global,
@@ -28,10 +28,15 @@ pub fn copy_numbers<K: Keeper>(
     requires target { target < length (names sites.old) }
     requires apart { source ≢ target }
     requires closed { AllClosed (work K.kept sites.old) }
-    ensures ok { IfOk result (λ to. (w : World) → Stands source target (held K.kept sites.old) w → Stands source target (held K.kept sites.new) (copied most w) × (to ≡ (copied most w).taken)) }
-    ensures fault { IfErr result (StandsAfter source target (held K.kept sites.old) (held K.kept sites.new) (copied most)) }
-    ensures blames { IfErr result (Blames K.kept sites.old sites.new (Damages (OneOf source target) rules K.kept sites.old)) }
-    ensures undamaged { IfErr result (λ e. (w : World) → Stands source target (held K.kept sites.old) w → IsNoDamage e) }
+    ensures ok { IfOk result (λ to. (w : World) → Stands source target (held K.kept sites.old) w
+        → Stands source target (held K.kept sites.new) (copied most w)
+        × (to ≡ (copied most w).taken)) }
+    ensures fault { IfErr result (StandsAfter source target (held K.kept sites.old)
+        (held K.kept sites.new) (copied most)) }
+    ensures blames { IfErr result (Blames K.kept sites.old sites.new
+        (Damages (OneOf source target) rules K.kept sites.old)) }
+    ensures undamaged { IfErr result (λ e. (w : World)
+        → Stands source target (held K.kept sites.old) w → IsNoDamage e) }
     ensures closed { AllClosed (work K.kept sites.new) }
     ensures reads { Passes K.kept sites.old sites.new (in_step most source target) }
 {

@@ -40,8 +40,12 @@ fn step_and_tell<K: Keeper, O: Sink>(
     requires target { target < length (names sites.old) }
     requires apart { source ≢ target }
     requires closed { AllClosed (work K.kept sites.old) }
-    ensures ok { OnOk result ((w : World) → Stands source target (held K.kept sites.old) w → Went (Stands source target) (step_talk most w) w (held K.kept sites.new) (O.taken output.old) (O.taken output.new)) }
-    ensures stopped { OnErr result ((w : World) → Stands source target (held K.kept sites.old) w → Stopped (Stands source target) (step_talk most w) w (held K.kept sites.new) (O.taken output.old) (O.taken output.new)) }
+    ensures ok { OnOk result ((w : World) → Stands source target (held K.kept sites.old) w
+        → Went (Stands source target) (step_talk most w) w (held K.kept sites.new)
+        (O.taken output.old) (O.taken output.new)) }
+    ensures stopped { OnErr result ((w : World) → Stands source target (held K.kept sites.old) w
+        → Stopped (Stands source target) (step_talk most w) w (held K.kept sites.new)
+        (O.taken output.old) (O.taken output.new)) }
     ensures closed { AllClosed (work K.kept sites.new) }
     ensures names { names sites.new ≡ names sites.old }
 {
@@ -53,8 +57,8 @@ fn step_and_tell<K: Keeper, O: Sink>(
     }
 }
 
-/// Copies the next numbers again and again, so many times, and writes how many are copied after each
-/// commit. No line is ahead of its commit.
+/// Copies the next numbers again and again, so many times, and writes how many are copied after
+/// each commit. No line is ahead of its commit.
 pub fn run<K: Keeper, O: Sink>(
     sites: &mut Sites<K>,
     output: &mut O,
@@ -68,8 +72,12 @@ pub fn run<K: Keeper, O: Sink>(
     requires target { target < length (names sites.old) }
     requires apart { source ≢ target }
     requires closed { AllClosed (work K.kept sites.old) }
-    ensures ok { OnOk result ((w : World) → Stands source target (held K.kept sites.old) w → Went (Stands source target) (talk most times w) w (held K.kept sites.new) (O.taken output.old) (O.taken output.new)) }
-    ensures stopped { OnErr result ((w : World) → Stands source target (held K.kept sites.old) w → Stopped (Stands source target) (talk most times w) w (held K.kept sites.new) (O.taken output.old) (O.taken output.new)) }
+    ensures ok { OnOk result ((w : World) → Stands source target (held K.kept sites.old) w
+        → Went (Stands source target) (talk most times w) w (held K.kept sites.new)
+        (O.taken output.old) (O.taken output.new)) }
+    ensures stopped { OnErr result ((w : World) → Stands source target (held K.kept sites.old) w
+        → Stopped (Stands source target) (talk most times w) w (held K.kept sites.new)
+        (O.taken output.old) (O.taken output.new)) }
     ensures closed { AllClosed (work K.kept sites.new) }
 {
     for _done in 0..times {

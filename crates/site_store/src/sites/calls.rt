@@ -11,8 +11,8 @@ use keep_core::Keeper;
 use row_codec::Stored;
 use std::alloc::Global;
 
-/// Calls at one server. After a fault no transaction is open at any server, and each server holds what
-/// it held; but after a fault of a keeper at a commit the commit may have taken place.
+/// Calls at one server. After a fault no transaction is open at any server, and each server holds
+/// what it held; but after a fault of a keeper at a commit the commit may have taken place.
 impl<K: Keeper> Sites<K> {
     ghost use Rattle.site_store.specs.Records.{RowIs, IsRow, after_key, NextRowIs, Follows, NoDamage, Misread, Misspelt, MisspeltNext};
     ghost use Rattle.site_store.specs.Views.{names, work, sees, IsOpenAt, IsClosedAt};
@@ -23,7 +23,8 @@ impl<K: Keeper> Sites<K> {
         requires server { server < length (names self.old) }
         requires closed { IsClosedAt (work K.kept self.old) server }
         ensures ok { OnOk result (Begins K.kept self.old self.new server) }
-        ensures fault { IfErr result (Fails K.kept self.old self.new no_access (AtServer server NoDamage)) }
+        ensures fault { IfErr result (Fails K.kept self.old self.new no_access
+            (AtServer server NoDamage)) }
     {
         let site = &mut self.list[server as usize];
         match begin_at(server, &mut site.keeper) {
@@ -52,8 +53,8 @@ impl<K: Keeper> Sites<K> {
         }
     }
 
-    /// The record at the key, if there is one. It reads what the server's open transaction sees, and if
-    /// none is open, what the server holds.
+    /// The record at the key, if there is one. It reads what the server's open transaction sees,
+    /// and if none is open, what the server holds.
     pub fn get<R: Stored>(
         &mut self,
         alloc: Global,
@@ -63,10 +64,13 @@ impl<K: Keeper> Sites<K> {
     ) -> Result<Option<R>, Fault>
         requires { server < length (names self.old) }
         ensures ok { OnOk result (Reads K.kept self.old self.new server R.AREA) }
-        ensures row { IfOk result (λ row. IfSome (sees K.kept self.old server) (RowIs R.spelling R.AREA (R.Table.number table) (R.Key.spelling key.now) row)) }
+        ensures row { IfOk result (λ row. IfSome (sees K.kept self.old server)
+            (RowIs R.spelling R.AREA (R.Table.number table) (R.Key.spelling key.now) row)) }
         ensures fits { IfOk result (λ row. IfSome row (IsRow R.fits R.spelling)) }
-        ensures fault { let damaged = Misspelt R.fits R.spelling R.AREA (R.Table.number table) (R.Key.spelling key.now) (sees K.kept self.old server) in
-            IfErr result (Fails K.kept self.old self.new (reads_of_one 1 server R.AREA) (AtServer server (Misread R.AREA damaged))) }
+        ensures fault { let damaged = Misspelt R.fits R.spelling R.AREA (R.Table.number table)
+            (R.Key.spelling key.now) (sees K.kept self.old server) in
+            IfErr result (Fails K.kept self.old self.new (reads_of_one 1 server R.AREA)
+            (AtServer server (Misread R.AREA damaged))) }
     {
         let site = &mut self.list[server as usize];
         match get_record(alloc, server, &mut site.keeper, table, key) {
@@ -78,8 +82,8 @@ impl<K: Keeper> Sites<K> {
         }
     }
 
-    /// The first record whose key is above `after`, or of all if `after` is `None`. It reads what `get`
-    /// reads.
+    /// The first record whose key is above `after`, or of all if `after` is `None`. It reads what
+    /// `get` reads.
     pub fn next<R: Stored>(
         &mut self,
         alloc: Global,
@@ -90,12 +94,16 @@ impl<K: Keeper> Sites<K> {
         requires { server < length (names self.old) }
         ensures ok { OnOk result (Reads K.kept self.old self.new server R.AREA) }
         ensures row { let from = after_key R.Key.spelling (option_copied after.entry) in
-            IfOk result (λ row. IfSome (sees K.kept self.old server) (NextRowIs R.Key.spelling R.spelling R.AREA (R.Table.number table) from row)) }
+            IfOk result (λ row. IfSome (sees K.kept self.old server)
+            (NextRowIs R.Key.spelling R.spelling R.AREA (R.Table.number table) from row)) }
         ensures rises { let from = after_key R.Key.spelling (option_copied after.entry) in
-            IfOk result (λ row. IfSome row (Follows R.Key.fits R.Key.spelling R.fits R.spelling from)) }
+            IfOk result (λ row. IfSome row (Follows R.Key.fits R.Key.spelling R.fits R.spelling
+            from)) }
         ensures fault { let from = after_key R.Key.spelling (option_copied after.entry) in
-            let damaged = MisspeltNext R.Key.fits R.Key.spelling R.fits R.spelling R.AREA (R.Table.number table) from (sees K.kept self.old server) in
-            IfErr result (Fails K.kept self.old self.new (reads_of_one 1 server R.AREA) (AtServer server (Misread R.AREA damaged))) }
+            let damaged = MisspeltNext R.Key.fits R.Key.spelling R.fits R.spelling R.AREA
+            (R.Table.number table) from (sees K.kept self.old server) in
+            IfErr result (Fails K.kept self.old self.new (reads_of_one 1 server R.AREA)
+            (AtServer server (Misread R.AREA damaged))) }
     {
         let site = &mut self.list[server as usize];
         match next_record(alloc, server, &mut site.keeper, table, after) {
@@ -120,8 +128,10 @@ impl<K: Keeper> Sites<K> {
         requires open { IsOpenAt (work K.kept self.old) server }
         requires key { R.Key.storable key.now }
         requires value { R.storable value.now }
-        ensures ok { OnOk result (Puts K.kept self.old self.new server R.AREA (R.Table.number table) (R.Key.spelling key.now) (Some (R.spelling value.now))) }
-        ensures fault { IfErr result (Fails K.kept self.old self.new (writes_of_one 1 server R.AREA) (AtServer server NoDamage)) }
+        ensures ok { OnOk result (Puts K.kept self.old self.new server R.AREA (R.Table.number table)
+            (R.Key.spelling key.now) (Some (R.spelling value.now))) }
+        ensures fault { IfErr result (Fails K.kept self.old self.new (writes_of_one 1 server R.AREA)
+            (AtServer server NoDamage)) }
     {
         let site = &mut self.list[server as usize];
         match put_record(alloc, server, &mut site.keeper, table, key, value) {
@@ -143,9 +153,12 @@ impl<K: Keeper> Sites<K> {
     ) -> Result<bool, Fault>
         requires server { server < length (names self.old) }
         requires open { IsOpenAt (work K.kept self.old) server }
-        ensures ok { OnOk result (Puts K.kept self.old self.new server R.AREA (R.Table.number table) (R.Key.spelling key.now) None) }
-        ensures found { IfOk result (λ found. IfSome (sees K.kept self.old server) (WasThere R.AREA (R.Table.number table) (R.Key.spelling key.now) found)) }
-        ensures fault { IfErr result (Fails K.kept self.old self.new (writes_of_one 1 server R.AREA) (AtServer server NoDamage)) }
+        ensures ok { OnOk result (Puts K.kept self.old self.new server R.AREA (R.Table.number table)
+            (R.Key.spelling key.now) None) }
+        ensures found { IfOk result (λ found. IfSome (sees K.kept self.old server)
+            (WasThere R.AREA (R.Table.number table) (R.Key.spelling key.now) found)) }
+        ensures fault { IfErr result (Fails K.kept self.old self.new (writes_of_one 1 server R.AREA)
+            (AtServer server NoDamage)) }
     {
         let site = &mut self.list[server as usize];
         match remove_record::<K, R>(alloc, server, &mut site.keeper, table, key) {

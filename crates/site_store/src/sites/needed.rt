@@ -44,10 +44,14 @@ impl<K: Keeper> Sites<K> {
     ) -> Result<R, Fault>
         requires { server < length (names self.old) }
         ensures ok { OnOk result (Reads K.kept self.old self.new server R.AREA) }
-        ensures state { IfOk result (λ state. IfSome (sees K.kept self.old server) (StateIs R.spelling R.AREA (R.Table.number table) (R.Key.spelling key.now) first state)) }
+        ensures state { IfOk result (λ state. IfSome (sees K.kept self.old server)
+            (StateIs R.spelling R.AREA (R.Table.number table) (R.Key.spelling key.now) first
+            state)) }
         ensures fits { R.fits first → IfOk result (λ state. R.fits state) }
-        ensures fault { let damaged = Misspelt R.fits R.spelling R.AREA (R.Table.number table) (R.Key.spelling key.now) (sees K.kept self.old server) in
-            IfErr result (Fails K.kept self.old self.new (reads_of_one 1 server R.AREA) (AtServer server (Misread R.AREA damaged))) }
+        ensures fault { let damaged = Misspelt R.fits R.spelling R.AREA (R.Table.number table)
+            (R.Key.spelling key.now) (sees K.kept self.old server) in
+            IfErr result (Fails K.kept self.old self.new (reads_of_one 1 server R.AREA)
+            (AtServer server (Misread R.AREA damaged))) }
     {
         match self.get::<R>(alloc, server, table, key)? {
             None => Ok(first),
@@ -65,11 +69,15 @@ impl<K: Keeper> Sites<K> {
     ) -> Result<R, Fault>
         requires { server < length (names self.old) }
         ensures ok { OnOk result (Reads K.kept self.old self.new server R.AREA) }
-        ensures row { IfOk result (λ row. IfSome (sees K.kept self.old server) (RowIs R.spelling R.AREA (R.Table.number table) (R.Key.spelling key.now) (Some row))) }
+        ensures row { IfOk result (λ row. IfSome (sees K.kept self.old server)
+            (RowIs R.spelling R.AREA (R.Table.number table) (R.Key.spelling key.now) (Some row))) }
         ensures fits { IfOk result (λ row. IsRow R.fits R.spelling row) }
-        ensures fault { let damaged = Misspelt R.fits R.spelling R.AREA (R.Table.number table) (R.Key.spelling key.now) (sees K.kept self.old server) in
-            let missing = IsMissing R.AREA (R.Table.number table) (R.Key.spelling key.now) (sees K.kept self.old server) in
-            IfErr result (Fails K.kept self.old self.new (reads_of_one 1 server R.AREA) (AtServer server (MissesOrMisreads R.AREA missing damaged))) }
+        ensures fault { let damaged = Misspelt R.fits R.spelling R.AREA (R.Table.number table)
+            (R.Key.spelling key.now) (sees K.kept self.old server) in
+            let missing = IsMissing R.AREA (R.Table.number table) (R.Key.spelling key.now)
+            (sees K.kept self.old server) in
+            IfErr result (Fails K.kept self.old self.new (reads_of_one 1 server R.AREA)
+            (AtServer server (MissesOrMisreads R.AREA missing damaged))) }
     {
         match self.get::<R>(alloc, server, table, key)? {
             None => Err(self.missing::<R>(alloc, server, key)),
@@ -80,7 +88,8 @@ impl<K: Keeper> Sites<K> {
     /// The fault of a record that should be at the key and isn't. No transaction is open after it.
     pub fn missing<R: Stored>(&mut self, alloc: Global, server: u32, key: &R::Key) -> Fault
         ensures closes { ClosesAll K.kept self.old self.new no_access }
-        ensures fault { IsMemoryOr (Damaged server R.AREA (Absent (R.Key.spelling key.now))) result }
+        ensures fault { IsMemoryOr (Damaged server R.AREA (Absent (R.Key.spelling key.now)))
+            result }
     {
         self.rollback_all();
         match spell_key::<R>(alloc, key) {

@@ -1,5 +1,5 @@
-//! Bytes of the Spill area of the servers, in its table 0. Each call is one of the keeper, and takes no
-//! memory of its own.
+//! Bytes of the Spill area of the servers, in its table 0. Each call is one of the keeper, and
+//! takes no memory of its own.
 
 ghost use Rattle.std.specs.Prelude.{◌≡◌, ◌<◌, Some, None, length, OnOk, IfOk, IfErr, IfSome};
 ghost use Rattle.repl_types.specs.Sizes.{IsKeySize, IsValueSize};
@@ -23,8 +23,10 @@ impl<K: Keeper> Sites<K> {
         requires open { IsOpenAt (work K.kept self.old) server }
         requires key { IsKeySize key.now }
         requires value { IsValueSize value.now }
-        ensures ok { OnOk result (Puts K.kept self.old self.new server Spill 0 key.now (Some value.now)) }
-        ensures fault { IfErr result (Fails K.kept self.old self.new (writes_of_one 1 server Spill) (AtServer server NoDamage)) }
+        ensures ok { OnOk result (Puts K.kept self.old self.new server Spill 0 key.now
+            (Some value.now)) }
+        ensures fault { IfErr result (Fails K.kept self.old self.new (writes_of_one 1 server Spill)
+            (AtServer server NoDamage)) }
     {
         let site = &mut self.list[server as usize];
         match put_spill_at(server, &mut site.keeper, key, value) {
@@ -36,7 +38,8 @@ impl<K: Keeper> Sites<K> {
         }
     }
 
-    /// Whether there is a key above `after`, and the first of these in `key`, with its bytes in `out`.
+    /// Whether there is a key above `after`, and the first of these in `key`, with its bytes in
+    /// `out`.
     pub fn next_spill(
         &mut self,
         server: u32,
@@ -46,9 +49,12 @@ impl<K: Keeper> Sites<K> {
     ) -> Result<bool, Fault>
         requires { server < length (names self.old) }
         ensures ok { OnOk result (Reads K.kept self.old self.new server Spill) }
-        ensures found { IfOk result (λ found. IfSome (sees K.kept self.old server) (NextIs Spill 0 after.now found key.new.items out.new.items)) }
-        ensures gives { IfOk result (λ found. GivesNext after.now found key.new.items out.new.items) }
-        ensures fault { IfErr result (Fails K.kept self.old self.new (reads_of_one 1 server Spill) (AtServer server NoDamage)) }
+        ensures found { IfOk result (λ found. IfSome (sees K.kept self.old server)
+            (NextIs Spill 0 after.now found key.new.items out.new.items)) }
+        ensures gives { IfOk result (λ found. GivesNext after.now found key.new.items
+            out.new.items) }
+        ensures fault { IfErr result (Fails K.kept self.old self.new (reads_of_one 1 server Spill)
+            (AtServer server NoDamage)) }
     {
         let site = &mut self.list[server as usize];
         match next_spill_at(server, &mut site.keeper, after, key, out) {
@@ -65,8 +71,10 @@ impl<K: Keeper> Sites<K> {
         requires server { server < length (names self.old) }
         requires open { IsOpenAt (work K.kept self.old) server }
         ensures ok { OnOk result (Puts K.kept self.old self.new server Spill 0 key.now None) }
-        ensures found { IfOk result (λ found. IfSome (sees K.kept self.old server) (WasThere Spill 0 key.now found)) }
-        ensures fault { IfErr result (Fails K.kept self.old self.new (writes_of_one 1 server Spill) (AtServer server NoDamage)) }
+        ensures found { IfOk result (λ found. IfSome (sees K.kept self.old server)
+            (WasThere Spill 0 key.now found)) }
+        ensures fault { IfErr result (Fails K.kept self.old self.new (writes_of_one 1 server Spill)
+            (AtServer server NoDamage)) }
     {
         let site = &mut self.list[server as usize];
         match remove_spill_at(server, &mut site.keeper, key) {
