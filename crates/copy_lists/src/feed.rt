@@ -29,15 +29,16 @@ fn is_blank(line: &[u8]) -> bool
     line.iter().all(|byte| *byte == b' ')
 }
 
-/// Takes the record of a line where it may be taken, and answers why where it may not. A blank line is
-/// skipped.
+/// Takes the record of a line where it may be taken, and answers why where it may not. A blank line
+/// is skipped.
 fn take_text(
     alloc: Global,
     source: &mut SourceLog,
     line: &[u8],
 ) -> Result<Option<Cause>, AllocError>
     requires { IsKeptLog source.old }
-    ensures { IfOk result (λ cause. Leaves (short_outcome source.old.records line.now) cause source.old source.new) }
+    ensures { IfOk result (λ cause. Leaves (short_outcome source.old.records line.now) cause
+        source.old source.new) }
 {
     if is_blank(line) {
         return Ok(None);
@@ -71,7 +72,9 @@ impl Fed {
         requires fed { IsFed self.old }
         requires short { length line.now ≤ line_limit }
         ensures fed { OnOk result (IsFed self.new) }
-        ensures resumed { OnOk result ((more : List (List ℕ)) → resumed self.new.source.records self.new.refused (number + 1) more ≡ resumed self.old.source.records self.old.refused number (line.now ∷ more)) }
+        ensures resumed { OnOk result ((more : List (List ℕ))
+            → resumed self.new.source.records self.new.refused (number + 1) more
+            ≡ resumed self.old.source.records self.old.refused number (line.now ∷ more)) }
     {
         if self.refused.is_some() {
             return Ok(());
@@ -85,11 +88,14 @@ impl Fed {
         Ok(())
     }
 
-    /// Refuses the line with this number, which is over the limit, unless one before it was refused.
+    /// Refuses the line with this number, which is over the limit, unless one before it was
+    /// refused.
     fn take_long_line(&mut self, number: u64)
         requires fed { IsFed self.old }
         ensures fed { IsFed self.new }
-        ensures resumed { (line : List ℕ) (more : List (List ℕ)) → line_limit < length line → resumed self.new.source.records self.new.refused (number + 1) more ≡ resumed self.old.source.records self.old.refused number (line ∷ more) }
+        ensures resumed { (line : List ℕ) (more : List (List ℕ)) → line_limit < length line
+            → resumed self.new.source.records self.new.refused (number + 1) more
+            ≡ resumed self.old.source.records self.old.refused number (line ∷ more) }
     {
         if self.refused.is_none() {
             self.refused = Some(Refused {
@@ -102,12 +108,15 @@ impl Fed {
 
 /// Reads the input to its end and feeds its lines. Those after a refused line aren't taken.
 pub fn feed<I: Source>(alloc: Global, source: &mut I) -> Result<Fed, InputError>
-    ensures feed { IfOk result (λ fed. IfSome (I.left source.old) (λ bytes. feed_kept fed ≡ feed_of bytes)) }
+    ensures feed { IfOk result (λ fed. IfSome (I.left source.old) (λ bytes. feed_kept fed
+        ≡ feed_of bytes)) }
     ensures fed { IfOk result (λ fed. IsFed fed) }
     ensures end { OnOk result (IfSome (I.left source.old) (λ _. I.left source.new ≡ Some [])) }
     ensures fits { OnOk result (IfSome (I.left source.old) (λ bytes. length bytes ≤ input_limit)) }
-    ensures too_long { result ≡ Err InputError.TooLong → IfSome (I.left source.old) (λ bytes. input_limit < length bytes) }
-    ensures failed { result ≡ Err InputError.Failed → Rises (I.faults source.old) (I.faults source.new) }
+    ensures too_long { result ≡ Err InputError.TooLong
+        → IfSome (I.left source.old) (λ bytes. input_limit < length bytes) }
+    ensures failed { result ≡ Err InputError.Failed
+        → Rises (I.faults source.old) (I.faults source.new) }
     ensures counts { I.faults source.old ≤ I.faults source.new }
 {
     let mut input = Input::new(alloc)?;

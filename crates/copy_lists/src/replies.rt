@@ -44,9 +44,12 @@ fn refused_line(alloc: Global, refused: Refused) -> Result<String, AllocError>
 
 /// Writes the line of a row. After an error a front of it was taken.
 fn write_row<O: Sink>(alloc: Global, output: &mut O, row: &Row) -> Result<(), ReadError>
-    ensures ok { OnOk result (Takes (O.taken output.old) (O.taken output.new) (row_line_lem row.now)) }
-    ensures err { OnErr result (TakesFront (O.taken output.old) (O.taken output.new) (row_line_lem row.now)) }
-    ensures cause { result ≡ Err ReadError.Failed → Rises (O.faults output.old) (O.faults output.new) }
+    ensures ok { OnOk result (Takes (O.taken output.old) (O.taken output.new)
+        (row_line_lem row.now)) }
+    ensures err { OnErr result (TakesFront (O.taken output.old) (O.taken output.new)
+        (row_line_lem row.now)) }
+    ensures cause { result ≡ Err ReadError.Failed
+        → Rises (O.faults output.old) (O.faults output.new) }
     ensures counts { O.faults output.old ≤ O.faults output.new }
 {
     let line = row_line(alloc, row).map_err(|_| ReadError::Memory)?;
@@ -55,21 +58,27 @@ fn write_row<O: Sink>(alloc: Global, output: &mut O, row: &Row) -> Result<(), Re
 
 /// Writes the line of a count. After an error a front of it was taken.
 fn write_count<O: Sink>(alloc: Global, output: &mut O, count: usize) -> Result<(), ReadError>
-    ensures ok { OnOk result (Takes (O.taken output.old) (O.taken output.new) (count_line_lem count)) }
-    ensures err { OnErr result (TakesFront (O.taken output.old) (O.taken output.new) (count_line_lem count)) }
-    ensures cause { result ≡ Err ReadError.Failed → Rises (O.faults output.old) (O.faults output.new) }
+    ensures ok { OnOk result (Takes (O.taken output.old) (O.taken output.new)
+        (count_line_lem count)) }
+    ensures err { OnErr result (TakesFront (O.taken output.old) (O.taken output.new)
+        (count_line_lem count)) }
+    ensures cause { result ≡ Err ReadError.Failed
+        → Rises (O.faults output.old) (O.faults output.new) }
     ensures counts { O.faults output.old ≤ O.faults output.new }
 {
     let line = count_line(alloc, count).map_err(|_| ReadError::Memory)?;
     write_line(output, line.as_bytes())
 }
 
-/// Writes a line for each row, in the order of the keys, and then their count. After an error a front of
-/// these lines was taken.
+/// Writes a line for each row, in the order of the keys, and then their count. After an error a
+/// front of these lines was taken.
 fn write_rows<O: Sink>(alloc: Global, output: &mut O, rows: &Rows) -> Result<(), ReadError>
-    ensures ok { OnOk result (Takes (O.taken output.old) (O.taken output.new) (joined (rows_lines rows.now))) }
-    ensures err { OnErr result (TakesFront (O.taken output.old) (O.taken output.new) (joined (rows_lines rows.now))) }
-    ensures cause { result ≡ Err ReadError.Failed → Rises (O.faults output.old) (O.faults output.new) }
+    ensures ok { OnOk result (Takes (O.taken output.old) (O.taken output.new)
+        (joined (rows_lines rows.now))) }
+    ensures err { OnErr result (TakesFront (O.taken output.old) (O.taken output.new)
+        (joined (rows_lines rows.now))) }
+    ensures cause { result ≡ Err ReadError.Failed
+        → Rises (O.faults output.old) (O.faults output.new) }
     ensures counts { O.faults output.old ≤ O.faults output.new }
 {
     pieces_join();
@@ -81,9 +90,12 @@ fn write_rows<O: Sink>(alloc: Global, output: &mut O, rows: &Rows) -> Result<(),
 
 /// Writes the line of a refused line. After an error a front of it was taken.
 fn write_refused<O: Sink>(alloc: Global, output: &mut O, refused: Refused) -> Result<(), ReadError>
-    ensures ok { OnOk result (Takes (O.taken output.old) (O.taken output.new) (refused_line_lem refused)) }
-    ensures err { OnErr result (TakesFront (O.taken output.old) (O.taken output.new) (refused_line_lem refused)) }
-    ensures cause { result ≡ Err ReadError.Failed → Rises (O.faults output.old) (O.faults output.new) }
+    ensures ok { OnOk result (Takes (O.taken output.old) (O.taken output.new)
+        (refused_line_lem refused)) }
+    ensures err { OnErr result (TakesFront (O.taken output.old) (O.taken output.new)
+        (refused_line_lem refused)) }
+    ensures cause { result ≡ Err ReadError.Failed
+        → Rises (O.faults output.old) (O.faults output.new) }
     ensures counts { O.faults output.old ≤ O.faults output.new }
 {
     pieces_join();
@@ -91,17 +103,20 @@ fn write_refused<O: Sink>(alloc: Global, output: &mut O, refused: Refused) -> Re
     write_line(output, line.as_bytes())
 }
 
-/// Writes the lines of the rows, and the line of the refused line, where there is one. After an error a
-/// front of these lines was taken.
+/// Writes the lines of the rows, and the line of the refused line, where there is one. After an
+/// error a front of these lines was taken.
 pub fn write_copy<O: Sink>(
     alloc: Global,
     output: &mut O,
     rows: &Rows,
     refused: Option<Refused>,
 ) -> Result<(), ReadError>
-    ensures ok { OnOk result (Takes (O.taken output.old) (O.taken output.new) (joined (rows_lines rows.now ++ refusal_lines refused))) }
-    ensures err { OnErr result (TakesFront (O.taken output.old) (O.taken output.new) (joined (rows_lines rows.now ++ refusal_lines refused))) }
-    ensures cause { result ≡ Err ReadError.Failed → Rises (O.faults output.old) (O.faults output.new) }
+    ensures ok { OnOk result (Takes (O.taken output.old) (O.taken output.new)
+        (joined (rows_lines rows.now ++ refusal_lines refused))) }
+    ensures err { OnErr result (TakesFront (O.taken output.old) (O.taken output.new)
+        (joined (rows_lines rows.now ++ refusal_lines refused))) }
+    ensures cause { result ≡ Err ReadError.Failed
+        → Rises (O.faults output.old) (O.faults output.new) }
     ensures counts { O.faults output.old ≤ O.faults output.new }
 {
     pieces_join();

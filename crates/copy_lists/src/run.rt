@@ -38,7 +38,8 @@ fn change_rows_of_units(
 
 /// The copy that the change rows of these units make.
 fn copied(alloc: Global, def: &TableDef, units: &[Unit]) -> Result<Rows, AllocError>
-    ensures { IfOk result (λ copy. copy ≡ after_change_rows def.now (flat_map (change_rows items_registration_lem) units.now) empty) }
+    ensures { IfOk result (λ copy. copy ≡ after_change_rows def.now
+        (flat_map (change_rows items_registration_lem) units.now) empty) }
 {
     let change_rows = change_rows_of_units(alloc, &items_registration(alloc)?, units)?;
     let mut copy = Rows::new(alloc);
@@ -54,13 +55,19 @@ pub fn run_copy<I: Source, O: Sink>(
     output: &mut O,
 ) -> Result<Option<Refused>, Early>
     ensures end { OnOk result (IfSome (I.left input.old) (λ _. I.left input.new ≡ Some [])) }
-    ensures refused { IfOk result (λ refused. IfSome (I.left input.old) (λ bytes. refused ≡ (feed_of bytes).refusal)) }
-    ensures written { OnOk result (IfSome (I.left input.old) (λ bytes. Takes (O.taken output.old) (O.taken output.new) (text_of bytes))) }
+    ensures refused { IfOk result (λ refused. IfSome (I.left input.old)
+        (λ bytes. refused ≡ (feed_of bytes).refusal)) }
+    ensures written { OnOk result (IfSome (I.left input.old)
+        (λ bytes. Takes (O.taken output.old) (O.taken output.new) (text_of bytes))) }
     ensures fits { OnOk result (IfSome (I.left input.old) (λ bytes. length bytes ≤ input_limit)) }
-    ensures front { OnErr result (IfSome (I.left input.old) (λ bytes. TakesFront (O.taken output.old) (O.taken output.new) (text_of bytes))) }
-    ensures too_long { result ≡ Err Early.InputTooLong → IfSome (I.left input.old) (λ bytes. input_limit < length bytes) }
-    ensures input_fault { result ≡ Err Early.InputFailed → Rises (I.faults input.old) (I.faults input.new) }
-    ensures output_fault { result ≡ Err Early.OutputFailed → Rises (O.faults output.old) (O.faults output.new) }
+    ensures front { OnErr result (IfSome (I.left input.old)
+        (λ bytes. TakesFront (O.taken output.old) (O.taken output.new) (text_of bytes))) }
+    ensures too_long { result ≡ Err Early.InputTooLong
+        → IfSome (I.left input.old) (λ bytes. input_limit < length bytes) }
+    ensures input_fault { result ≡ Err Early.InputFailed
+        → Rises (I.faults input.old) (I.faults input.new) }
+    ensures output_fault { result ≡ Err Early.OutputFailed
+        → Rises (O.faults output.old) (O.faults output.new) }
 {
     up_to_last_commit();
     copy_by_change_rows();

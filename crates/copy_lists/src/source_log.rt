@@ -12,8 +12,8 @@ use row_changes::{Rows, apply_changes, is_change_applicable};
 use std::alloc::{AllocError, Global};
 use std::mem;
 
-/// The log of a source with one table, and beside it what the log says: the transaction in flight with
-/// its changes, the units, and the committed rows with the time of the last commit.
+/// The log of a source with one table, and beside it what the log says: the transaction in flight
+/// with its changes, the units, and the committed rows with the time of the last commit.
 #[derive(Debug, Drop)]
 pub struct SourceLog {
     pub table: TableDef,
@@ -110,8 +110,10 @@ impl SourceLog {
         change: Change,
     ) -> Result<Option<Cause>, AllocError>
         requires { IsKeptLog self.old }
-        ensures cause { IfOk result (λ cause. cause ≡ record_cause self.old.records (records.Change tx change)) }
-        ensures taken { result ≡ Ok None → IsKeptLog self.new × (self.new.records ≡ self.old.records ++ records.Change tx change ∷ []) }
+        ensures cause { IfOk result (λ cause. cause
+            ≡ record_cause self.old.records (records.Change tx change)) }
+        ensures taken { result ≡ Ok None → IsKeptLog self.new
+            × (self.new.records ≡ self.old.records ++ records.Change tx change ∷ []) }
         ensures refused { IfOk result (λ cause. IfSome cause (λ _. self.new ≡ self.old)) }
     {
         if !may_go_on(self.in_flight, tx) {
@@ -128,8 +130,8 @@ impl SourceLog {
         Ok(None)
     }
 
-    /// Takes a commit record where it may be taken, and answers why where it may not. The records and
-    /// units then stay, and the rows may be anything.
+    /// Takes a commit record where it may be taken, and answers why where it may not. The records
+    /// and units then stay, and the rows may be anything.
     fn take_commit(
         &mut self,
         alloc: Global,
@@ -139,9 +141,12 @@ impl SourceLog {
         origin: Option<SetId>,
     ) -> Result<Option<Cause>, AllocError>
         requires { IsKeptLog self.old }
-        ensures cause { IfOk result (λ cause. cause ≡ record_cause self.old.records (records.Commit tx time authid origin)) }
-        ensures taken { result ≡ Ok None → IsKeptLog self.new × (self.new.records ≡ self.old.records ++ records.Commit tx time authid origin ∷ []) }
-        ensures refused { IfOk result (λ cause. IfSome cause (λ _. KeepsRecords self.old self.new)) }
+        ensures cause { IfOk result (λ cause. cause
+            ≡ record_cause self.old.records (records.Commit tx time authid origin)) }
+        ensures taken { result ≡ Ok None → IsKeptLog self.new
+            × (self.new.records ≡ self.old.records ++ records.Commit tx time authid origin ∷ []) }
+        ensures refused { IfOk result (λ cause. IfSome cause
+            (λ _. KeepsRecords self.old self.new)) }
     {
         if !may_go_on(self.in_flight, tx) {
             return Ok(Some(Cause::BadLog));
@@ -168,13 +173,15 @@ impl SourceLog {
         Ok(None)
     }
 
-    /// Takes a record where it may be taken, and answers why where it may not. The records and units
-    /// then stay, and nothing more can be taken. Without memory the log may be anything.
+    /// Takes a record where it may be taken, and answers why where it may not. The records and
+    /// units then stay, and nothing more can be taken. If memory runs out, the log is unspecified.
     pub fn take(&mut self, alloc: Global, entry: LogRecord) -> Result<Option<Cause>, AllocError>
         requires { IsKeptLog self.old }
         ensures cause { IfOk result (λ cause. cause ≡ record_cause self.old.records entry) }
-        ensures taken { result ≡ Ok None → IsKeptLog self.new × (self.new.records ≡ self.old.records ++ entry ∷ []) }
-        ensures refused { IfOk result (λ cause. IfSome cause (λ _. KeepsRecords self.old self.new)) }
+        ensures taken { result ≡ Ok None → IsKeptLog self.new
+            × (self.new.records ≡ self.old.records ++ entry ∷ []) }
+        ensures refused { IfOk result (λ cause. IfSome cause
+            (λ _. KeepsRecords self.old self.new)) }
     {
         match entry {
             LogRecord::Change { tx, change } => self.take_change(alloc, tx, change),

@@ -1,9 +1,9 @@
-//! What the program takes from the outside: where bytes come from, where they go, and what keeps the
-//! contents of a server.
+//! What the program takes from the outside: where bytes come from, where they go, and what keeps
+//! the contents of a server.
 //!
 //! The layers above are written over any `Source` and any `Sink`, and the program gives them the
-//! standard streams. A source or a sink that is made of memory tells its bytes, so a clause can name
-//! them; one of the system tells nothing, and every clause on bytes says so by `Option`.
+//! standard streams. A source or a sink that is made of memory tells its bytes, so a clause can
+//! name them; one of the system tells nothing, and every clause on bytes says so by `Option`.
 #![tactic(auto)]
 
 mod keeper;

@@ -57,22 +57,26 @@ impl Sink for BytesSink {
 
     ghost faults = { λ s. s.plan.faults };
 
-    /// Takes the whole piece, but where the plan names the call, or memory is out. A call that answers
-    /// `Memory` isn't counted.
+    /// Takes the whole piece, but where the plan names the call, or memory is out. A call that
+    /// answers `Memory` isn't counted.
     fn write(&mut self, piece: &[u8]) -> Result<usize, ReadError>
         ensures planned { (result ≡ Err ReadError.Failed) ↔ IsTrue (fails_next self.old.plan) }
         ensures whole { IfOk result (λ count. count ≡ length piece.now) }
         ensures takes { OnOk result (self.new ≡ sink_after self.old piece.now) }
-        ensures failed { result ≡ Err ReadError.Failed → self.new ≡ record self.old { plan = after_call self.old.plan } }
+        ensures failed { result ≡ Err ReadError.Failed
+            → self.new ≡ record self.old { plan = after_call self.old.plan } }
         ensures memory { result ≡ Err ReadError.Memory → self.new ≡ self.old }
-        ensures unplanned { self.old.plan.failing ≡ [] → self.new.plan.faults ≡ self.old.plan.faults }
+        ensures unplanned { self.old.plan.failing ≡ []
+            → self.new.plan.faults ≡ self.old.plan.faults }
 
         // What every sink ensures.
         ensures within { IfOk result (λ count. count ≤ length piece.now) }
         ensures moves { IfOk result (λ count. 0 < length piece.now → 0 < count) }
-        ensures ok { IfOk result (λ count. Takes (Some self.old.taken) (Some self.new.taken) (take count piece.now)) }
+        ensures ok { IfOk result (λ count. Takes (Some self.old.taken) (Some self.new.taken)
+            (take count piece.now)) }
         ensures err { OnErr result (self.new.taken ≡ self.old.taken) }
-        ensures cause { result ≡ Err ReadError.Failed → Rises self.old.plan.faults self.new.plan.faults }
+        ensures cause { result ≡ Err ReadError.Failed
+            → Rises self.old.plan.faults self.new.plan.faults }
         ensures counts { self.old.plan.faults ≤ self.new.plan.faults }
     {
         if self.plan.fails() {

@@ -63,14 +63,17 @@ impl Source for BytesSource {
         ensures memory { result ≢ Err ReadError.Memory }
         ensures buffer { buffer.new ≡ buffer_after self.old buffer.old }
         ensures source { self.new ≡ source_after self.old (length buffer.old) }
-        ensures unplanned { self.old.plan.failing ≡ [] → self.new.plan.faults ≡ self.old.plan.faults }
+        ensures unplanned { self.old.plan.failing ≡ []
+            → self.new.plan.faults ≡ self.old.plan.faults }
 
         // What every source ensures.
         ensures within { IfOk result (λ count. count ≤ length buffer.new) }
-        ensures ok { IfOk result (λ count. Gives (Some self.old.left) (Some self.new.left) (take count buffer.new)) }
+        ensures ok { IfOk result (λ count. Gives (Some self.old.left) (Some self.new.left)
+            (take count buffer.new)) }
         ensures end { result ≡ Ok 0 → 0 < length buffer.old → self.old.left ≡ [] }
         ensures err { OnErr result (self.new.left ≡ self.old.left) }
-        ensures cause { result ≡ Err ReadError.Failed → Rises self.old.plan.faults self.new.plan.faults }
+        ensures cause { result ≡ Err ReadError.Failed
+            → Rises self.old.plan.faults self.new.plan.faults }
         ensures counts { self.old.plan.faults ≤ self.new.plan.faults }
     {
         let fails = self.plan.fails();

@@ -13,10 +13,11 @@ use std::alloc::Global;
 #[cfg(test)]
 mod tests;
 
-/// Contents in memory, with a plan of the calls that fail, and a count of the reads and of the writes of
-/// each area. Every call but `rollback` counts for the plan, whatever it answers.
+/// Contents in memory, with a plan of the calls that fail, and a count of the reads and of the
+/// writes of each area. Every call but `rollback` counts for the plan, whatever it answers.
 ///
-/// `begin`, `commit` and `rollback` take no memory. Where the others find none they answer `Memory`.
+/// `begin`, `commit` and `rollback` take no memory. Where the others find none they answer
+/// `Memory`.
 #[derive(Debug, Drop)]
 pub struct MapKeeper {
     alloc: Global,
@@ -52,8 +53,8 @@ impl MapKeeper {
         }
     }
 
-    /// The calls of `begin`, `get`, `next`, `put`, `remove` and `commit` from now on fail at these numbers,
-    /// counted from 1. It takes no memory.
+    /// The calls of `begin`, `get`, `next`, `put`, `remove` and `commit` from now on fail at these
+    /// numbers, counted from 1. It takes no memory.
     pub fn fail_at(&mut self, calls: List<u64>)
         ensures kept { kept_of self.new ≡ kept_of self.old }
         ensures plan { self.new.plan ≡ planned_anew self.old.plan calls }
@@ -85,10 +86,13 @@ impl MapKeeper {
         self.writes.get(area)
     }
 
-    /// No transaction is open. What is held is what it saw where it is kept, else what was held before.
+    /// No transaction is open. What is held is what it saw where it is kept, else what was held
+    /// before.
     fn close(&mut self, keep: bool)
         requires { IsTrue keep → IsOpen (kept_of self.old) }
-        ensures kept { kept_of self.new ≡ closed (if keep then committed (kept_of self.old) else kept_of self.old) (kept_of self.old).faults }
+        ensures kept { kept_of self.new ≡ closed
+            (if keep then committed (kept_of self.old) else kept_of self.old)
+            (kept_of self.old).faults }
         ensures plan { self.new.plan ≡ self.old.plan }
         ensures doubt { self.new.doubt_takes ≡ self.old.doubt_takes }
     {
@@ -136,9 +140,11 @@ impl Keeper for MapKeeper {
 
         // What every keeper ensures.
         ensures ok { OnOk result (kept_of self.new ≡ after_read (kept_of self.old) area) }
-        ensures found { IfOk result (λ found. IfSome (seen (kept_of self.old)) (Found area table key.now found out.new.items)) }
+        ensures found { IfOk result (λ found. IfSome (seen (kept_of self.old))
+            (Found area table key.now found out.new.items)) }
         ensures gives { IfOk result (λ found. GivesValue found out.new.items) }
-        ensures err { IfErr result (Refuses (after_read (kept_of self.old) area) (kept_of self.new)) }
+        ensures err { IfErr result (Refuses (after_read (kept_of self.old) area)
+            (kept_of self.new)) }
     {
         self.reads.bump(area);
         if call_fails(&mut self.plan) {
@@ -167,9 +173,12 @@ impl Keeper for MapKeeper {
 
         // What every keeper ensures.
         ensures ok { OnOk result (kept_of self.new ≡ after_read (kept_of self.old) area) }
-        ensures found { IfOk result (λ found. IfSome (seen (kept_of self.old)) (NextIs area table after.now found key.new.items out.new.items)) }
-        ensures gives { IfOk result (λ found. GivesNext after.now found key.new.items out.new.items) }
-        ensures err { IfErr result (Refuses (after_read (kept_of self.old) area) (kept_of self.new)) }
+        ensures found { IfOk result (λ found. IfSome (seen (kept_of self.old))
+            (NextIs area table after.now found key.new.items out.new.items)) }
+        ensures gives { IfOk result (λ found. GivesNext after.now found key.new.items
+            out.new.items) }
+        ensures err { IfErr result (Refuses (after_read (kept_of self.old) area)
+            (kept_of self.new)) }
     {
         self.reads.bump(area);
         if call_fails(&mut self.plan) {
@@ -193,8 +202,10 @@ impl Keeper for MapKeeper {
         ensures counted { IsCounted self.old self.new }
 
         // What every keeper ensures.
-        ensures ok { OnOk result (kept_of self.new ≡ after_put (kept_of self.old) area table key.now value.now) }
-        ensures err { IfErr result (Refuses (after_write (kept_of self.old) area) (kept_of self.new)) }
+        ensures ok { OnOk result (kept_of self.new
+            ≡ after_put (kept_of self.old) area table key.now value.now) }
+        ensures err { IfErr result (Refuses (after_write (kept_of self.old) area)
+            (kept_of self.new)) }
     {
         self.writes.bump(area);
         if call_fails(&mut self.plan) {
@@ -216,9 +227,12 @@ impl Keeper for MapKeeper {
         ensures counted { IsCounted self.old self.new }
 
         // What every keeper ensures.
-        ensures ok { OnOk result (kept_of self.new ≡ after_remove (kept_of self.old) area table key.now) }
-        ensures found { IfOk result (λ found. IfSome (seen (kept_of self.old)) (WasThere area table key.now found)) }
-        ensures err { IfErr result (Refuses (after_write (kept_of self.old) area) (kept_of self.new)) }
+        ensures ok { OnOk result (kept_of self.new
+            ≡ after_remove (kept_of self.old) area table key.now) }
+        ensures found { IfOk result (λ found. IfSome (seen (kept_of self.old))
+            (WasThere area table key.now found)) }
+        ensures err { IfErr result (Refuses (after_write (kept_of self.old) area)
+            (kept_of self.new)) }
     {
         self.writes.bump(area);
         if call_fails(&mut self.plan) {
@@ -234,14 +248,17 @@ impl Keeper for MapKeeper {
         }
     }
 
-    /// It takes no memory, and its time goes by what the transaction changed. Where it fails it takes
-    /// place all the same if `doubt_new` last said so.
+    /// It takes no memory, and its time goes by what the transaction changed. Where it fails it
+    /// takes place all the same if `doubt_new` last said so.
     fn commit(&mut self) -> Result<(), KeepError>
         requires { IsOpen (kept_of self.old) }
         ensures planned { (result ≡ Err KeepError.Failed) ↔ IsTrue (fails_next self.old.plan) }
         ensures memory { result ≢ Err KeepError.Memory }
         ensures counted { IsCounted self.old self.new }
-        ensures doubt { result ≡ Err KeepError.Failed → kept_of self.new ≡ closed (if self.old.doubt_takes then committed (kept_of self.old) else kept_of self.old) (kept_of self.new).faults }
+        ensures doubt { result ≡ Err KeepError.Failed
+            → kept_of self.new
+            ≡ closed (if self.old.doubt_takes then committed
+            (kept_of self.old) else kept_of self.old) (kept_of self.new).faults }
 
         // What every keeper ensures.
         ensures ok { OnOk result (kept_of self.new ≡ committed (kept_of self.old)) }

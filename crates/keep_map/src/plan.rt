@@ -7,8 +7,8 @@ use repl_types::List;
 use std::alloc::Global;
 use std::marker::Model;
 
-/// The calls that are to fail, by their numbers, and the counts of those that were made and of those
-/// that failed. A count that stands at the last `u64` stays there.
+/// The calls that are to fail, by their numbers, and the counts of those that were made and of
+/// those that failed. A count that stands at the last `u64` stays there.
 #[derive(Debug, Drop)]
 pub struct Plan {
     failing: List<u64>,

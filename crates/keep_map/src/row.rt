@@ -43,7 +43,8 @@ pub struct Row {
 impl Row {
     /// The value is this one, and what stood there before the transaction is not forgotten.
     pub fn change(&mut self, value: Option<StoredValue>)
-        ensures { self.new ≡ record { now = value; before = Some (unwrap_or self.old.before self.old.now) } }
+        ensures { self.new
+            ≡ record { now = value; before = Some (unwrap_or self.old.before self.old.now) } }
     {
         let old = std::mem::replace(&mut self.now, value);
         if self.before.is_none() {
@@ -51,10 +52,14 @@ impl Row {
         }
     }
 
-    /// The value is settled: what the transaction made of it where it is kept, else what stood there
-    /// before.
+    /// The value is settled: what the transaction made of it where it is kept, else what stood
+    /// there before.
     pub fn settle(&mut self, keep: bool)
-        ensures { self.new ≡ record { now = if keep then self.old.now else unwrap_or self.old.before self.old.now; before = None } }
+        ensures { self.new
+            ≡ record {
+              now = if keep then self.old.now else unwrap_or self.old.before self.old.now;
+              before = None;
+            } }
     {
         if let Some(before) = self.before.take()
             && !keep

@@ -18,8 +18,8 @@ use std::alloc::{AllocError, Global};
 use std::collections::BTreeMap;
 use std::ops::Bound;
 
-/// The rows in the order of their slots, and the slots that the open transaction changed. A row whose
-/// value was removed stays until the transaction ends.
+/// The rows in the order of their slots, and the slots that the open transaction changed. A row
+/// whose value was removed stays until the transaction ends.
 #[derive(Debug, Drop)]
 pub struct Rows {
     map: BTreeMap<Slot, Row>,
@@ -49,7 +49,8 @@ impl Rows {
         key: &[u8],
         out: &mut Vec<u8>,
     ) -> Result<bool, AllocError>
-        ensures found { IfOk result (λ found. Found area table key.now found out.new.items (seen_of self.now.map)) }
+        ensures found { IfOk result (λ found. Found area table key.now found out.new.items
+            (seen_of self.now.map)) }
         ensures gives { IfOk result (λ found. GivesValue found out.new.items) }
     {
         out.clear();
@@ -63,8 +64,8 @@ impl Rows {
         }
     }
 
-    /// Whether the table has a key above `after` at which a value is seen, and the least of these with
-    /// its value.
+    /// Whether the table has a key above `after` at which a value is seen, and the least of these
+    /// with its value.
     pub fn next(
         &self,
         alloc: Global,
@@ -74,8 +75,10 @@ impl Rows {
         key: &mut Vec<u8>,
         out: &mut Vec<u8>,
     ) -> Result<bool, AllocError>
-        ensures found { IfOk result (λ found. NextIs area table after.now found key.new.items out.new.items (seen_of self.now.map)) }
-        ensures gives { IfOk result (λ found. GivesNext after.now found key.new.items out.new.items) }
+        ensures found { IfOk result (λ found. NextIs area table after.now found key.new.items
+            out.new.items (seen_of self.now.map)) }
+        ensures gives { IfOk result (λ found. GivesNext after.now found key.new.items
+            out.new.items) }
     {
         key.clear();
         out.clear();
@@ -92,15 +95,18 @@ impl Rows {
 
     /// The value that is seen at the slot.
     fn value(&self, slot: &Slot) -> Option<&StoredValue>
-        ensures { option_map (λ v. v.now.bytes.items) result ≡ seen_in (row_at self.now.map (place_of slot.now)) }
+        ensures { option_map (λ v. v.now.bytes.items) result
+            ≡ seen_in (row_at self.now.map (place_of slot.now)) }
     {
         self.map.get(slot)?.now.as_ref()
     }
 
     /// The first slot above, of the same table, at which a value is seen.
     fn above(&self, after: Slot) -> Option<(&Slot, &StoredValue)>
-        ensures none { IfNone result (IsLast (table_of self.now.map after.area after.table) after.key.items) }
-        ensures next { IfSome result (λ p. IsNext (table_of self.now.map after.area after.table) after.key.items p.0.now.key.items p.1.now.bytes.items) }
+        ensures none { IfNone result (IsLast (table_of self.now.map after.area after.table)
+            after.key.items) }
+        ensures next { IfSome result (λ p. IsNext (table_of self.now.map after.area after.table)
+            after.key.items p.0.now.key.items p.1.now.bytes.items) }
         ensures key { IfSome result (λ p. IsKeySize p.0.now.key.items) }
     {
         let (area, table) = (after.area, after.table);
@@ -111,10 +117,11 @@ impl Rows {
         }
     }
 
-    /// The first entry above the slot that is of another table, or at which a value is seen. What it
-    /// passes over was removed in this transaction.
+    /// The first entry above the slot that is of another table, or at which a value is seen. What
+    /// it passes over was removed in this transaction.
     fn first(&self, after: Slot) -> Option<(&Slot, &Row)>
-        ensures entry { option_map deref_pair result ≡ find (stops after.area after.table) (entries_above after self.now.map) }
+        ensures entry { option_map deref_pair result
+            ≡ find (stops after.area after.table) (entries_above after self.now.map) }
         ensures ordered { IsOrdered slot_cmp self.now.map }
     {
         let (area, table) = (after.area, after.table);
@@ -134,7 +141,8 @@ impl Rows {
     ) -> Result<(), AllocError>
         requires key { IsKeySize key.now }
         requires value { IsValueSize value.now }
-        ensures ok { OnOk result (seen_of self.new.map ≡ put_at (seen_of self.old.map) area table key.now (Some value.now)) }
+        ensures ok { OnOk result (seen_of self.new.map
+            ≡ put_at (seen_of self.old.map) area table key.now (Some value.now)) }
         ensures held { held_of self.new.map ≡ held_of self.old.map }
     {
         let slot = Slot::new(alloc, area, table, key)?;
@@ -142,8 +150,8 @@ impl Rows {
         self.change(slot, Some(value))
     }
 
-    /// The transaction sees no value at the key. Tells whether there was one. After an error what is
-    /// held is as before.
+    /// The transaction sees no value at the key. Tells whether there was one. After an error what
+    /// is held is as before.
     pub fn remove(
         &mut self,
         alloc: Global,
@@ -151,8 +159,10 @@ impl Rows {
         table: u32,
         key: &[u8],
     ) -> Result<bool, AllocError>
-        ensures ok { OnOk result (seen_of self.new.map ≡ put_at (seen_of self.old.map) area table key.now None) }
-        ensures found { IfOk result (λ found. WasThere area table key.now found (seen_of self.old.map)) }
+        ensures ok { OnOk result (seen_of self.new.map
+            ≡ put_at (seen_of self.old.map) area table key.now None) }
+        ensures found { IfOk result (λ found. WasThere area table key.now found
+            (seen_of self.old.map)) }
         ensures held { held_of self.new.map ≡ held_of self.old.map }
     {
         let slot = Slot::new(alloc, area, table, key)?;
@@ -166,7 +176,9 @@ impl Rows {
     /// The transaction sees this value at the slot, or none.
     fn change(&mut self, slot: Slot, value: Option<StoredValue>) -> Result<(), AllocError>
         requires { IsKeySize slot.key.items }
-        ensures ok { OnOk result (Sets (place_of slot) (Some (changed (row_at self.old.map (place_of slot)) value)) self.old.map self.new.map) }
+        ensures ok { OnOk result (Sets (place_of slot)
+            (Some (changed (row_at self.old.map (place_of slot)) value)) self.old.map
+            self.new.map) }
         ensures err { OnErr result ((p : Place) → row_at self.new.map p ≡ row_at self.old.map p) }
     {
         self.touched.push(slot.clone()?)?;
@@ -177,10 +189,11 @@ impl Rows {
         Ok(())
     }
 
-    /// Ends the transaction: what is held is what it saw where it is kept, else what was held before.
-    /// It takes no memory, and its time goes by the slots that the transaction changed.
+    /// Ends the transaction: what is held is what it saw where it is kept, else what was held
+    /// before. It takes no memory, and its time goes by the slots that the transaction changed.
     pub fn settle(&mut self, keep: bool)
-        ensures seen { seen_of self.new.map ≡ (if keep then seen_of self.old.map else held_of self.old.map) }
+        ensures seen { seen_of self.new.map
+            ≡ (if keep then seen_of self.old.map else held_of self.old.map) }
         ensures held { held_of self.new.map ≡ seen_of self.new.map }
         ensures none { self.new.touched.items ≡ [] }
     {
@@ -190,13 +203,15 @@ impl Rows {
     }
 }
 
-/// The row at the slot has this value now, or none. Tells whether the transaction changed it before.
+/// The row at the slot has this value now, or none. Tells whether the transaction changed it
+/// before.
 fn change_row(
     map: &mut BTreeMap<Slot, Row>,
     slot: Slot,
     value: Option<StoredValue>,
 ) -> Result<bool, AllocError>
-    ensures ok { OnOk result (Sets (place_of slot) (Some (changed (row_at map.old (place_of slot)) value)) map.old map.new) }
+    ensures ok { OnOk result (Sets (place_of slot)
+        (Some (changed (row_at map.old (place_of slot)) value)) map.old map.new) }
     ensures changed { IfOk result (λ was. was ≡ is_changed (row_at map.old (place_of slot))) }
     ensures err { OnErr result (IsUnchanged map.old map.new) }
 {
@@ -212,7 +227,8 @@ fn change_row(
 
 /// The row at the slot is settled. Where no value is left there, the row goes.
 fn settle_row(map: &mut BTreeMap<Slot, Row>, slot: &Slot, keep: bool)
-    ensures { Sets (place_of slot.now) (settled keep (row_at map.old (place_of slot.now))) map.old map.new }
+    ensures { Sets (place_of slot.now) (settled keep (row_at map.old (place_of slot.now))) map.old
+        map.new }
 {
     let Some(row) = map.get_mut(slot) else {
         return;

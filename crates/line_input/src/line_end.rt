@@ -21,7 +21,8 @@ fn strip(line: &mut Vec<u8>)
 
 /// Ends a line at its line feed.
 pub fn ended(line: &mut Vec<u8>, long: bool) -> Next
-    ensures ends { (bytes : List ℕ) → IsKept bytes line.old.items long → EndsAs result line.new.items bytes }
+    ensures ends { (bytes : List ℕ) → IsKept bytes line.old.items long
+        → EndsAs result line.new.items bytes }
     ensures short { result ≡ Next.Line → length line.new.items ≤ line_limit }
     ensures shorter { length line.new.items ≤ length line.old.items }
 {
@@ -34,7 +35,8 @@ pub fn ended(line: &mut Vec<u8>, long: bool) -> Next
 
 /// Ends a line at the end of the input.
 pub fn last(line: &[u8], long: bool) -> Next
-    ensures ends { (bytes : List ℕ) → IsKept bytes line.now long → EndsInputAs result line.now bytes }
+    ensures ends { (bytes : List ℕ) → IsKept bytes line.now long
+        → EndsInputAs result line.now bytes }
     ensures short { result ≡ Next.Line → length line.now ≤ line_limit }
 {
     if long || line.len() > LINE_LIMIT {

@@ -1,4 +1,5 @@
-//! What holds of the definitions that clauses cite. The functions do nothing: their contracts say it.
+//! What holds of the definitions that clauses cite. The functions do nothing: their contracts say
+//! it.
 
 ghost use Rattle.std.specs.Prelude.{◌≡◌, ℕ, List, Some};
 ghost use Rattle.std.specs.List.{All};
@@ -10,12 +11,15 @@ ghost use Rattle.log_text.specs.RecordText.{record_words, record_text, IsWritabl
 
 use repl_types::{Row, value_fits};
 
-/// A line that is read as a record has the words of the record's text, and the text of a user's record
-/// is read as the record.
+/// A line that is read as a record has the words of the record's text, and the text of a user's
+/// record is read as the record.
 pub fn one_text_of_a_record()
-    ensures found { (line : List ℕ) (entry : LogRecord) → record_of line ≡ Some entry → (words line ≡ record_words entry) × IsWritable entry }
-    ensures words { (entry : LogRecord) → IsWritable entry → words (record_text entry) ≡ record_words entry }
-    ensures again { (entry : LogRecord) → IsWritable entry → record_of (record_text entry) ≡ Some entry }
+    ensures found { (line : List ℕ) (entry : LogRecord) → record_of line ≡ Some entry
+        → (words line ≡ record_words entry) × IsWritable entry }
+    ensures words { (entry : LogRecord) → IsWritable entry
+        → words (record_text entry) ≡ record_words entry }
+    ensures again { (entry : LogRecord) → IsWritable entry
+        → record_of (record_text entry) ≡ Some entry }
 {}
 
 /// The values of a row that the program holds have texts, as `IsWritable` asks.

@@ -40,8 +40,10 @@ fn is_word(word: &[u8], text: &[u8]) -> bool
 
 /// The values up to an arrow, or up to the end, and the line from that arrow on.
 fn read_values(alloc: Global, line: &[u8]) -> Result<Option<(Row, &[u8])>, AllocError>
-    ensures values { IfOk result (λ found. option_map (λ row. row.0) found ≡ values_of (before_first is_arrow (words line.now))) }
-    ensures rest { IfOk result (λ found. IfSome found (λ row. words row.1.now ≡ from_arrow (words line.now))) }
+    ensures values { IfOk result (λ found. option_map (λ row. row.0) found
+        ≡ values_of (before_first is_arrow (words line.now))) }
+    ensures rest { IfOk result (λ found. IfSome found (λ row. words row.1.now
+        ≡ from_arrow (words line.now))) }
 {
     let mut values = List::new(alloc);
     let mut rest = line;
@@ -61,8 +63,10 @@ fn read_values(alloc: Global, line: &[u8]) -> Result<Option<(Row, &[u8])>, Alloc
 /// A row of 1 to 64 values, and the line from the arrow on.
 #[tactic(auto, unfolding(crate::specs::Records::row_of))]
 fn read_row(alloc: Global, line: &[u8]) -> Result<Option<(Row, &[u8])>, AllocError>
-    ensures row { IfOk result (λ found. option_map (λ row. row.0) found ≡ row_of (before_first is_arrow (words line.now))) }
-    ensures rest { IfOk result (λ found. IfSome found (λ row. words row.1.now ≡ from_arrow (words line.now))) }
+    ensures row { IfOk result (λ found. option_map (λ row. row.0) found
+        ≡ row_of (before_first is_arrow (words line.now))) }
+    ensures rest { IfOk result (λ found. IfSome found (λ row. words row.1.now
+        ≡ from_arrow (words line.now))) }
 {
     let Some((row, rest)) = read_values(alloc, line)? else {
         return Ok(None);
@@ -227,8 +231,8 @@ fn record_from(alloc: Global, line: &[u8]) -> Result<Option<LogRecord>, AllocErr
     read_tx_record(alloc, verb, tx, rest)
 }
 
-/// The record whose text a line is. `BadLog` comes just where the line is the text of no record, and
-/// `Memory` where there is no memory for the record.
+/// The record whose text a line is. `BadLog` comes just where the line is the text of no record,
+/// and `Memory` where there is no memory for the record.
 pub fn read_record(alloc: Global, line: &[u8]) -> Result<LogRecord, ReadLogError>
     ensures ok { IfOk result (λ found. record_of line.now ≡ Some found) }
     ensures bad { result ≡ Err ReadLogError.BadLog → record_of line.now ≡ None }

@@ -30,7 +30,8 @@ fn quoted_after(quoted: bool, byte: u8) -> bool
     if byte == b'\'' { !quoted } else { quoted }
 }
 
-/// Where the word at the front of a line ends: at the first blank that doesn't stand between quotes.
+/// Where the word at the front of a line ends: at the first blank that doesn't stand between
+/// quotes.
 fn word_end(line: &[u8]) -> usize
     requires start { StartsNoBlank line.now }
     requires some { 0 < length line.now }
@@ -48,10 +49,11 @@ fn word_end(line: &[u8]) -> usize
     line.len()
 }
 
-/// The first word of a line, and what follows it. Words stand between blanks, but a blank between quotes
-/// is part of its word.
+/// The first word of a line, and what follows it. Words stand between blanks, but a blank between
+/// quotes is part of its word.
 pub fn next_word(line: &[u8]) -> Option<(&[u8], &[u8])>
-    ensures words { MatchOption result (words_lem line.now ≡ []) (λ found. words_lem line.now ≡ found.0.now ∷ words_lem found.1.now) }
+    ensures words { MatchOption result (words_lem line.now ≡ []) (λ found. words_lem line.now
+        ≡ found.0.now ∷ words_lem found.1.now) }
     ensures shorter { IfSome result (λ found. length found.1.now < length line.now) }
 {
     let rest = skip_blanks(line);

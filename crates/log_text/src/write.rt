@@ -33,7 +33,8 @@ fn write_values(row: &Row, out: &mut Vec<u8>) -> Result<(), AllocError>
 
 /// The first words of a line: its verb, its transaction, and a table or a user.
 fn write_head(verb: &[u8], tx: u32, name: &Name, out: &mut Vec<u8>) -> Result<(), AllocError>
-    ensures { OnOk result (out.new.items ≡ out.old.items ++ line_of (head_words verb.now tx name.now)) }
+    ensures { OnOk result (out.new.items
+        ≡ out.old.items ++ line_of (head_words verb.now tx name.now)) }
 {
     out.extend_from_slice(verb)?;
     write_number(u64::from(tx), out)?;
@@ -47,7 +48,9 @@ fn write_update(
     after: &Row,
     out: &mut Vec<u8>,
 ) -> Result<(), AllocError>
-    ensures { OnOk result (out.new.items ≡ out.old.items ++ line_of (head_words (codes "update") tx table.now ++ map value_text before.now ++ codes "->" ∷ map value_text after.now)) }
+    ensures { OnOk result (out.new.items
+        ≡ out.old.items ++ line_of (head_words (codes "update") tx table.now
+        ++ map value_text before.now ++ codes "->" ∷ map value_text after.now)) }
 {
     write_head(b"update", tx, table, out)?;
     write_values(before, out)?;
@@ -62,7 +65,8 @@ fn write_row_change(
     row: &Row,
     out: &mut Vec<u8>,
 ) -> Result<(), AllocError>
-    ensures { OnOk result (out.new.items ≡ out.old.items ++ line_of (head_words verb.now tx table.now ++ map value_text row.now)) }
+    ensures { OnOk result (out.new.items
+        ≡ out.old.items ++ line_of (head_words verb.now tx table.now ++ map value_text row.now)) }
 {
     write_head(verb, tx, table, out)?;
     write_values(row, out)
@@ -104,18 +108,20 @@ fn write_commit(
     origin: &Option<SetId>,
     out: &mut Vec<u8>,
 ) -> Result<(), AllocError>
-    ensures { OnOk result (out.new.items ≡ out.old.items ++ line_of (head_words (codes "commit") tx authid.now ++ decimal time ∷ origin_words origin.now)) }
+    ensures { OnOk result (out.new.items
+        ≡ out.old.items ++ line_of (head_words (codes "commit") tx authid.now
+        ++ decimal time ∷ origin_words origin.now)) }
 {
     write_head(b"commit", tx, authid, out)?;
     write_number(time, out)?;
     write_origin(origin, out)
 }
 
-/// Appends the line of a record, without a line feed. `read_record` takes the lines of a user's records:
-/// inserts, updates and deletes of 1 to 64 values a side, aborts, and commits that no set made, each of
-/// a transaction other than 0. It doesn't take the lines of the program's own records: `capstart TX
-/// TABLE` and `capstop TX TABLE`, and a commit that ends in `origin QUAL/NAME`. Without memory some of
-/// the line may have been appended.
+/// Appends the line of a record, without a line feed. `read_record` takes the lines of a user's
+/// records: inserts, updates and deletes of 1 to 64 values a side, aborts, and commits that no set
+/// made, each of a transaction other than 0. It doesn't take the lines of the program's own
+/// records: `capstart TX TABLE` and `capstop TX TABLE`, and a commit that ends in `origin
+/// QUAL/NAME`. Without memory some of the line may have been appended.
 pub fn write_record(record: &LogRecord, out: &mut Vec<u8>) -> Result<(), AllocError>
     ensures { OnOk result (out.new.items ≡ out.old.items ++ record_text «record».now) }
 {

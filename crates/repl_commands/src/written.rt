@@ -1,4 +1,5 @@
-//! Definitions as they are written: texts whose rules aren't asked yet, in the order in which they stand.
+//! Definitions as they are written: texts whose rules aren't asked yet, in the order in which they
+//! stand.
 
 use repl_types::{Bytes, List};
 
@@ -44,8 +45,8 @@ pub struct RawSet {
     pub members: List<RawMember>,
 }
 
-/// A member of a set. `kind` is what is written as its type, `filter` as its predicate, and a column is
-/// its name and its source as one text.
+/// A member of a set. `kind` is what is written as its type, `filter` as its predicate, and a
+/// column is its name and its source as one text.
 #[derive(Debug, Drop, PartialEq, Eq)]
 pub struct RawMember {
     pub source: Bytes,

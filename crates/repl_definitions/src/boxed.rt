@@ -21,7 +21,7 @@ impl<T> Model for Boxed<T> {
 }
 
 impl<T: Drop> Boxed<T> {
-    /// A value, moved to the heap. Without memory it is dropped.
+    /// A value, moved to the heap. If memory runs out, it is dropped.
     pub fn new(alloc: Global, value: T) -> Result<Boxed<T>, AllocError>
         ensures { IfOk result (λ boxed. boxed ≡ value) }
     {

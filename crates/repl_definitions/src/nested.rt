@@ -45,15 +45,18 @@ pub(crate) trait Nested: Sized + Drop {
         alloc: Global,
         bytes: &[u8],
     ) -> Result<(Root<Self::Leaf, Self::Joint>, &[u8]), TakeError>
-        ensures ok { IfOk result (λ taken. node_fits taken.0 × (bytes.now ≡ node_spelling taken.0 ++ taken.1.now)) }
-        ensures spelling { result ≡ Err TakeError.Spelling → NoFront node_fits node_spelling bytes.now };
+        ensures ok { IfOk result (λ taken. node_fits taken.0
+            × (bytes.now ≡ node_spelling taken.0 ++ taken.1.now)) }
+        ensures spelling { result ≡ Err TakeError.Spelling
+            → NoFront node_fits node_spelling bytes.now };
 
     /// Appends the spelling of the node at the top, and gives the trees below it.
     fn put_root(&self, out: &mut Vec<u8>) -> Result<Option<(&Self, &Self)>, AllocError>
         requires { has_node_spelling (top self.now) }
         ensures ok { OnOk result (out.new.items ≡ out.old.items ++ node_spelling (top self.now)) }
         ensures fits { OnOk result (node_fits (top self.now)) }
-        ensures below { IfOk result (λ below. MatchOption below (nodes self.now ≡ top self.now ∷ []) (λ pair. nodes self.now ≡ top self.now ∷ nodes pair.0.now ++ nodes pair.1.now)) };
+        ensures below { IfOk result (λ below. MatchOption below (nodes self.now ≡ top self.now ∷ [])
+            (λ pair. nodes self.now ≡ top self.now ∷ nodes pair.0.now ++ nodes pair.1.now)) };
 
     /// What joins the two trees below the top, and these trees; None for a leaf.
     fn joined(&self) -> Option<(Self::Joint, &Self, &Self)>
@@ -96,8 +99,11 @@ pub(crate) struct Pending<J, T> {
 
 /// The tree whose spelling the bytes begin with, and the bytes after it.
 pub(crate) fn take_nested<T: Nested>(alloc: Global, bytes: &[u8]) -> Result<(T, &[u8]), TakeError>
-    ensures ok { IfOk result (λ taken. NodesFit T.node_fits (T.nodes taken.0) × (bytes.now ≡ nodes_spelling T.node_spelling (T.nodes taken.0) ++ taken.1.now)) }
-    ensures spelling { result ≡ Err TakeError.Spelling → ((tree : T) (rest : List ℕ) → NodesFit T.node_fits (T.nodes tree) → bytes.now ≢ nodes_spelling T.node_spelling (T.nodes tree) ++ rest) }
+    ensures ok { IfOk result (λ taken. NodesFit T.node_fits (T.nodes taken.0)
+        × (bytes.now ≡ nodes_spelling T.node_spelling (T.nodes taken.0) ++ taken.1.now)) }
+    ensures spelling { result ≡ Err TakeError.Spelling
+        → ((tree : T) (rest : List ℕ) → NodesFit T.node_fits (T.nodes tree)
+        → bytes.now ≢ nodes_spelling T.node_spelling (T.nodes tree) ++ rest) }
 {
     let mut pending = Vec::new(alloc);
     let mut left = bytes;
@@ -122,8 +128,12 @@ fn settle<T: Nested>(
     pending: &mut Vec<Pending<T::Joint, T>>,
     tree: T,
 ) -> Result<Option<T>, AllocError>
-    ensures waits { IfOk result (λ whole. IfNone whole ((pending_nodes T.nodes pending.new.items ≡ pending_nodes T.nodes pending.old.items ++ T.nodes tree) × (owed pending.new.items + 1 ≡ owed pending.old.items))) }
-    ensures whole { IfOk result (λ whole. IfSome whole (λ found. (T.nodes found ≡ pending_nodes T.nodes pending.old.items ++ T.nodes tree) × (owed pending.old.items ≡ 0))) }
+    ensures waits { IfOk result (λ whole. IfNone whole
+        ((pending_nodes T.nodes pending.new.items ≡ pending_nodes T.nodes pending.old.items
+        ++ T.nodes tree) × (owed pending.new.items + 1 ≡ owed pending.old.items))) }
+    ensures whole { IfOk result (λ whole. IfSome whole
+        (λ found. (T.nodes found ≡ pending_nodes T.nodes pending.old.items ++ T.nodes tree)
+        × (owed pending.old.items ≡ 0))) }
 {
     let mut whole = tree;
     while let Some(node) = pending.pop() {
@@ -142,10 +152,11 @@ fn settle<T: Nested>(
     Ok(Some(whole))
 }
 
-/// Appends the spelling of a tree. Without memory some of it may have been appended.
+/// Appends the spelling of a tree. If memory runs out, what `out` holds is unspecified.
 pub(crate) fn put_nested<T: Nested>(tree: &T, out: &mut Vec<u8>) -> Result<(), AllocError>
     requires { NodesFit T.has_node_spelling (T.nodes tree.now) }
-    ensures ok { OnOk result (out.new.items ≡ out.old.items ++ nodes_spelling T.node_spelling (T.nodes tree.now)) }
+    ensures ok { OnOk result (out.new.items
+        ≡ out.old.items ++ nodes_spelling T.node_spelling (T.nodes tree.now)) }
     ensures fits { OnOk result (NodesFit T.node_fits (T.nodes tree.now)) }
 {
     let mut waiting = Vec::new(*out.allocator());

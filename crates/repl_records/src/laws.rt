@@ -13,14 +13,15 @@ ghost use Rattle.repl_records.specs.declared.target_side.LatestRow.{LatestRow};
 ghost use Rattle.repl_records.specs.declared.target_side.PointRow.{PointRow};
 ghost use Rattle.row_codec.specs.Storable.{IsStorable};
 
-/// Rows of sources and targets and change rows may be stored if each row that they hold has at most 64
-/// values.
+/// Rows of sources and targets and change rows may be stored if each row that they hold has at most
+/// 64 values.
 pub fn records_of_64_values_are_storable()
     ensures source { (r : SourceRow) → IsSourceRow r → length r.row ≤ 64
         → IsStorable HasSourceRowSpelling source_row_spelling r }
     ensures change { (r : ChangeRow) → IsChangeRow r → length r.after ≤ 64 → length r.before ≤ 64
         → IsStorable HasChangeRowSpelling change_row_spelling r }
-    ensures copy { (r : CopyRow) → IsCopy r → length r.row ≤ 64 → IsStorable HasCopySpelling copy_spelling r }
+    ensures copy { (r : CopyRow) → IsCopy r → length r.row ≤ 64
+        → IsStorable HasCopySpelling copy_spelling r }
     ensures point { (r : PointRow) → IsPoint r → length r.row ≤ 64
         → IsStorable HasPointSpelling point_spelling r }
     ensures aggregate { (r : AggregateRow) → IsAggregate r → length r.row ≤ 64

@@ -123,8 +123,10 @@ fn is_zero_where_absent(state: &SetState) -> bool
 /// the bytes after it.
 #[tactic(auto, using(crate::specs::laws::SetState::only_read_only, crate::specs::laws::SetState::only_replica))]
 fn take_state(alloc: Global, bytes: &[u8]) -> Result<(SetState, &[u8]), TakeError>
-    ensures ok { IfOk result (λ part. HasNumbers part.0 × (bytes.now ≡ state_spelling part.0 ++ part.1.now)) }
-    ensures spelling { result ≡ Err TakeError.Spelling → NoFront HasNumbers state_spelling bytes.now }
+    ensures ok { IfOk result (λ part. HasNumbers part.0
+        × (bytes.now ≡ state_spelling part.0 ++ part.1.now)) }
+    ensures spelling { result ≡ Err TakeError.Spelling
+        → NoFront HasNumbers state_spelling bytes.now }
 {
     match bytes {
         [READ_ONLY, rest @ ..] => {

@@ -197,7 +197,8 @@ fn put_three(first: u64, second: u64, third: u64, out: &mut Vec<u8>) -> Result<(
 fn take_block(alloc: Global, bytes: &[u8]) -> Result<(TrailEntry, &[u8]), TakeError>
     ensures ok { IfOk result
         (λ taken. IsEntry taken.0 × (2 ∷ bytes.now ≡ entry_spelling taken.0 ++ taken.1.now)) }
-    ensures spelling { result ≡ Err TakeError.Spelling → NoFront IsEntry entry_spelling (2 ∷ bytes.now) }
+    ensures spelling { result ≡ Err TakeError.Spelling
+        → NoFront IsEntry entry_spelling (2 ∷ bytes.now) }
 {
     let (from, to, inserts, updates, deletes, base, rest) = take_six::<
         u64,

@@ -6,7 +6,8 @@ use crate::sequence::Sequence;
 use crate::value::Row;
 
 /// Which changes of a table are captured, and how. `after` and `before` are places of the table's
-/// columns, counted from 0, in rising order: those whose after-images and whose before-images are kept.
+/// columns, counted from 0, in rising order: those whose after-images and whose before-images are
+/// kept.
 #[derive(Clone, Debug, Drop, PartialEq, Eq)]
 pub struct Registration {
     pub table: Name,
@@ -28,8 +29,8 @@ pub enum Op {
     D,
 }
 
-/// A change row. `commitseq` is its unit's seq, `intentseq` the place of the change in the log. `after`
-/// and `before` are the images of the registered columns.
+/// A change row. `commitseq` is its unit's seq, `intentseq` the place of the change in the log.
+/// `after` and `before` are the images of the registered columns.
 #[derive(Clone, Debug, Drop, PartialEq, Eq)]
 pub struct CdRow {
     pub commitseq: u64,

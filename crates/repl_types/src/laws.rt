@@ -1,4 +1,5 @@
-//! What holds of the definitions that clauses cite. The functions do nothing: their contracts say it.
+//! What holds of the definitions that clauses cite. The functions do nothing: their contracts say
+//! it.
 
 ghost use Rattle.std.specs.Prelude.{◌≡◌, ℕ, ◌≤◌, ◌<◌, ◌^◌, List};
 ghost use Rattle.std.specs.Cmp.{IsTotalOrder};
@@ -22,13 +23,16 @@ pub fn keys_in_order()
 
 /// A word that spells a number is the number's decimal, and the decimal spells the number.
 pub fn one_spelling_of_a_number()
-    ensures found { (low high n : ℕ) (word : List ℕ) → high < 2 ^ 64 → number_of low high word ≡ Some n → decimal n ≡ word }
-    ensures again { (low high n : ℕ) → high < 2 ^ 64 → low ≤ n → n ≤ high → number_of low high (decimal n) ≡ Some n }
+    ensures found { (low high n : ℕ) (word : List ℕ) → high < 2 ^ 64
+        → number_of low high word ≡ Some n → decimal n ≡ word }
+    ensures again { (low high n : ℕ) → high < 2 ^ 64 → low ≤ n → n ≤ high
+        → number_of low high (decimal n) ≡ Some n }
 {}
 
 /// A word that spells a value is the value's text, and the text spells the value.
 pub fn one_spelling_of_a_value()
-    ensures found { (word : List ℕ) (v : Value) → value_of word ≡ Some v → (value_text v ≡ word) × IsValue v }
+    ensures found { (word : List ℕ) (v : Value) → value_of word ≡ Some v → (value_text v ≡ word)
+        × IsValue v }
     ensures again { (v : Value) → IsValue v → value_of (value_text v) ≡ Some v }
 {}
 

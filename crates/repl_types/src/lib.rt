@@ -2,8 +2,8 @@
 //! refusals and statuses.
 //!
 //! It stands on nothing, and every other crate stands on it. What a `Vec` or a `String` would be in
-//! plain Rust is a `List`, a `Text` or a `Name` here: clauses see these as the list of what they hold,
-//! so two records are equal in a clause just where they say the same.
+//! plain Rust is a `List`, a `Text` or a `Name` here: clauses see these as the list of what they
+//! hold, so two records are equal in a clause just where they say the same.
 #![tactic(auto)]
 
 mod area;

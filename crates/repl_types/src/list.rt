@@ -7,8 +7,8 @@ use std::alloc::{AllocError, AllocFailed, Global};
 use std::cmp::Ordering;
 use std::marker::Model;
 
-/// A list over a `Vec`. A clause sees the list of its elements and nothing else, so lists compare by
-/// what they contain.
+/// A list over a `Vec`. A clause sees the list of its elements and nothing else, so lists compare
+/// by what they contain.
 #[derive(Debug, Drop)]
 pub struct List<T> {
     items: Vec<T>,
@@ -67,7 +67,7 @@ impl<T> List<T> {
         self.items.is_empty()
     }
 
-    /// Adds an element at the end. Without memory the list stays, and the element comes back.
+    /// Adds an element at the end. If memory runs out, the list stays, and the element comes back.
     pub fn push(&mut self, item: T) -> Result<(), AllocFailed<T>>
         ensures items { self.new ≡ (if is_ok result then self.old ++ item ∷ [] else self.old) }
     {

@@ -21,8 +21,8 @@ pub enum NameError {
     Spelling,
 }
 
-/// A name: 1 to 32 of the characters `a` to `z`, `0` to `9` and `_`, the first a letter. A clause sees
-/// its bytes.
+/// A name: 1 to 32 of the characters `a` to `z`, `0` to `9` and `_`, the first a letter. A clause
+/// sees its bytes.
 #[derive(Clone, Debug, Drop, PartialEq, Eq, PartialOrd, Ord)]
 pub struct Name {
     text: Text,
@@ -42,8 +42,8 @@ impl Model for Name {
 }
 
 impl Name {
-    /// The name that a text is. `Spelling` comes just where it is none, and `Memory` where there is no
-    /// memory for a copy.
+    /// The name that a text is. `Spelling` comes just where it is none, and `Memory` where there is
+    /// no memory for a copy.
     pub fn new(alloc: Global, text: &str) -> Result<Name, NameError>
         ensures ok { IfOk result (λ name. IsTrue (is_name text.now) × (name ≡ text.now)) }
         ensures spelling { result ≡ Err NameError.Spelling → ¬ (IsTrue (is_name text.now)) }

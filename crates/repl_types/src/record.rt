@@ -10,8 +10,8 @@ pub struct SetId {
     pub name: Name,
 }
 
-/// What a change record says. A start or a stop makes the registration of a table active or inactive;
-/// the program alone writes these two.
+/// What a change record says. A start or a stop makes the registration of a table active or
+/// inactive; the program alone writes these two.
 #[derive(Clone, Debug, Drop, PartialEq, Eq)]
 pub enum Change {
     Insert {
@@ -35,9 +35,9 @@ pub enum Change {
     },
 }
 
-/// A record of a log: a change of a transaction, or the transaction's end. A transaction is named by
-/// its number `tx`; 0 is the program's own. The time of a commit is in whole seconds, and its origin is
-/// the set that made the unit, where one did.
+/// A record of a log: a change of a transaction, or the transaction's end. A transaction is named
+/// by its number `tx`; 0 is the program's own. The time of a commit is in whole seconds, and its
+/// origin is the set that made the unit, where one did.
 #[derive(Clone, Debug, Drop, PartialEq, Eq)]
 pub enum LogRecord {
     Change {

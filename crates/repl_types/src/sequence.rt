@@ -6,9 +6,9 @@ ghost use Rattle.repl_types.specs.Sequence.{sequence_cmp, hex_digits, sequence_t
 use std::alloc::AllocError;
 use std::cmp::Ordering;
 
-/// A place in a log: a position, and a sub-number, which is 1 for the insert of a delete and insert and
-/// else 0. Sequences are in the order of their positions, and those of one position in the order of
-/// their sub-numbers.
+/// A place in a log: a position, and a sub-number, which is 1 for the insert of a delete and insert
+/// and else 0. Sequences are in the order of their positions, and those of one position in the
+/// order of their sub-numbers.
 #[derive(Clone, Copy, Debug, PartialEq, Eq, PartialOrd, Ord)]
 pub struct Sequence {
     pub position: u64,
@@ -24,8 +24,8 @@ pub fn sequence_order(first: &Sequence, second: &Sequence) -> Ordering
 
 const HEX_DIGITS: &[u8; 16] = b"0123456789abcdef";
 
-/// Appends the text of a sequence: 20 hexadecimal digits, 16 of the position and 4 of the sub-number.
-/// Without memory some of it may have been appended.
+/// Appends the text of a sequence: 20 hexadecimal digits, 16 of the position and 4 of the
+/// sub-number. If memory runs out, what `out` holds is unspecified.
 pub fn write_sequence(sequence: &Sequence, out: &mut Vec<u8>) -> Result<(), AllocError>
     ensures ok { OnOk result (out.new.items ≡ out.old.items ++ sequence_text sequence.now) }
 {

@@ -3,9 +3,9 @@
 use crate::area::Area;
 use crate::list::Bytes;
 
-/// What shows that stored contents are damaged: bytes that are no spelling, the key of a record that
-/// should be there, the bytes of a record that doesn't fit, or the number of steps that were made
-/// without coming to rest.
+/// What shows that stored contents are damaged: bytes that are no spelling, the key of a record
+/// that should be there, the bytes of a record that doesn't fit, or the number of steps that were
+/// made without coming to rest.
 #[derive(Clone, Debug, Drop, PartialEq, Eq)]
 pub enum DamageCause {
     Spelling(Bytes),
@@ -14,8 +14,9 @@ pub enum DamageCause {
     NoRest(u64),
 }
 
-/// How a run ends. At the first two the input was read to its end and each reply was written whole; at
-/// the others but `Usage` the run ended at once. Servers are named by their place, counted from 0.
+/// How a run ends. At the first two the input was read to its end and each reply was written whole;
+/// at the others but `Usage` the run ended at once. Servers are named by their place, counted from
+/// 0.
 #[derive(Clone, Debug, Drop, PartialEq, Eq)]
 pub enum Status {
     /// No line was refused.

@@ -11,8 +11,8 @@ pub struct Placed {
     pub change: Change,
 }
 
-/// What a commit record says of its unit. `seq` is the record's position; `code` is the rejection code
-/// that is shown for the unit, 0 where none is.
+/// What a commit record says of its unit. `seq` is the record's position; `code` is the rejection
+/// code that is shown for the unit, 0 where none is.
 #[derive(Clone, Debug, Drop, PartialEq, Eq)]
 pub struct UnitHead {
     pub seq: u64,

@@ -21,8 +21,8 @@ fn is_numeral(word: &[u8]) -> bool
     }
 }
 
-/// The number from `low` to `high` that a word spells: decimal digits, of which the first isn't 0 but
-/// in `0` itself.
+/// The number from `low` to `high` that a word spells: decimal digits, of which the first isn't 0
+/// but in `0` itself.
 pub fn read_number(word: &[u8], low: u64, high: u64) -> Option<u64>
     ensures { result ≡ number_of low high word.now }
 {
@@ -60,10 +60,11 @@ fn read_integer(word: &[u8]) -> Option<i64>
     text.parse::<i64>().ok()
 }
 
-/// The byte that stands first between quotes, and what follows it; None at the closing quote, and where
-/// no byte may stand so.
+/// The byte that stands first between quotes, and what follows it; None at the closing quote, and
+/// where no byte may stand so.
 fn next_byte(quoted: &[u8]) -> Option<(u8, &[u8])>
-    ensures { MatchOption result (unescaped quoted.now ≡ closed quoted.now) (λ next. IsNext quoted.now next.0 next.1.now) }
+    ensures { MatchOption result (unescaped quoted.now ≡ closed quoted.now)
+        (λ next. IsNext quoted.now next.0 next.1.now) }
 {
     let (first, after) = quoted.split_first()?;
     match first {
@@ -149,8 +150,8 @@ fn write_text(text: &Text, out: &mut Vec<u8>) -> Result<(), AllocError>
     Ok(())
 }
 
-/// Appends the text of a value, the one that `read_value` takes. Without memory some of it may have
-/// been appended.
+/// Appends the text of a value, the one that `read_value` takes. If memory runs out, what `out`
+/// holds is unspecified.
 pub fn write_value(value: &Value, out: &mut Vec<u8>) -> Result<(), AllocError>
     ensures { OnOk result (out.new.items ≡ out.old.items ++ value_text value.now) }
 {

@@ -123,7 +123,8 @@ fn change_rows_of_update(
     ensures { OnOk result (out.new ≡ out.old
         ++ (if shows_nothing_lem reg.now before.now after.now then []
         else (if reg.now.del_ins
-        then delete_row_lem reg.now seq pos before.now ∷ insert_row_lem reg.now seq pos 1 after.now ∷ []
+        then delete_row_lem reg.now seq pos before.now ∷ insert_row_lem reg.now seq pos 1
+        after.now ∷ []
         else update_row_lem reg.now seq pos before.now after.now ∷ []))) }
 {
     if shows_nothing(alloc, reg, before, after)? {

@@ -172,7 +172,9 @@ fn insert_row(alloc: Global, def: &TableDef, row: &Row, rows: &mut Rows) -> Resu
     ensures applies { IfOk result (λ applied.
         applied ≡ is_none (get rows.old (key_of_lem def.now row.now))) }
     ensures ok { IfOk result (λ applied.
-        rows.new ≡ (if applied then insert rows.old (key_of_lem def.now row.now) row.now else rows.old)) }
+        rows.new
+        ≡ (if applied then insert rows.old (key_of_lem def.now row.now) row.now else
+        rows.old)) }
 {
     let key = key_of(alloc, def, row)?;
     if rows.get(&key).is_some() {
@@ -221,7 +223,8 @@ fn update_row(
     ensures ok { let old_key = key_of_lem def.now before.now in
         let new_key = key_of_lem def.now after.now in
         IfOk result (λ applied.
-        rows.new ≡ (if applied then insert (remove rows.old old_key) new_key after.now else rows.old)) }
+        rows.new
+        ≡ (if applied then insert (remove rows.old old_key) new_key after.now else rows.old)) }
 {
     let old_key = key_of(alloc, def, before)?;
     let new_key = key_of(alloc, def, after)?;

@@ -31,7 +31,7 @@ pub trait Key: Sized + Drop {
     /// What a key must meet to be stored, beyond its type: nothing for kinds of bounded length.
     ghost storable: { Self → Type 0 };
 
-    /// Appends the spelling. If memory runs out, some of it may have been appended.
+    /// Appends the spelling. If memory runs out, what `out` holds is unspecified.
     fn put_key(&self, out: &mut Vec<u8>) -> Result<(), AllocError>
         ensures ok { OnOk result (out.new.items ≡ out.old.items ++ spelling self.now) }
         ensures fits { OnOk result (fits self.now) };

@@ -16,8 +16,11 @@ ghost use Rattle.row_codec.specs.Storable.{IsStorable};
 /// by number, then the texts by bytes. So a map that is kept by bytes is one that is kept by keys
 /// in order. Only equal keys have one spelling.
 pub fn keys_in_byte_order()
-    ensures order { (x y : Values) → IsKey x → IsKey y → bytes_cmp (key_spelling x) (key_spelling y) ≡ key_cmp x y }
-    ensures of_rows { (places : List ℕ) (x y : Values) → IsKey (images places x) → IsKey (images places y) → bytes_cmp (key_spelling (images places x)) (key_spelling (images places y)) ≡ key_cmp (images places x) (images places y) }
+    ensures order { (x y : Values) → IsKey x → IsKey y → bytes_cmp (key_spelling x) (key_spelling y)
+        ≡ key_cmp x y }
+    ensures of_rows { (places : List ℕ) (x y : Values) → IsKey (images places x)
+        → IsKey (images places y) → bytes_cmp (key_spelling (images places x))
+        (key_spelling (images places y)) ≡ key_cmp (images places x) (images places y) }
     ensures one { (x y : Values) → IsKey x → IsKey y → key_spelling x ≡ key_spelling y → x ≡ y }
 {}
 
@@ -33,7 +36,9 @@ pub fn one_spelling_of_a_row()
 
 /// The row of a log record `insert 1 orders 1 'pen' 20`, worked out by hand.
 pub fn worked_row()
-    ensures { row_spelling (Int (pos 1) ∷ Text (112 ∷ 101 ∷ 110 ∷ []) ∷ Int (pos 20) ∷ []) ≡ 0 ∷ 3 ∷ 1 ∷ 128 ∷ 0 ∷ 0 ∷ 0 ∷ 0 ∷ 0 ∷ 0 ∷ 1 ∷ 2 ∷ 112 ∷ 101 ∷ 110 ∷ 0 ∷ 0 ∷ 1 ∷ 128 ∷ 0 ∷ 0 ∷ 0 ∷ 0 ∷ 0 ∷ 0 ∷ 20 ∷ [] }
+    ensures { row_spelling (Int (pos 1) ∷ Text (112 ∷ 101 ∷ 110 ∷ []) ∷ Int (pos 20) ∷ [])
+        ≡ 0 ∷ 3 ∷ 1 ∷ 128 ∷ 0 ∷ 0 ∷ 0 ∷ 0 ∷ 0 ∷ 0 ∷ 1 ∷ 2 ∷ 112 ∷ 101 ∷ 110 ∷ 0 ∷ 0 ∷ 1 ∷ 128 ∷ 0
+        ∷ 0 ∷ 0 ∷ 0 ∷ 0 ∷ 0 ∷ 20 ∷ [] }
 {}
 
 /// How many bytes numbers take.
@@ -46,6 +51,8 @@ pub fn lengths_of_numbers()
 /// A row of at most 64 values may be stored, and so may a log record whose rows have at most 64
 /// values: a value takes at most 2,003 bytes, so two such rows take less than a stored value may.
 pub fn rows_of_64_values_are_storable()
-    ensures row { (row : Values) → IsKey row → length row ≤ 64 → IsStorable IsCounted row_spelling row }
-    ensures log_record { (x : LogRecord) → IsLogRecord x → HasShortRows x → IsStorable HasLogSpelling log_spelling x }
+    ensures row { (row : Values) → IsKey row → length row ≤ 64
+        → IsStorable IsCounted row_spelling row }
+    ensures log_record { (x : LogRecord) → IsLogRecord x → HasShortRows x
+        → IsStorable HasLogSpelling log_spelling x }
 {}

@@ -158,7 +158,8 @@ fn put_row_of(
 fn take_update(alloc: Global, bytes: &[u8]) -> Result<(LogRecord, &[u8]), TakeError>
     ensures ok { IfOk result
         (λ taken. IsLogRecord taken.0 × (18 ∷ bytes.now ≡ log_spelling taken.0 ++ taken.1.now)) }
-    ensures spelling { result ≡ Err TakeError.Spelling → NoFront IsLogRecord log_spelling (18 ∷ bytes.now) }
+    ensures spelling { result ≡ Err TakeError.Spelling
+        → NoFront IsLogRecord log_spelling (18 ∷ bytes.now) }
 {
     let (tx, table, before, after, rest) = take_four::<u32, Name, Row, Row>(alloc, bytes)?;
     let change = Change::Update {
@@ -173,7 +174,8 @@ fn take_update(alloc: Global, bytes: &[u8]) -> Result<(LogRecord, &[u8]), TakeEr
 fn take_commit(alloc: Global, bytes: &[u8]) -> Result<(LogRecord, &[u8]), TakeError>
     ensures ok { IfOk result
         (λ taken. IsLogRecord taken.0 × (20 ∷ bytes.now ≡ log_spelling taken.0 ++ taken.1.now)) }
-    ensures spelling { result ≡ Err TakeError.Spelling → NoFront IsLogRecord log_spelling (20 ∷ bytes.now) }
+    ensures spelling { result ≡ Err TakeError.Spelling
+        → NoFront IsLogRecord log_spelling (20 ∷ bytes.now) }
 {
     let (tx, time, authid, origin, rest) = take_four::<u32, u64, Name, Option<SetId>>(
         alloc, bytes,

@@ -19,7 +19,7 @@ pub trait Part: Sized + Drop {
 
     ghost spelling: { Self → List ℕ };
 
-    /// Appends the spelling. If memory runs out, some of it may have been appended.
+    /// Appends the spelling. If memory runs out, what `out` holds is unspecified.
     fn put_part(&self, out: &mut Vec<u8>) -> Result<(), AllocError>
         requires { has_spelling self.now }
         ensures ok { OnOk result (out.new.items ≡ out.old.items ++ spelling self.now) }
@@ -27,7 +27,8 @@ pub trait Part: Sized + Drop {
 
     /// The value whose spelling the bytes begin with, and the bytes after it.
     fn take_part(alloc: Global, bytes: &[u8]) -> Result<(Self, &[u8]), TakeError>
-        ensures ok { IfOk result (λ part. fits part.0 × (bytes.now ≡ spelling part.0 ++ part.1.now)) }
+        ensures ok { IfOk result (λ part. fits part.0
+            × (bytes.now ≡ spelling part.0 ++ part.1.now)) }
         ensures spelling { result ≡ Err TakeError.Spelling → NoFront fits spelling bytes.now };
 
     ghost one: { One fits spelling };

@@ -25,10 +25,11 @@ pub fn put_row(row: &Row, out: &mut Vec<u8>) -> Result<(), AllocError>
 }
 
 /// Appends the spelling of a row's key: the values at the places of `key`, in this order, without a
-/// count. Without memory some of it may have been appended.
+/// count. If memory runs out, what `out` holds is unspecified.
 pub fn put_key(row: &Row, key: &List<u32>, out: &mut Vec<u8>) -> Result<(), AllocError>
     requires { All (λ place. place < length row.now) key.now }
-    ensures ok { OnOk result (out.new.items ≡ out.old.items ++ key_spelling (images key.now row.now)) }
+    ensures ok { OnOk result (out.new.items
+        ≡ out.old.items ++ key_spelling (images key.now row.now)) }
     ensures fits { OnOk result (IsKey (images key.now row.now)) }
 {
     let values = row.as_slice();

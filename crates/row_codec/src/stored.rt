@@ -39,7 +39,7 @@ pub trait Stored: Part {
     /// A record that was taken from stored bytes can be stored again.
     ghost again_stored: { (x : Self) → Self.fits x → IsValueSize (Self.spelling x) → storable x };
 
-    /// Appends the spelling of the record. If memory runs out, some of it may have been appended.
+    /// Appends the spelling of the record. If memory runs out, what `out` holds is unspecified.
     final fn put(&self, out: &mut Vec<u8>) -> Result<(), AllocError>
         requires { Self.has_spelling self.now }
         ensures ok { OnOk result (out.new.items ≡ out.old.items ++ Self.spelling self.now) }
@@ -51,12 +51,13 @@ pub trait Stored: Part {
     /// The record whose spelling the bytes are. `Spelling` comes only if they are none.
     final fn take(alloc: Global, bytes: &[u8]) -> Result<Self, TakeError>
         ensures ok { IfOk result (λ value. Self.fits value × (bytes.now ≡ Self.spelling value)) }
-        ensures spelling { result ≡ Err TakeError.Spelling → NoSpelling Self.fits Self.spelling bytes.now }
+        ensures spelling { result ≡ Err TakeError.Spelling
+            → NoSpelling Self.fits Self.spelling bytes.now }
     {
         take_whole::<Self>(alloc, bytes)
     }
 
-    /// Appends the spelling of the key. If memory runs out, some of it may have been appended.
+    /// Appends the spelling of the key. If memory runs out, what `out` holds is unspecified.
     final fn put_key(key: &Self::Key, out: &mut Vec<u8>) -> Result<(), AllocError>
         ensures ok { OnOk result (out.new.items ≡ out.old.items ++ Self.Key.spelling key.now) }
         ensures fits { OnOk result (Self.Key.fits key.now) }
@@ -67,7 +68,8 @@ pub trait Stored: Part {
     /// The key whose spelling the bytes are. `Spelling` comes only if they are none.
     final fn take_key(alloc: Global, bytes: &[u8]) -> Result<Self::Key, TakeError>
         ensures ok { IfOk result (λ key. Self.Key.fits key × (bytes.now ≡ Self.Key.spelling key)) }
-        ensures spelling { result ≡ Err TakeError.Spelling → NoSpelling Self.Key.fits Self.Key.spelling bytes.now }
+        ensures spelling { result ≡ Err TakeError.Spelling
+            → NoSpelling Self.Key.fits Self.Key.spelling bytes.now }
     {
         Self::Key::take_key(alloc, bytes)
     }

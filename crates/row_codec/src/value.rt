@@ -35,7 +35,8 @@ fn put_byte(byte: u8, out: &mut Vec<u8>) -> Result<(), AllocError>
 
 /// Appends the spelling of the value that is this text.
 pub fn put_text(text: &Text, out: &mut Vec<u8>) -> Result<(), AllocError>
-    ensures ok { OnOk result (out.new.items ≡ out.old.items ++ 2 ∷ zeros_marked text.now ++ 0 ∷ 0 ∷ []) }
+    ensures ok { OnOk result (out.new.items ≡ out.old.items ++ 2 ∷ zeros_marked text.now
+        ++ 0 ∷ 0 ∷ []) }
     ensures fits { OnOk result (IsText text.now) }
 {
     out.push(2)?;
@@ -72,8 +73,10 @@ fn after_end(bytes: &[u8]) -> Option<&[u8]>
 
 /// The bytes of the text that the bytes begin with, and what follows its end.
 fn take_bytes(alloc: Global, bytes: &[u8]) -> Result<(Vec<u8>, &[u8]), TakeError>
-    ensures ok { IfOk result (λ taken. bytes.now ≡ zeros_marked taken.0.items ++ 0 ∷ 0 ∷ taken.1.now) }
-    ensures spelling { result ≡ Err TakeError.Spelling → ((text rest : List ℕ) → bytes.now ≢ zeros_marked text ++ 0 ∷ 0 ∷ rest) }
+    ensures ok { IfOk result (λ taken. bytes.now
+        ≡ zeros_marked taken.0.items ++ 0 ∷ 0 ∷ taken.1.now) }
+    ensures spelling { result ≡ Err TakeError.Spelling
+        → ((text rest : List ℕ) → bytes.now ≢ zeros_marked text ++ 0 ∷ 0 ∷ rest) }
 {
     let mut text = Vec::new(alloc);
     let mut left = bytes;
@@ -102,8 +105,10 @@ fn text_of(bytes: Vec<u8>) -> Option<Text>
 }
 
 fn take_text(alloc: Global, bytes: &[u8]) -> Result<(Text, &[u8]), TakeError>
-    ensures ok { IfOk result (λ taken. IsText taken.0 × (bytes.now ≡ zeros_marked taken.0 ++ 0 ∷ 0 ∷ taken.1.now)) }
-    ensures spelling { result ≡ Err TakeError.Spelling → ((text rest : List ℕ) → IsText text → bytes.now ≢ zeros_marked text ++ 0 ∷ 0 ∷ rest) }
+    ensures ok { IfOk result (λ taken. IsText taken.0
+        × (bytes.now ≡ zeros_marked taken.0 ++ 0 ∷ 0 ∷ taken.1.now)) }
+    ensures spelling { result ≡ Err TakeError.Spelling
+        → ((text rest : List ℕ) → IsText text → bytes.now ≢ zeros_marked text ++ 0 ∷ 0 ∷ rest) }
 {
     let (marked, rest) = take_bytes(alloc, bytes)?;
     match text_of(marked) {

@@ -49,13 +49,22 @@ pub fn session<I: Source, O: Sink>(
     output: &mut O,
 ) -> Status
     ensures usage { (result ≡ Status.Usage) ↔ (is_copy_lem (map string_bytes words.now) ≡ false) }
-    ensures untouched { result ≡ Status.Usage → (input.new ≡ input.old) × (output.new ≡ output.old) }
-    ensures copied { IsTrue (is_done result) → IfSome (I.left input.old) (λ bytes. (I.left input.new ≡ Some []) × Takes (O.taken output.old) (O.taken output.new) (text_of bytes)) }
-    ensures refused { IsTrue (is_done result) → IfSome (I.left input.old) (λ bytes. result ≡ status_of (feed_of bytes).refusal) }
-    ensures front { IfSome (I.left input.old) (λ bytes. TakesFront (O.taken output.old) (O.taken output.new) (text_of bytes)) }
-    ensures too_long { IfSome (I.left input.old) (λ bytes. (result ≡ Status.InputTooLong → input_limit < length bytes) × (IsTrue (is_done result) → length bytes ≤ input_limit)) }
-    ensures input_fault { result ≡ Status.InputFault → Rises (I.faults input.old) (I.faults input.new) }
-    ensures output_fault { result ≡ Status.OutputFault → Rises (O.faults output.old) (O.faults output.new) }
+    ensures untouched { result ≡ Status.Usage → (input.new ≡ input.old)
+        × (output.new ≡ output.old) }
+    ensures copied { IsTrue (is_done result)
+        → IfSome (I.left input.old) (λ bytes. (I.left input.new ≡ Some [])
+        × Takes (O.taken output.old) (O.taken output.new) (text_of bytes)) }
+    ensures refused { IsTrue (is_done result)
+        → IfSome (I.left input.old) (λ bytes. result ≡ status_of (feed_of bytes).refusal) }
+    ensures front { IfSome (I.left input.old)
+        (λ bytes. TakesFront (O.taken output.old) (O.taken output.new) (text_of bytes)) }
+    ensures too_long { IfSome (I.left input.old)
+        (λ bytes. (result ≡ Status.InputTooLong → input_limit < length bytes)
+        × (IsTrue (is_done result) → length bytes ≤ input_limit)) }
+    ensures input_fault { result ≡ Status.InputFault
+        → Rises (I.faults input.old) (I.faults input.new) }
+    ensures output_fault { result ≡ Status.OutputFault
+        → Rises (O.faults output.old) (O.faults output.new) }
     ensures never { is_of_server result ≡ false }
 {
     if !is_copy(words) {

@@ -53,7 +53,8 @@ pub record IsWithin {K : Type 0} (kept : K → Kept) (old new : Sites K) (most :
   pub reads : (s : ℕ) (a : Area) → slice_index_or (reads_in kept a new) s 0 ≤ slice_index_or (reads_in kept a old) s 0 + most.reads s a
   pub writes : (s : ℕ) (a : Area) → slice_index_or (writes_in kept a new) s 0 ≤ slice_index_or (writes_in kept a old) s 0 + most.writes s a
 
--- What every call keeps: the names stay, no count falls, and areas are read and written so often at most.
+-- What every call keeps: the names stay, no count of faults falls, nor one of reads that is below its
+-- maximum, and areas are read and written so often at most.
 pub record Passes {K : Type 0} (kept : K → Kept) (old new : Sites K) (most : Bounds) : Type 0 where
   pub names : names new ≡ names old
   pub faults : NoneFell (fault_counts kept old) (fault_counts kept new)

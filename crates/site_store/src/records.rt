@@ -71,8 +71,8 @@ pub(crate) fn get_record<K: Keeper, R: Stored>(
 
 /// Where the search for the next key begins.
 fn spell_after<R: Stored>(alloc: Global, after: Option<&R::Key>) -> Result<Vec<u8>, AllocError>
-    ensures { IfOk result (λ spelled. spelled.items ≡ after_key R.Key.spelling
-        (option_copied after.entry)) }
+    ensures { IfOk result (λ spelled. spelled.items
+        ≡ after_key R.Key.spelling (option_copied after.entry)) }
 {
     let mut spelled = Vec::new(alloc);
     if let Some(key) = after {
@@ -132,8 +132,9 @@ pub(crate) fn put_record<K: Keeper, R: Stored>(
     requires open { IsOpen (K.kept keeper.old) }
     requires key { R.Key.storable key.now }
     requires value { R.storable value.now }
-    ensures ok { OnOk result (K.kept keeper.new ≡ after_put (K.kept keeper.old) R.AREA
-        (R.Table.number table) (R.Key.spelling key.now) (R.spelling value.now)) }
+    ensures ok { OnOk result (K.kept keeper.new
+        ≡ after_put (K.kept keeper.old) R.AREA (R.Table.number table) (R.Key.spelling key.now)
+        (R.spelling value.now)) }
     ensures fault { IfErr result (Halts server (K.kept keeper.old)
         (after_write (K.kept keeper.old) R.AREA) (K.kept keeper.new) NoDamage) }
 {
@@ -156,8 +157,8 @@ pub(crate) fn remove_record<K: Keeper, R: Stored>(
     key: &R::Key,
 ) -> Result<bool, Fault>
     requires { IsOpen (K.kept keeper.old) }
-    ensures ok { OnOk result (K.kept keeper.new ≡ after_remove (K.kept keeper.old) R.AREA
-        (R.Table.number table) (R.Key.spelling key.now)) }
+    ensures ok { OnOk result (K.kept keeper.new
+        ≡ after_remove (K.kept keeper.old) R.AREA (R.Table.number table) (R.Key.spelling key.now)) }
     ensures found { IfOk result (λ found. IfSome (seen (K.kept keeper.old))
         (WasThere R.AREA (R.Table.number table) (R.Key.spelling key.now) found)) }
     ensures fault { IfErr result (Halts server (K.kept keeper.old)
@@ -206,8 +207,8 @@ pub(crate) fn put_spill_at<K: Keeper>(
     requires open { IsOpen (K.kept keeper.old) }
     requires key { IsKeySize key.now }
     requires value { IsValueSize value.now }
-    ensures ok { OnOk result (K.kept keeper.new ≡ after_put (K.kept keeper.old) Spill 0 key.now
-        value.now) }
+    ensures ok { OnOk result (K.kept keeper.new
+        ≡ after_put (K.kept keeper.old) Spill 0 key.now value.now) }
     ensures fault { IfErr result (Halts server (K.kept keeper.old)
         (after_write (K.kept keeper.old) Spill) (K.kept keeper.new) NoDamage) }
 {
@@ -246,8 +247,8 @@ pub(crate) fn remove_spill_at<K: Keeper>(
     key: &[u8],
 ) -> Result<bool, Fault>
     requires { IsOpen (K.kept keeper.old) }
-    ensures ok { OnOk result (K.kept keeper.new ≡ after_remove (K.kept keeper.old) Spill 0
-        key.now) }
+    ensures ok { OnOk result (K.kept keeper.new
+        ≡ after_remove (K.kept keeper.old) Spill 0 key.now) }
     ensures found { IfOk result (λ found. IfSome (seen (K.kept keeper.old))
         (WasThere Spill 0 key.now found)) }
     ensures fault { IfErr result (Halts server (K.kept keeper.old)

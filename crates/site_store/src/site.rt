@@ -82,8 +82,8 @@ impl<K: Keeper> Site<K> {
         table: R::Table,
         key: &R::Key,
     ) -> Result<Option<R>, Fault>
-        ensures ok { OnOk result (state K.kept self.new ≡ after_read (state K.kept self.old)
-            R.AREA) }
+        ensures ok { OnOk result (state K.kept self.new
+            ≡ after_read (state K.kept self.old) R.AREA) }
         ensures row { IfOk result (λ row. IfSome (seen (state K.kept self.old))
             (RowIs R.spelling R.AREA (R.Table.number table) (R.Key.spelling key.now) row)) }
         ensures fits { IfOk result (λ row. IfSome row (IsRow R.fits R.spelling)) }
@@ -112,8 +112,8 @@ impl<K: Keeper> Site<K> {
         table: R::Table,
         after: Option<&R::Key>,
     ) -> Result<Option<(R::Key, R)>, Fault>
-        ensures ok { OnOk result (state K.kept self.new ≡ after_read (state K.kept self.old)
-            R.AREA) }
+        ensures ok { OnOk result (state K.kept self.new
+            ≡ after_read (state K.kept self.old) R.AREA) }
         ensures row { IfOk result (λ row. IfSome (seen (state K.kept self.old))
             (NextRowIs R.Key.spelling R.spelling R.AREA (R.Table.number table)
             (after_key R.Key.spelling (option_copied after.entry)) row)) }
@@ -149,8 +149,9 @@ impl<K: Keeper> Site<K> {
         requires open { IsOpen (state K.kept self.old) }
         requires key { R.Key.storable key.now }
         requires value { R.storable value.now }
-        ensures ok { OnOk result (state K.kept self.new ≡ after_put (state K.kept self.old) R.AREA
-            (R.Table.number table) (R.Key.spelling key.now) (R.spelling value.now)) }
+        ensures ok { OnOk result (state K.kept self.new
+            ≡ after_put (state K.kept self.old) R.AREA (R.Table.number table)
+            (R.Key.spelling key.now) (R.spelling value.now)) }
         ensures fault { IfErr result (Halts 0 (state K.kept self.old)
             (after_write (state K.kept self.old) R.AREA) (state K.kept self.new) NoDamage) }
         ensures closed { OnErr result (IsClosed (state K.kept self.new)) }
@@ -174,8 +175,9 @@ impl<K: Keeper> Site<K> {
         key: &R::Key,
     ) -> Result<bool, Fault>
         requires { IsOpen (state K.kept self.old) }
-        ensures ok { OnOk result (state K.kept self.new ≡ after_remove (state K.kept self.old)
-            R.AREA (R.Table.number table) (R.Key.spelling key.now)) }
+        ensures ok { OnOk result (state K.kept self.new
+            ≡ after_remove (state K.kept self.old) R.AREA (R.Table.number table)
+            (R.Key.spelling key.now)) }
         ensures found { IfOk result (λ found. IfSome (seen (state K.kept self.old))
             (WasThere R.AREA (R.Table.number table) (R.Key.spelling key.now) found)) }
         ensures fault { IfErr result (Halts 0 (state K.kept self.old)

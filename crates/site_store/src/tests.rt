@@ -131,7 +131,7 @@ impl Stored for Count {
     ghost again_stored = { λ _ _ _. tt };
 }
 
-/// Servers of these names; None without memory, and where a name is none.
+/// Servers of these names; None if memory runs out, and if a name is none.
 fn sites_of(alloc: Global, names: &[&str]) -> Option<Result<Sites<Slot>, SitesError>> {
     let mut list = List::new(alloc);
     for name in names {

@@ -26,8 +26,10 @@ fn sqlrep_command<'a>(alloc: Global) -> Result<Command<'a>, AllocError>
 
 /// The text that the words of a command line ask for, where they ask for help or for the version.
 pub fn asked_text(alloc: Global, words: &[String]) -> Result<Option<String>, AllocError>
-    ensures asked { IsTrue (asks_text (map string_bytes words.now)) → IfOk result (λ text. IsSome text) }
-    ensures other { IsTrue (asks_nothing (map string_bytes words.now)) → IfOk result (λ text. IsNone text) }
+    ensures asked { IsTrue (asks_text (map string_bytes words.now))
+        → IfOk result (λ text. IsSome text) }
+    ensures other { IsTrue (asks_nothing (map string_bytes words.now))
+        → IfOk result (λ text. IsNone text) }
 {
     let Err(error) = sqlrep_command(alloc)?.try_get_matches_from(words) else {
         return Ok(None);

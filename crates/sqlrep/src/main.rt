@@ -1,8 +1,8 @@
 //! `sqlrep copy` reads log records on standard input and prints the copy of the items.
 //!
-//! The program stands on `session_core`, whose `session` does the work and says what a run promises.
-//! What is here gives it the words of the command line and the standard streams, and tells its status
-//! to the caller. `sqlrep --help` says which words it takes.
+//! The program stands on `session_core`, whose `session` does the work and says what a run
+//! promises. What is here gives it the words of the command line and the standard streams, and
+//! tells its status to the caller. `sqlrep --help` says which words it takes.
 #![tactic(auto)]
 
 ghost use Rattle.std.specs.Prelude.{◌≡◌, ◌≢◌, ◌⊎◌, drop, map, string_bytes, true, false, IfErr, IsOk, IsTrue};
@@ -24,8 +24,8 @@ use session_core::session;
 use std::io;
 use std::process::ExitCode;
 
-/// The words of the command line, of which the first is the program's name. A word that isn't UTF-8 is
-/// `Usage`.
+/// The words of the command line, of which the first is the program's name. A word that isn't UTF-8
+/// is `Usage`.
 fn command_line(rt: &HostRuntime) -> Result<Vec<String>, Status>
     ensures { IfErr result (λ status. (status ≡ Status.Memory) ⊎ (status ≡ Status.Usage)) }
 {
@@ -67,7 +67,8 @@ fn printed(answer: Result<(), ReadError>) -> Status
 /// `Usage`.
 fn run_help(rt: &HostRuntime, words: &[String]) -> Status
     ensures asked { IsTrue (asks_text (map string_bytes words.now)) → result ≢ Status.Usage }
-    ensures other { IsTrue (asks_nothing (map string_bytes words.now)) → (result ≡ Status.Usage) ⊎ (result ≡ Status.Memory) }
+    ensures other { IsTrue (asks_nothing (map string_bytes words.now)) → (result ≡ Status.Usage)
+        ⊎ (result ≡ Status.Memory) }
     ensures never { is_of_server result ≡ false }
 {
     match asked_text(rt.alloc(), words) {
@@ -77,12 +78,14 @@ fn run_help(rt: &HostRuntime, words: &[String]) -> Status
     }
 }
 
-/// Does what the words of a command line ask for. `session` alone decides which words are its own, and
-/// at its `Usage` nothing was read or written yet.
+/// Does what the words of a command line ask for. `session` alone decides which words are its own,
+/// and at its `Usage` nothing was read or written yet.
 fn run_words(rt: &HostRuntime, words: &[String]) -> Status
     ensures copy { is_copy (map string_bytes (drop 1 words.now)) ≡ true → result ≢ Status.Usage }
     ensures asked { IsTrue (asks_text (map string_bytes words.now)) → result ≢ Status.Usage }
-    ensures other { is_copy (map string_bytes (drop 1 words.now)) ≡ false → IsTrue (asks_nothing (map string_bytes words.now)) → (result ≡ Status.Usage) ⊎ (result ≡ Status.Memory) }
+    ensures other { is_copy (map string_bytes (drop 1 words.now)) ≡ false
+        → IsTrue (asks_nothing (map string_bytes words.now)) → (result ≡ Status.Usage)
+        ⊎ (result ≡ Status.Memory) }
     ensures never { is_of_server result ≡ false }
 {
     let mut input = Reads::new(rt.reader());
@@ -103,8 +106,8 @@ fn run(rt: &HostRuntime) -> Status
     }
 }
 
-/// Runs the program, says in a line on standard error why it ended early, if it did, and exits with the
-/// number of its status, whether that line could be written or not.
+/// Runs the program, says in a line on standard error why it ended early, if it did, and exits with
+/// the number of its status, whether that line could be written or not.
 fn main(rt: HostRuntime) -> ExitCode {
     let status = run(&rt);
     if let Some(line) = status_line(&status) {

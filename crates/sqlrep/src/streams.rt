@@ -43,7 +43,8 @@ fn read_error(error: io::Error, faults: &mut u64) -> ReadError
 /// One read, tried again where a signal interrupts it.
 fn read_piece<R: io::Read>(reader: &mut R, buffer: &mut [u8]) -> io::Result<usize>
     ensures within { IfOk result (λ count. count ≤ length buffer.new) }
-    ensures bytes { ReadConsumes (R.remaining reader.old) (R.remaining reader.new) result buffer.new }
+    ensures bytes { ReadConsumes (R.remaining reader.old)
+        (R.remaining reader.new) result buffer.new }
 {
     for _ in 1..TRIES {
         match reader.read(buffer) {
@@ -93,7 +94,8 @@ impl<R: io::Read> Source for Reads<R> {
 
     /// One read of the reader, which loses no byte.
     fn read(&mut self, buffer: &mut [u8]) -> Result<usize, ReadError>
-        ensures bytes { ReadConsumes (R.remaining self.old.reader) (R.remaining self.new.reader) result buffer.new }
+        ensures bytes { ReadConsumes (R.remaining self.old.reader)
+            (R.remaining self.new.reader) result buffer.new }
         ensures counted { self.new.faults ≡ faults_after result self.old.faults }
 
         // What every source ensures.
@@ -113,9 +115,11 @@ impl<W: io::Write> Sink for Writes<W> {
 
     ghost faults = { λ s. s.faults };
 
-    /// One write to the writer, which loses no byte. A writer that takes nothing of a piece has failed.
+    /// One write to the writer, which loses no byte. A writer that takes nothing of a piece has
+    /// failed.
     fn write(&mut self, piece: &[u8]) -> Result<usize, ReadError>
-        ensures bytes { WriteAppends (W.contents self.old.writer) (W.contents self.new.writer) result piece.now }
+        ensures bytes { WriteAppends (W.contents self.old.writer)
+            (W.contents self.new.writer) result piece.now }
         ensures counted { self.new.faults ≡ faults_after result self.old.faults }
 
         // What every sink ensures.

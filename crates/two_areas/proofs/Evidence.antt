@@ -11,12 +11,10 @@ use Rattle.row_codec.specs.Spelling.{b64, Is64}
 use Rattle.row_codec.specs.laws.Orders.{order64, whole_order}
 use Rattle.std.specs.Ordering.{nat_cmp}
 use Rattle.rows_in_order.specs.Numbers.{SpellsInOrder}
-use Rattle.rows_in_order.specs.Rows.{table_of}
 use Rattle.rows_in_order.specs.laws.Rising.{same_is}
-use Rattle.rows_in_order.specs.laws.Found.{row_of}
 use Rattle.site_store.specs.Records.{or_first}
 use Rattle.site_store.specs.Damage.{IsSpelt, IsUndamaged, AddsOnlySpelt, ShownBefore}
-use Rattle.site_store.specs.laws.Damage.{spelt_shows_none, misspelt_before}
+use Rattle.site_store.specs.laws.Damage.{rows_spelt, spelt_shows_none, misspelt_before}
 use Rattle.two_areas.specs.declared.records.Number.{Number}
 use Rattle.two_areas.specs.declared.records.Taken.{Taken}
 use Rattle.two_areas.specs.World.{World, IsSound, source_tables, target_tables, with_count, shown, IsNumber, rules}
@@ -27,25 +25,14 @@ in_order a b la lb = whole_order Is64 b64 nat_cmp order64 a b la lb
 
 -- ---- rows of numbers
 
--- the rows of some numbers are numbers under numbers
-enumerated : (p : ℕ) (xs : List ℕ) → p + length xs ≤ 2 ^ 64 → AllByRecursion Is64 xs → AllByRecursion (λ (r : ℕ × ℕ). Is64 r.0 × Is64 r.1) (enumerate_from p xs)
+-- the rows are numbers under numbers
+abbrev AreNumbers : List (ℕ × ℕ) → Type 0
+AreNumbers rows = AllByRecursion (λ (r : ℕ × ℕ). IsNumber (b64 r.0) × IsNumber (b64 r.1)) rows
+
+-- the rows of some numbers are
+enumerated : (p : ℕ) (xs : List ℕ) → p + length xs ≤ 2 ^ 64 → AllByRecursion Is64 xs → AreNumbers (enumerate_from p xs)
 enumerated p [] few small = tt
-enumerated p (x ∷ xs) few small = ((omega arith, small.0), enumerated (p + 1) xs (omega arith) small.1)
-
--- what holds of all rows holds of one of them
-one_of_all : {X : Type 0} (P : X → Type 0) (front : List X) (x : X) (back : List X) (rows : List X) → rows ≡ front ++ x ∷ back → AllByRecursion P rows → P x
-one_of_all P front x back rows split all = at front (subst (AllByRecursion P) split all)
-  where
-    at : (front : List _) → AllByRecursion P (front ++ x ∷ back) → P x
-    at [] all = all.0
-    at (y ∷ ys) all = at ys all.1
-
--- an entry of a table of numbers is a number under a number
-entry_is : (rows : List (ℕ × ℕ)) (k v : List ℕ) → AllByRecursion (λ (r : ℕ × ℕ). Is64 r.0 × Is64 r.1) rows → table_of b64 b64 rows k ≡ Some v → IsNumber k × IsNumber v
-entry_is rows k v all has =
-    let r = row_of b64 b64 rows k v has in
-    let fits = one_of_all (λ (r : ℕ × ℕ). Is64 r.0 × Is64 r.1) r.1.front r.0 r.1.back rows r.1.split all in
-    ((r.0.0, fits.0, sym r.2), (r.0.1, fits.1, sym r.3))
+enumerated p (x ∷ xs) few small = (((p, omega arith, refl), (x, small.0, refl)), enumerated (p + 1) xs (omega arith) small.1)
 
 -- the first numbers are numbers
 first_small : (n : ℕ) (xs : List ℕ) → AllByRecursion Is64 xs → AllByRecursion Is64 (take n xs)
@@ -65,27 +52,27 @@ counted t k v has = pick (same_key (b64 0) k) refl
     pick false same = has
 
 -- the rows of the count
-count_fits : (n : ℕ) → n < 2 ^ 64 → AllByRecursion (λ (r : ℕ × ℕ). Is64 r.0 × Is64 r.1) ((0, n) ∷ [])
-count_fits n lt = ((omega arith, lt), tt)
+count_fits : (n : ℕ) → n < 2 ^ 64 → AreNumbers ((0, n) ∷ [])
+count_fits n lt = (((0, omega arith, refl), (n, lt, refl)), tt)
 
 -- the source has only numbers
 pub source_spelt : (w : World) (c : Contents) → IsSound w → ((a : Area) (t : ℕ) → shown a t (c a t) ≡ source_tables w a t) → IsSpelt rules c
-source_spelt w c sound shows areas.Log zero k v has = entry_is (enumerate_from 1 w.numbers) k v (enumerated 1 w.numbers (omega (arith, sound.short)) sound.small) (sym (ap (λ (t : Table). t k) (shows areas.Log 0)) ∙ has)
+source_spelt w c sound shows areas.Log zero k v has = rows_spelt rules areas.Log 0 b64 b64 (enumerate_from 1 w.numbers) k v (enumerated 1 w.numbers (omega (arith, sound.short)) sound.small) (sym (ap (λ (t : Table). t k) (shows areas.Log 0)) ∙ has)
 source_spelt w c sound shows areas.Target zero k v has = absurd (some_none (sym has ∙ ap (λ (t : Table). t k) (shows areas.Target 0)))
   where
     some_none : {v : List ℕ} → ◌≡◌ {A = Option (List ℕ)} (Some v) None → ⊥
     some_none e = cc
-source_spelt w c sound shows areas.Capture zero k v has = entry_is ((0, 0) ∷ []) k v (count_fits 0 (omega arith)) (sym (ap (λ (t : Table). t k) (shows areas.Capture 0)) ∙ counted (c areas.Capture 0) k v has)
+source_spelt w c sound shows areas.Capture zero k v has = rows_spelt rules areas.Capture 0 b64 b64 ((0, 0) ∷ []) k v (count_fits 0 (omega arith)) (sym (ap (λ (t : Table). t k) (shows areas.Capture 0)) ∙ counted (c areas.Capture 0) k v has)
 source_spelt w c sound shows a t k v has = (tt, tt)
 
 -- the target has only numbers
 pub target_spelt : (w : World) (c : Contents) → IsSound w → ((a : Area) (t : ℕ) → shown a t (c a t) ≡ target_tables w a t) → IsSpelt rules c
-target_spelt w c sound shows areas.Target zero k v has = entry_is (enumerate_from 1 (take w.taken w.numbers)) k v (enumerated 1 (take w.taken w.numbers) (omega (arith, sound.short, length-take-le w.taken w.numbers sound.taken, sound.taken)) (first_small w.taken w.numbers sound.small)) (sym (ap (λ (t : Table). t k) (shows areas.Target 0)) ∙ has)
+target_spelt w c sound shows areas.Target zero k v has = rows_spelt rules areas.Target 0 b64 b64 (enumerate_from 1 (take w.taken w.numbers)) k v (enumerated 1 (take w.taken w.numbers) (omega (arith, sound.short, length-take-le w.taken w.numbers sound.taken, sound.taken)) (first_small w.taken w.numbers sound.small)) (sym (ap (λ (t : Table). t k) (shows areas.Target 0)) ∙ has)
 target_spelt w c sound shows areas.Log zero k v has = absurd (some_none (sym has ∙ ap (λ (t : Table). t k) (shows areas.Log 0)))
   where
     some_none : {v : List ℕ} → ◌≡◌ {A = Option (List ℕ)} (Some v) None → ⊥
     some_none e = cc
-target_spelt w c sound shows areas.Capture zero k v has = entry_is ((0, w.taken) ∷ []) k v (count_fits w.taken (omega (arith, sound.taken, sound.short))) (sym (ap (λ (t : Table). t k) (shows areas.Capture 0)) ∙ counted (c areas.Capture 0) k v has)
+target_spelt w c sound shows areas.Capture zero k v has = rows_spelt rules areas.Capture 0 b64 b64 ((0, w.taken) ∷ []) k v (count_fits w.taken (omega (arith, sound.taken, sound.short))) (sym (ap (λ (t : Table). t k) (shows areas.Capture 0)) ∙ counted (c areas.Capture 0) k v has)
 target_spelt w c sound shows a t k v has = (tt, tt)
 
 -- contents that have only numbers show no damage

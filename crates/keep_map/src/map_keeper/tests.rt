@@ -1,5 +1,5 @@
-//! A keeper in memory that commits, rolls back, hands out keys and fails as it is asked to. What isn't
-//! its own is called through the bound.
+//! A keeper in memory that commits, rolls back, hands out keys and fails as it is asked to. What
+//! isn't its own is called through the bound.
 
 ghost use Rattle.std.specs.Prelude.{OnOk};
 ghost use Rattle.repl_types.specs.Sizes.{IsValueSize};
@@ -71,8 +71,8 @@ fn hold_two<K: Keeper>(keeper: &mut K) -> Result<(), KeepError>
     keeper.commit()
 }
 
-/// A transaction is open that changed one value, added one and removed one. Tells whether the last was
-/// there.
+/// A transaction is open that changed one value, added one and removed one. Tells whether the last
+/// was there.
 fn change_both<K: Keeper>(keeper: &mut K) -> Result<bool, KeepError>
     requires { IsClosed (K.kept keeper.old) }
 {

@@ -1,6 +1,7 @@
 -- Laws of evidence for damage: proofs, and nothing to believe.
-use Rattle.std.proofs.Common.{◌≡◌, ◌≢◌, ℕ, ◌<◌, Bool, true, false, cond, List, length, get_or, refl, sym, ap, subst, ◌∙◌, arith, inl, inr}
+use Rattle.std.proofs.Common.{◌≡◌, ◌≢◌, ℕ, ◌<◌, Bool, true, false, cond, List, ◌∷◌, [], ◌++◌, length, get_or, refl, sym, ap, subst, ◌∙◌, arith, inl, inr}
 use Rattle.std.specs.Prelude.{◌⊎◌, ◌&&◌, ◌==◌, Option, Some, None, IsSome, IfSome}
+use Rattle.std.specs.List.{AllByRecursion}
 use Rattle.std.proofs.lemmas.Bool.{cases_eq, eqb-true}
 use Rattle.std.proofs.lemmas.List.{get_or-set_same, get_or-set_other}
 use Rattle.repl_types.specs.Area.{same_area, area_number}
@@ -12,6 +13,8 @@ use Rattle.faults.specs.declared.fault.Fault.{Fault}
 use Rattle.faults.specs.declared.fault.Fault.TheVariants as faults
 use Rattle.keep_core.specs.Contents.{Contents, same_key, put_at, IsNext}
 use Rattle.keep_core.specs.Kept.{Kept, seen_of}
+use Rattle.rows_in_order.specs.Rows.{table_of}
+use Rattle.rows_in_order.specs.laws.Found.{row_of}
 use Rattle.rows_in_order.specs.laws.Rising.{same_is}
 use Rattle.site_store.specs.declared.sites.Sites.{Sites}
 use Rattle.site_store.specs.Records.{Misread, Misspelt, MisspeltNext}
@@ -71,6 +74,19 @@ pub shows_at : {K : Type 0} (kept : K → Kept) (sites : Sites K) (rules : Rules
 shows_at kept sites rules server damage shows s a cause h = subst (λ (k : ℕ). Shows rules a cause (sees kept sites k)) (sym h.0) (shows a cause h.1)
 
 -- ---- what contents show
+
+-- what holds of all rows holds of one of them
+one_of_all : {X : Type 0} (P : X → Type 0) (front : List X) (x : X) (back : List X) → AllByRecursion P (front ++ x ∷ back) → P x
+one_of_all P [] x back all = all.0
+one_of_all P (y ∷ ys) x back all = one_of_all P ys x back all.1
+
+-- an entry of a table that is made of rows is a key and a value, if each row is spelt as such
+pub rows_spelt : {A X : Type 0} (rules : Rules) (a : Area) (t : ℕ) (key : A → List ℕ) (value : X → List ℕ) (rows : List (A × X)) (k v : List ℕ) → AllByRecursion (λ r. rules.is_key a t (key r.0) × rules.is_value a t (value r.1)) rows → table_of key value rows k ≡ Some v → rules.is_key a t k × rules.is_value a t v
+rows_spelt {A} {X} rules a t key value rows k v all has =
+    let r = row_of key value rows k v has in
+    let P = λ (q : A × X). rules.is_key a t (key q.0) × rules.is_value a t (value q.1) in
+    let spelt = one_of_all P r.1.front r.0 r.1.back (subst (AllByRecursion P) r.1.split all) in
+    (subst (rules.is_key a t) r.2 spelt.0, subst (rules.is_value a t) r.3 spelt.1)
 
 -- contents of which each entry is spelt show no bytes that aren't
 pub spelt_shows_none : (rules : Rules) (c : Contents) (a : Area) (bytes : List ℕ) → IsSpelt rules c → Shows rules a (causes.Spelling bytes) (Some c) → ⊥

@@ -84,6 +84,10 @@ impl<K: Keeper> Sites<K> {
 
     /// The first record whose key is above `after`, or of all if `after` is `None`. It reads what
     /// `get` reads.
+    ///
+    /// To clear a table, go on from the key that was removed last. A keeper may keep the places of
+    /// removed rows until the commit, as `MapKeeper` does, so a search that begins anew after each
+    /// removal passes over all of them again.
     pub fn next<R: Stored>(
         &mut self,
         alloc: Global,
@@ -97,8 +101,8 @@ impl<K: Keeper> Sites<K> {
             IfOk result (λ row. IfSome (sees K.kept self.old server)
             (NextRowIs R.Key.spelling R.spelling R.AREA (R.Table.number table) from row)) }
         ensures rises { let from = after_key R.Key.spelling (option_copied after.entry) in
-            IfOk result (λ row. IfSome row (Follows R.Key.fits R.Key.spelling R.fits R.spelling
-            from)) }
+            IfOk result (λ row. IfSome row
+            (Follows R.Key.fits R.Key.spelling R.fits R.spelling from)) }
         ensures fault { let from = after_key R.Key.spelling (option_copied after.entry) in
             let damaged = MisspeltNext R.Key.fits R.Key.spelling R.fits R.spelling R.AREA
             (R.Table.number table) from (sees K.kept self.old server) in

@@ -45,8 +45,8 @@ impl<K: Keeper> Sites<K> {
         requires { server < length (names self.old) }
         ensures ok { OnOk result (Reads K.kept self.old self.new server R.AREA) }
         ensures state { IfOk result (λ state. IfSome (sees K.kept self.old server)
-            (StateIs R.spelling R.AREA (R.Table.number table) (R.Key.spelling key.now) first
-            state)) }
+            (StateIs R.spelling R.AREA (R.Table.number table)
+            (R.Key.spelling key.now) first state)) }
         ensures fits { R.fits first → IfOk result (λ state. R.fits state) }
         ensures fault { let damaged = Misspelt R.fits R.spelling R.AREA (R.Table.number table)
             (R.Key.spelling key.now) (sees K.kept self.old server) in

@@ -6,13 +6,11 @@ use Rattle.copy_lists.specs.Fed.{resumed}
 use Rattle.copy_lists.proofs.FedLines.{none_of, line_fed}
 use Rattle.copy_lists.proofs.feed.Fed.take_line.Goals as goal
 
--- src/feed.rt:70:5
 pub returns-in-Some-clause-resumed : goal.returns-in-Some-clause-resumed
 returns-in-Some-clause-resumed c = λ more.
     ap (λ (cause : Option Cause). resumed c.take_text.new.source.records (option_map (λ (why : Cause). record { line = c.args.number; cause = why }) cause) (c.args.number + 1) more) (sym c.in-Some.is)
     ∙ line_fed c.args.self.now.source c.take_text.new.source c.args.self.now.refused c.args.number c.args.line.now more c.in_ok-cause.field-0 (none_of c.args.self.now.refused true (sym c.is_some.ensures ∙ c.if-is_some.false) refl) c.requires.short c.in_ok-cause.ensures
 
--- src/feed.rt:70:5
 pub returns-in_default-clause-resumed : goal.returns-in_default-clause-resumed
 returns-in_default-clause-resumed c = λ more.
     ap (λ (refusal : Option Refused). resumed c.take_text.new.source.records refusal (c.args.number + 1) more) (none_of c.args.self.now.refused true (sym c.is_some.ensures ∙ c.if-is_some.false) refl)
