@@ -1,0 +1,5 @@
+pub mod AppliedRows
+pub mod ApplyCalls
+pub mod DropCalls
+pub mod DroppedRows
+pub mod Stepping

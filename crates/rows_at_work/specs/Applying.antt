@@ -1,0 +1,87 @@
+-- What applying the changes of an interval makes of the rows of a copy.
+use Rattle.std.specs.Prelude.{◌≡◌, ℕ, ◌^◌, ◌<◌, ◌≤◌, if◌then◌else◌, List, [], ◌∷◌, Option, Some, None, slice_index_or}
+use Rattle.std.specs.List.{AllByRecursion}
+use Rattle.repl_types.specs.declared.area.Area.TheVariants as areas
+use Rattle.keep_core.specs.Contents.{Contents, Table}
+use Rattle.keep_core.specs.Kept.{Kept}
+use Rattle.row_codec.specs.Spelling.{b64}
+use Rattle.rows_in_order.specs.Rows.{table_of}
+use Rattle.rows_in_order.specs.Numbers.{AllBelow, NumbersRise, numbers_between, with_number, without_number}
+use Rattle.site_store.specs.declared.sites.Sites.{Sites}
+use Rattle.site_store.specs.Views.{held}
+use Rattle.site_store.specs.Calls.{Bounds, reads_of_one, writes_of_one, both}
+use Rattle.rows_at_work.specs.declared.records.Change.{Change}
+use Rattle.rows_at_work.specs.declared.records.CopiedRow.{CopiedRow}
+use Rattle.rows_at_work.specs.Records.{change_spelling, FitsChange}
+use Rattle.rows_at_work.specs.Steps.{ChangesOne, WorksOn}
+
+-- ---- rows
+
+-- the table of changes
+abbrev pub change_table : List (ℕ × Change) → Table
+change_table changes = table_of b64 change_spelling changes
+
+-- the table of rows of the copy
+abbrev pub copy_table : List (ℕ × CopiedRow) → Table
+copy_table rows = table_of b64 (λ row. b64 row.value) rows
+
+-- Changes in the order of their numbers, whose numbers have eight bytes.
+pub record AreChanges (changes : List (ℕ × Change)) : Type 0 where
+  pub rise : NumbersRise changes
+  pub below : AllBelow (2 ^ 64) changes
+  pub fit : AllByRecursion (λ change. FitsChange change.1) changes
+
+-- Rows in the order of their keys, which have eight bytes.
+pub record AreCopies (rows : List (ℕ × CopiedRow)) : Type 0 where
+  pub rise : NumbersRise rows
+  pub below : AllBelow (2 ^ 64) rows
+
+-- the rows after a change: the row of its key is put, or removed
+abbrev pub after_change : Change → List (ℕ × CopiedRow) → List (ℕ × CopiedRow)
+after_change change rows = if change.keeps then with_number (change.key, record { value = change.value }) rows else without_number change.key rows
+
+-- the rows after changes, in turn
+abbrev pub after_changes : List (ℕ × Change) → List (ℕ × CopiedRow) → List (ℕ × CopiedRow)
+after_changes [] rows = rows
+after_changes (change ∷ changes) rows = after_changes changes (after_change change.1 rows)
+
+-- ---- steps
+
+-- Rows became others, in the table of the copy, and no other table changed.
+pub record Makes (becomes : List (ℕ × CopiedRow) → List (ℕ × CopiedRow)) (c d : Contents) : Type 0 where
+  pub elsewhere : ChangesOne areas.Target 0 c d
+  pub makes : (rows : List (ℕ × CopiedRow)) → AreCopies rows → c areas.Target 0 ≡ copy_table rows → AreCopies (becomes rows) × (d areas.Target 0 ≡ copy_table (becomes rows))
+
+-- One server has these changes.
+pub record HasChanges (held : List (Option Contents)) (source : ℕ) (changes : List (ℕ × Change)) : Type 0 where
+  pub contents : Contents
+  pub is : slice_index_or held source None ≡ Some contents
+  pub table : contents areas.Log 0 ≡ change_table changes
+  pub are : AreChanges changes
+
+-- the changes above one number and up to another, which the source has, were applied
+abbrev pub Applies : List (Option Contents) → ℕ → ℕ → ℕ → Contents → Contents → Type 0
+Applies held source low high c d = (changes : List (ℕ × Change)) → HasChanges held source changes → Makes (after_changes (numbers_between low high changes)) c d
+
+-- a number above one and up to another
+abbrev pub IsWithinInterval : ℕ → ℕ → ℕ → Type 0
+IsWithinInterval after high number = (after < number) × (number ≤ high)
+
+-- how far changes were applied: up to the one that was found, or as there was none, to the end
+abbrev pub reached : ℕ → Option ℕ → ℕ
+reached high None = high
+reached high (Some number) = number
+
+-- ---- calls
+
+-- how often the changes are read, and the rows written
+abbrev pub in_applying : ℕ → ℕ → ℕ → Bounds
+in_applying n source target = both (reads_of_one n source areas.Log) (writes_of_one n target areas.Target)
+
+-- what applying one change does
+abbrev pub AppliesOne : {K : Type 0} → (K → Kept) → Sites K → Sites K → ℕ → Change → Type 0
+AppliesOne kept old new target change = WorksOn kept old new target (writes_of_one 1 target areas.Target) (Makes (after_change change))
+
+-- what applying the changes of an interval does
+abbrev pub AppliesOn : {K : Type 0} → (K → Kept) → Sites K → Sites K → ℕ → ℕ → ℕ → ℕ → ℕ → Type 0
+AppliesOn kept old new source target low high most = WorksOn kept old new target (in_applying most source target) (Applies (held kept old) source low high)
