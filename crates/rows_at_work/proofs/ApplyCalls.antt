@@ -1,5 +1,5 @@
 -- Calls that apply the changes of an interval, one after another.
-use Rattle.std.proofs.Common.{◌≡◌, ◌≢◌, ℕ, ◌+◌, ◌-◌, ◌^◌, ◌<◌, ◌≤◌, List, [], sym, subst, ◌∙◌, arith}
+use Rattle.std.proofs.Common.{◌≡◌, ◌≢◌, ℕ, ◌+◌, ◌-◌, ◌^◌, ◌<◌, ◌≤◌, List, [], subst, ◌∙◌, arith}
 use Rattle.std.specs.Prelude.{Option, IfSome}
 use Rattle.repl_types.specs.declared.area.Area.TheVariants as areas
 use Rattle.keep_core.specs.Contents.{Contents, Table, IsNext, IsLast}
@@ -9,13 +9,16 @@ use Rattle.rows_in_order.specs.Numbers.{numbers_between}
 use Rattle.rows_in_order.specs.laws.BetweenNumbers.{numbers_nothing}
 use Rattle.site_store.specs.declared.sites.Sites.{Sites}
 use Rattle.site_store.specs.Views.{held, work, sees, IsOpenAt, IsClosedAt}
-use Rattle.site_store.specs.Calls.{both, reads_of_one, writes_of_one, Reads}
+use Rattle.site_store.specs.Calls.{both, reads_of_one, writes_of_one, Reads, Fails}
 use Rattle.site_store.specs.laws.Counts.{IsAtMost, at_most_itself, reads_more, reads_wider, writes_more, writes_wider}
 use Rattle.site_store.specs.laws.Transactions.{seen_held, other_work}
+use Rattle.faults.specs.declared.fault.Fault.{Fault}
+use Rattle.site_store.specs.Damage.{Damages}
+use Rattle.rows_at_work.specs.Rules.{rules}
 use Rattle.rows_at_work.specs.declared.records.Change.{Change}
 use Rattle.rows_at_work.specs.Records.{change_spelling, FitsChange}
-use Rattle.rows_at_work.specs.Applying.{change_table, after_change, Makes, HasChanges, Applies, AppliesOne, AppliesOn, in_applying}
-use Rattle.rows_at_work.proofs.Stepping.{works_none, works_read, works_on}
+use Rattle.rows_at_work.specs.Applying.{change_table, Makes, HasChanges, Applies, AppliesOne, AppliesOn, in_applying}
+use Rattle.rows_at_work.proofs.Stepping.{changes_none, works_none, works_read, works_on, works_fail}
 use Rattle.rows_at_work.proofs.AppliedRows.{found_next, up_to_next, none_past, none_last, makes_nothing, makes_one, applies_then}
 
 -- accesses add up
@@ -24,6 +27,10 @@ applying_then i m n s t le = record {
   reads = λ q a. omega (arith, (reads_more i m s areas.Log).reads q a, (reads_wider (i + m) n s areas.Log le).reads q a);
   writes = λ q a. omega (arith, (writes_more i m t areas.Target).writes q a, (writes_wider (i + m) n t areas.Target le).writes q a);
 }
+
+-- so does one read
+pub read_in_applying : (s t : ℕ) → IsAtMost (reads_of_one 1 s areas.Log) (in_applying 1 s t)
+read_in_applying s t = record { reads = λ q a. omega arith; writes = λ q a. omega arith }
 
 module _ {K : Type 0} (kept : K → Kept) where
   -- what was read at the source is so of the changes that it has
@@ -34,15 +41,21 @@ module _ {K : Type 0} (kept : K → Kept) where
 
   -- the next change was applied
   pub apply_found : (s0 s1 s2 : Sites K) (source target after number : ℕ) (x : Change) → IsOpenAt (work kept s0) target → IsClosedAt (work kept s0) source → after < 2 ^ 64 → number < 2 ^ 64 → FitsChange x → Reads kept s0 s1 source areas.Log → AppliesOne kept s1 s2 target x → IfSome (sees kept s0 source) (λ c. IsNext (c areas.Log 0) (b64 after) (b64 number) (change_spelling x)) → AppliesOn kept s0 s2 source target after number 1
-  apply_found s0 s1 s2 source target after number x open_at closed la ln fits read one saw = works_on kept s0 s1 s2 target (reads_of_one 1 source areas.Log) (writes_of_one 1 target areas.Target) (in_applying 1 source target) (λ c d. d ≡ c) (Makes (after_change x)) (Applies (held kept s0) source after number) open_at (at_most_itself (in_applying 1 source target)) (works_read kept s0 s1 target (reads_of_one 1 source areas.Log) open_at read.stays) one (λ c d e same made changes has.
-      let next = found_next after number x changes la ln fits has.are (source_has s0 source changes (λ t. IsNext t (b64 after) (b64 number) (change_spelling x)) closed has saw) in
-      makes_one (numbers_between after number changes) number x c e (up_to_next after number x changes next) (subst (λ (f : Contents). Makes (after_change x) f e) same made))
+  apply_found s0 s1 s2 source target after number x open_at closed la ln fits read one saw = works_on kept s0 s1 s2 target (reads_of_one 1 source areas.Log) (writes_of_one 1 target areas.Target) (in_applying 1 source target) (λ c d. d ≡ c) (Makes x) (Applies (held kept s0) source after number) open_at (at_most_itself (in_applying 1 source target)) (works_read kept s0 s1 target (reads_of_one 1 source areas.Log) (reads_of_one 1 source areas.Log) (λ c d. d ≡ c) open_at (at_most_itself (reads_of_one 1 source areas.Log)) read.stays (λ c d same. same)) one (λ c d e same made.
+      let from_c = subst (λ (f : Contents). Makes x f e) same made in
+      record {
+        elsewhere = from_c.elsewhere;
+        applies = λ changes has.
+            let next = found_next after number x changes la ln fits has.are (source_has s0 source changes (λ t. IsNext t (b64 after) (b64 number) (change_spelling x)) closed has saw) in
+            makes_one (numbers_between after number changes) number x c e (up_to_next after number x changes next) from_c.makes;
+      })
 
   -- what was read shows that none is left
   apply_none : (s0 s1 : Sites K) (source target after high : ℕ) → IsOpenAt (work kept s0) target → Reads kept s0 s1 source areas.Log → ((changes : List (ℕ × Change)) → HasChanges (held kept s0) source changes → numbers_between after high changes ≡ []) → AppliesOn kept s0 s1 source target after high 1
-  apply_none s0 s1 source target after high open_at read none =
-      let same = works_read kept s0 s1 target (reads_of_one 1 source areas.Log) open_at read.stays in
-      works_on kept s0 s1 s1 target (reads_of_one 1 source areas.Log) (writes_of_one 1 target areas.Target) (in_applying 1 source target) (λ c d. d ≡ c) (λ c d. d ≡ c) (Applies (held kept s0) source after high) open_at (at_most_itself (in_applying 1 source target)) same (works_none kept s1 target (writes_of_one 1 target areas.Target) (λ c d. d ≡ c) (subst (λ (l : List (Option (Option Contents))). IsOpenAt l target) (sym read.stays.work) open_at) (λ c d is. is)) (λ c d e is too changes has. makes_nothing (numbers_between after high changes) c e (none changes has) (too ∙ is))
+  apply_none s0 s1 source target after high open_at read none = works_read kept s0 s1 target (reads_of_one 1 source areas.Log) (in_applying 1 source target) (Applies (held kept s0) source after high) open_at (read_in_applying source target) read.stays (λ c d same. record {
+    elsewhere = changes_none areas.Target 0 c d same;
+    applies = λ changes has. makes_nothing (numbers_between after high changes) c d (none changes has) same;
+  })
 
   -- there is no next change
   pub apply_last : (s0 s1 : Sites K) (source target after high : ℕ) → IsOpenAt (work kept s0) target → IsClosedAt (work kept s0) source → after < 2 ^ 64 → after ≤ high → Reads kept s0 s1 source areas.Log → IfSome (sees kept s0 source) (λ c. IsLast (c areas.Log 0) (b64 after)) → AppliesOn kept s0 s1 source target after high 1
@@ -66,7 +79,10 @@ module _ {K : Type 0} (kept : K → Kept) where
     above = omega arith;
     within = le;
     closed = closed;
-    applies = works_none kept s0 target (in_applying (low - low) source target) (Applies (held kept s0) source low low) open_at (λ c d same changes has. makes_nothing (numbers_between low low changes) c d (numbers_nothing changes low) same);
+    applies = works_none kept s0 target (in_applying (low - low) source target) (Applies (held kept s0) source low low) open_at (λ c d same. record {
+      elsewhere = changes_none areas.Target 0 c d same;
+      applies = λ changes has. makes_nothing (numbers_between low low changes) c d (numbers_nothing changes low) same;
+    });
   }
 
   -- changes were applied, and then those up to a number
@@ -83,3 +99,6 @@ module _ {K : Type 0} (kept : K → Kept) where
 
   pub applies_all : (s0 s1 s2 : Sites K) (source target low high applied : ℕ) → IsOpenAt (work kept s0) target → HasApplied s0 s1 source target low high applied → AppliesOn kept s1 s2 source target applied high 1 → AppliesOn kept s0 s2 source target low high (high - low + 1)
   applies_all s0 s1 s2 source target low high applied open_at first second = applies_more s0 s1 s2 source target low applied high high (high - low + 1) open_at first.within (omega (arith, first.above, first.within)) first second
+
+  pub applies_fail : (s0 s1 s2 : Sites K) (source target low high applied : ℕ) (e : Fault) → IsOpenAt (work kept s0) target → HasApplied s0 s1 source target low high applied → Fails kept s1 s2 (in_applying 1 source target) (Damages (λ s. s ≡ source) rules kept s1) e → Fails kept s0 s2 (in_applying (high - low + 1) source target) (Damages (λ s. s ≡ source) rules kept s0) e
+  applies_fail s0 s1 s2 source target low high applied e open_at first f = works_fail kept s0 s1 s2 source target (in_applying (applied - low) source target) (in_applying 1 source target) (in_applying (high - low + 1) source target) (Applies (held kept s0) source low applied) e open_at (applying_then (applied - low) 1 (high - low + 1) source target (omega (arith, first.above, first.within))) (λ c d p. p.elsewhere.adds) first.applies f
