@@ -1,5 +1,5 @@
 -- What applying the changes of an interval makes of the rows of a copy.
-use Rattle.std.specs.Prelude.{◌≡◌, ℕ, ◌^◌, ◌<◌, ◌≤◌, if◌then◌else◌, List, [], ◌∷◌, Option, Some, None, slice_index_or}
+use Rattle.std.specs.Prelude.{◌≡◌, ℕ, ◌+◌, ◌^◌, length, ◌<◌, ◌≤◌, if◌then◌else◌, List, [], ◌∷◌, Option, Some, None, slice_index_or}
 use Rattle.std.specs.List.{AllByRecursion}
 use Rattle.repl_types.specs.declared.area.Area.TheVariants as areas
 use Rattle.keep_core.specs.Contents.{Contents, Table}
@@ -81,13 +81,27 @@ reached high (Some number) = number
 -- ---- calls
 
 -- how often the changes are read, and the rows written
-abbrev pub in_applying : ℕ → ℕ → ℕ → Bounds
-in_applying n source target = both (reads_of_one n source areas.Log) (writes_of_one n target areas.Target)
+abbrev pub in_applying : ℕ → ℕ → ℕ → ℕ → Bounds
+in_applying reads writes source target = both (reads_of_one reads source areas.Log) (writes_of_one writes target areas.Target)
 
 -- what applying one change does
 abbrev pub AppliesOne : {K : Type 0} → (K → Kept) → Sites K → Sites K → ℕ → Change → Type 0
 AppliesOne kept old new target change = WorksOn kept old new target (writes_of_one 1 target areas.Target) (Makes change)
 
--- what applying the changes of an interval does
-abbrev pub AppliesOn : {K : Type 0} → (K → Kept) → Sites K → Sites K → ℕ → ℕ → ℕ → ℕ → ℕ → Type 0
-AppliesOn kept old new source target low high most = WorksOn kept old new target (in_applying most source target) (Applies (held kept old) source low high)
+-- The changes of an interval were applied, and this is how many there were.
+pub record AppliesOn {K : Type 0} (kept : K → Kept) (old new : Sites K) (source target low high reads count : ℕ) : Type 0 where
+  pub works : WorksOn kept old new target (in_applying reads count source target) (Applies (held kept old) source low high)
+  pub counts : (changes : List (ℕ × Change)) → HasChanges (held kept old) source changes → count ≡ length (numbers_between low high changes)
+
+-- how many changes one step applies
+abbrev pub applied : Option ℕ → ℕ
+applied None = 0
+applied (Some number) = 1
+
+-- what one step of the loop does
+abbrev pub AppliesNext : {K : Type 0} → (K → Kept) → Sites K → Sites K → ℕ → ℕ → ℕ → ℕ → Option ℕ → Type 0
+AppliesNext kept old new source target after high next = AppliesOn kept old new source target after (reached high next) 1 (applied next)
+
+-- what the whole loop does: it reads once more than there are changes in the interval
+abbrev pub AppliesAll : {K : Type 0} → (K → Kept) → Sites K → Sites K → ℕ → ℕ → ℕ → ℕ → Type 0
+AppliesAll kept old new source target low high = (count : ℕ) × AppliesOn kept old new source target low high (count + 1) count

@@ -8,7 +8,7 @@ ghost use Rattle.site_store.specs.Records.{NoDamage};
 ghost use Rattle.repl_types.specs.declared.area.Area.TheVariants.{Target};
 ghost use Rattle.rows_at_work.specs.Records.{FitsChange};
 ghost use Rattle.rows_at_work.specs.Rules.{rules};
-ghost use Rattle.rows_at_work.specs.Applying.{AppliesOne, AppliesOn, in_applying, reached, IsWithinInterval};
+ghost use Rattle.rows_at_work.specs.Applying.{AppliesOne, AppliesNext, AppliesAll, in_applying, IsWithinInterval};
 
 use crate::records::{Change, CopiedRow};
 use faults::Fault;
@@ -57,10 +57,9 @@ fn apply_next<K: Keeper>(
     requires open { IsOpenAt (work K.kept sites.old) target }
     requires closed { IsClosedAt (work K.kept sites.old) source }
     requires order { after ≤ high }
-    ensures ok { IfOk result (λ next.
-        AppliesOn K.kept sites.old sites.new source target after (reached high next) 1) }
+    ensures ok { IfOk result (AppliesNext K.kept sites.old sites.new source target after high) }
     ensures rises { IfOk result (λ next. IfSome next (IsWithinInterval after high)) }
-    ensures fault { let most = in_applying 1 source target in
+    ensures fault { let most = in_applying 1 1 source target in
         let damage = Damages (λ s. s ≡ source) rules K.kept sites.old in
         IfErr result (Fails K.kept sites.old sites.new most damage) }
 {
@@ -90,9 +89,9 @@ pub fn apply_interval<K: Keeper>(
     requires open { IsOpenAt (work K.kept sites.old) target }
     requires closed { IsClosedAt (work K.kept sites.old) source }
     requires order { low ≤ high }
-    ensures ok { let most = high - low + 1 in
-        OnOk result (AppliesOn K.kept sites.old sites.new source target low high most) }
-    ensures fault { let most = in_applying (high - low + 1) source target in
+    ensures ok { OnOk result (AppliesAll K.kept sites.old sites.new source target low high) }
+    ensures fault { let times = high - low + 1 in
+        let most = in_applying times times source target in
         let damage = Damages (λ s. s ≡ source) rules K.kept sites.old in
         IfErr result (Fails K.kept sites.old sites.new most damage) }
 {

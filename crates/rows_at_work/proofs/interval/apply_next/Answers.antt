@@ -22,7 +22,7 @@ returns-then-number-high-clause-ok g c =
 pub returns-clause-ok : goal.returns-clause-ok
 returns-clause-ok g c =
     let follows = rw c.in-Some.is at c.in_ok-number.ensures.rises in
-    apply_found g.K.Keeper.kept c.args.sites.now c.next.new.self c.apply_change.new.sites c.args.source c.args.target c.args.after c.in-Some.number c.in-Some.change c.requires.open c.requires.closed (omega arith) follows.fits follows.row.fits c.in_ok-number.ensures.ok c.in_ok-apply_change.ensures.ok (rw c.in-Some.is at c.in_ok-number.ensures.row)
+    apply_found g.K.Keeper.kept c.args.sites.now c.next.new.self c.apply_change.new.sites c.args.source c.args.target c.args.after c.args.high c.in-Some.number c.in-Some.change c.requires.open c.requires.closed (omega arith) follows.fits follows.row.fits c.in_ok-number.ensures.ok c.in_ok-apply_change.ensures.ok (rw c.in-Some.is at c.in_ok-number.ensures.row)
 
 pub returns-clause-rises : goal.returns-clause-rises
 returns-clause-rises g c =
@@ -32,4 +32,4 @@ returns-clause-rises g c =
 pub returns-in_err-number-clause-fault : goal.returns-in_err-number-clause-fault
 returns-in_err-number-clause-fault g c =
     let p = err_from_is_err_and c.from_residual.result c.from_residual.ensures.1 in
-    rw (p.1, p.2) (next_fails g.K.Keeper.kept Is64 b64 FitsChange change_spelling c.args.sites.now c.next.new.self c.args.source areas.Log (b64 c.args.after) (in_applying 1 c.args.source c.args.target) c.in_err-number.field-0.0 (λ bytes h. h) (λ bytes h. h) (read_in_applying c.args.source c.args.target) c.in_err-number.ensures.fault)
+    rw (p.1, p.2) (next_fails g.K.Keeper.kept Is64 b64 FitsChange change_spelling c.args.sites.now c.next.new.self c.args.source areas.Log (b64 c.args.after) (in_applying 1 1 c.args.source c.args.target) c.in_err-number.field-0.0 (λ bytes h. h) (λ bytes h. h) (read_in_applying 1 c.args.source c.args.target) c.in_err-number.ensures.fault)
