@@ -17,8 +17,8 @@ use Rattle.rows_at_work.specs.declared.records.Change.{Change}
 use Rattle.rows_at_work.specs.declared.records.CopiedRow.{CopiedRow}
 use Rattle.rows_at_work.specs.Records.{change_spelling, FitsChange}
 use Rattle.rows_at_work.specs.laws.Records.{one_change}
-use Rattle.rows_at_work.specs.Applying.{change_table, copy_table, AreChanges, AreCopies, after_change, after_changes, Makes, Applies}
-use Rattle.rows_at_work.proofs.Stepping.{changes_none, changes_put, changes_then}
+use Rattle.rows_at_work.specs.Applying.{change_table, copy_table, AreChanges, AreCopies, after_change, after_changes, MakesRows, Makes, Applies}
+use Rattle.rows_at_work.proofs.Stepping.{changes_put, changes_remove, changes_then}
 
 -- ---- one change
 
@@ -26,28 +26,32 @@ use Rattle.rows_at_work.proofs.Stepping.{changes_none, changes_put, changes_then
 written : (c d : Contents) (k : ℕ) (v : Option (List ℕ)) (rows : List (ℕ × CopiedRow)) → d ≡ put_at c areas.Target 0 (b64 k) v → c areas.Target 0 ≡ copy_table rows → d areas.Target 0 ≡ set_key (copy_table rows) (b64 k) v
 written c d k v rows sets has = ap (λ (f : Contents). f areas.Target 0) sets ∙ put_here c areas.Target 0 (b64 k) v ∙ ap (λ (t : Table). set_key t (b64 k) v) has
 
+-- the two lists of rows that a change may make, by whether its row is kept
+MakesEither : Change → List (ℕ × CopiedRow) → Contents → Bool → Type 0
+MakesEither x rows d keeps = (λ (l : List (ℕ × CopiedRow)). AreCopies l × (d areas.Target 0 ≡ copy_table l)) (cond keeps (with_number (x.key, record { value = x.value }) rows) (without_number x.key rows))
+
 -- a row that is kept is put
-pub makes_put : (x : Change) (c d : Contents) → FitsChange x → x.keeps ≡ true → d ≡ put_at c areas.Target 0 (b64 x.key) (Some (b64 x.value)) → Makes (after_change x) c d
+pub makes_put : (x : Change) (c d : Contents) → FitsChange x → x.keeps ≡ true → d ≡ put_at c areas.Target 0 (b64 x.key) (Some (b64 x.value)) → Makes x c d
+unfolding MakesEither
 makes_put x c d fits keeps sets = record {
-  elsewhere = changes_put areas.Target 0 (b64 x.key) (Some (b64 x.value)) c d sets;
+  elsewhere = changes_put areas.Target 0 (b64 x.key) (b64 x.value) c d sets (x.key, fits.0, refl) (record { value = x.value }, fits.1, refl);
   makes = λ rows are has.
       let row : ℕ × CopiedRow = (x.key, record { value = x.value }) in
-      subst (λ (b : Bool). AreCopies (cond b (with_number row rows) (without_number x.key rows)) × (d areas.Target 0 ≡ copy_table (cond b (with_number row rows) (without_number x.key rows)))) (sym keeps) (
+      subst (MakesEither x rows d) (sym keeps) (
         record { rise = number_put_rises row rows are.rise; below = with_below (2 ^ 64) row rows fits.0 are.below },
         written c d x.key (Some (b64 x.value)) rows sets has ∙ sym (put_number b64 (2 ^ 64) (whole_order Is64 b64 nat_cmp order64) (λ r. b64 r.value) row rows fits.0 are.below),
       );
 }
 
 -- and one that isn't is removed
-pub makes_removed : (x : Change) (c d : Contents) → FitsChange x → x.keeps ≡ false → d ≡ put_at c areas.Target 0 (b64 x.key) None → Makes (after_change x) c d
+pub makes_removed : (x : Change) (c d : Contents) → FitsChange x → x.keeps ≡ false → d ≡ put_at c areas.Target 0 (b64 x.key) None → Makes x c d
+unfolding MakesEither
 makes_removed x c d fits keeps sets = record {
-  elsewhere = changes_put areas.Target 0 (b64 x.key) None c d sets;
-  makes = λ rows are has.
-      let row : ℕ × CopiedRow = (x.key, record { value = x.value }) in
-      subst (λ (b : Bool). AreCopies (cond b (with_number row rows) (without_number x.key rows)) × (d areas.Target 0 ≡ copy_table (cond b (with_number row rows) (without_number x.key rows)))) (sym keeps) (
-        record { rise = number_removed_rises x.key rows are.rise; below = without_below (2 ^ 64) x.key rows are.below },
-        written c d x.key None rows sets has ∙ sym (remove_number b64 (2 ^ 64) (whole_order Is64 b64 nat_cmp order64) (λ r. b64 r.value) x.key rows fits.0 are.below),
-      );
+  elsewhere = changes_remove areas.Target 0 (b64 x.key) c d sets;
+  makes = λ rows are has. subst (MakesEither x rows d) (sym keeps) (
+    record { rise = number_removed_rises x.key rows are.rise; below = without_below (2 ^ 64) x.key rows are.below },
+    written c d x.key None rows sets has ∙ sym (remove_number b64 (2 ^ 64) (whole_order Is64 b64 nat_cmp order64) (λ r. b64 r.value) x.key rows fits.0 are.below),
+  );
 }
 
 -- ---- changes of an interval
@@ -73,26 +77,23 @@ none_past after high number x changes le lt next = numbers_yet changes after aft
 pub none_last : (after high : ℕ) (changes : List (ℕ × Change)) → after ≤ high → after < 2 ^ 64 → AreChanges changes → IsLast (change_table changes) (b64 after) → numbers_between after high changes ≡ []
 none_last after high changes le la are last = numbers_none changes after after high (read_last b64 (2 ^ 64) (whole_order Is64 b64 nat_cmp order64) change_spelling after changes la are.below last) le ∙ numbers_nothing changes after
 
--- without changes nothing changes
-pub makes_nothing : (xs : List (ℕ × Change)) (c d : Contents) → xs ≡ [] → d ≡ c → Makes (after_changes xs) c d
-makes_nothing xs c d none same = subst (λ (l : List (ℕ × Change)). Makes (λ rows. after_changes l rows) c d) (sym none) (record {
-  elsewhere = changes_none areas.Target 0 c d same;
-  makes = λ rows are has. (are, ap (λ (f : Contents). f areas.Target 0) same ∙ has);
-})
+-- without changes the rows stay
+pub makes_nothing : (xs : List (ℕ × Change)) (c d : Contents) → xs ≡ [] → d ≡ c → MakesRows (after_changes xs) c d
+makes_nothing xs c d none same = subst (λ (l : List (ℕ × Change)). MakesRows (λ rows. after_changes l rows) c d) (sym none) (λ rows are has. (are, ap (λ (f : Contents). f areas.Target 0) same ∙ has))
 
 -- one change alone
-pub makes_one : (xs : List (ℕ × Change)) (number : ℕ) (x : Change) (c d : Contents) → xs ≡ (number, x) ∷ [] → Makes (after_change x) c d → Makes (after_changes xs) c d
-makes_one xs number x c d one made = subst (λ (l : List (ℕ × Change)). Makes (λ rows. after_changes l rows) c d) (sym one) made
+pub makes_one : (xs : List (ℕ × Change)) (number : ℕ) (x : Change) (c d : Contents) → xs ≡ (number, x) ∷ [] → MakesRows (after_change x) c d → MakesRows (after_changes xs) c d
+makes_one xs number x c d one made = subst (λ (l : List (ℕ × Change)). MakesRows (λ rows. after_changes l rows) c d) (sym one) made
 
 -- the changes up to a number, and then those after it
 pub applies_then : (h : List (Option Contents)) (source low mid high : ℕ) (c d e : Contents) → low ≤ mid → mid ≤ high → Applies h source low mid c d → Applies h source mid high d e → Applies h source low high c e
-applies_then h source low mid high c d e le more first second changes has = record {
-  elsewhere = changes_then areas.Target 0 c d e (first changes has).elsewhere (second changes has).elsewhere;
-  makes = λ rows are is.
+applies_then h source low mid high c d e le more first second = record {
+  elsewhere = changes_then areas.Target 0 c d e first.elsewhere second.elsewhere;
+  applies = λ changes has rows are is.
       let xs = numbers_between low mid changes in
       let ys = numbers_between mid high changes in
-      let x = (first changes has).makes rows are is in
-      let y = (second changes has).makes (after_changes xs rows) x.0 x.1 in
+      let x = first.applies changes has rows are is in
+      let y = second.applies changes has (after_changes xs rows) x.0 x.1 in
       let parts : numbers_between low high changes ≡ xs ++ ys = numbers_parts changes low mid high has.are.rise le more in
       subst (λ (l : List (ℕ × CopiedRow)). AreCopies l × (e areas.Target 0 ≡ copy_table l)) (sym (ap (λ (l : List (ℕ × Change)). after_changes l rows) parts ∙ after_both xs ys rows)) y;
 }

@@ -13,12 +13,15 @@ use Rattle.repl_records.specs.declared.source_side.InFlight.{InFlight}
 use Rattle.site_store.specs.declared.sites.Sites.{Sites}
 use Rattle.site_store.specs.Views.{held, work, sees, IsOpenAt}
 use Rattle.site_store.specs.Works.{Works, Sets}
-use Rattle.site_store.specs.Calls.{both, reads_of_one, writes_of_one, Reads, Puts}
+use Rattle.site_store.specs.Calls.{both, reads_of_one, writes_of_one, Reads, Puts, Fails}
 use Rattle.site_store.specs.laws.Counts.{IsAtMost, at_most_itself, reads_more, reads_wider, writes_more, writes_wider, passes_within, passes_then}
 use Rattle.site_store.specs.laws.Transactions.{open_below, works_start, works_then, works_seen, seen_work}
 use Rattle.rows_at_work.specs.Dropping.{Row, in_flight_table, of_transaction, StandFrom, DropsTo, DropsNone, Drops, DropsNext, DropsAll, in_dropping, IsAbove}
+use Rattle.faults.specs.declared.fault.Fault.{Fault}
+use Rattle.site_store.specs.Damage.{Damages}
+use Rattle.rows_at_work.specs.Rules.{rules}
 use Rattle.rows_at_work.specs.Steps.{WorksOn}
-use Rattle.rows_at_work.proofs.Stepping.{changes_none, changes_put, changes_then, works_none, works_on}
+use Rattle.rows_at_work.proofs.Stepping.{changes_none, changes_remove, changes_then, works_none, works_on, works_fail}
 use Rattle.rows_at_work.proofs.DroppedRows.{key_at, stand_start, later_position, drop_row, others_all}
 
 -- ---- bounds
@@ -29,6 +32,10 @@ dropping_then i j m n x y s le more = record {
   reads = λ q a. omega (arith, (reads_more i m s areas.Inflight).reads q a, (reads_wider (i + m) x s areas.Inflight le).reads q a);
   writes = λ q a. omega (arith, (writes_more j n s areas.Inflight).writes q a, (writes_wider (j + n) y s areas.Inflight more).writes q a);
 }
+
+-- so does one read
+pub read_in_dropping : (s : ℕ) → IsAtMost (reads_of_one 1 s areas.Inflight) (in_dropping 1 1 s)
+read_in_dropping s = record { reads = λ q a. omega arith; writes = λ q a. omega arith }
 
 -- ---- steps
 
@@ -78,7 +85,7 @@ module _ {K : Type 0} (kept : K → Kept) where
 
       one : (c d : Contents) → next c → sets c d → DropsTo tx after pos 1 c d
       one c d is put_there = record {
-        elsewhere = changes_put areas.Inflight 0 (key_at tx pos) None c d put_there;
+        elsewhere = changes_remove areas.Inflight 0 (key_at tx pos) c d put_there;
         drops = λ rows stand. drop_row tx after pos c d e rows ft fp lt stand (subst (λ (t : Table). IsNext t (key_at tx after) (key_at tx pos) (in_flight_spelling e)) stand.table is) put_there;
       }
 
@@ -126,3 +133,6 @@ module _ {K : Type 0} (kept : K → Kept) where
 
   pub drops_all : (s0 s1 s2 : Sites K) (server tx last count : ℕ) → IsOpenAt (work kept s0) server → tx < 2 ^ 32 → HasDropped s0 s1 server tx last count → DropsNext kept s1 s2 server tx last None → DropsAll kept s0 s2 server tx count
   drops_all s0 s1 s2 server tx last count open_at ft first second = works_on kept s0 s1 s2 server (in_dropping count count server) (in_dropping 1 0 server) (in_dropping (count + 1) count server) (DropsTo tx 0 last count) (DropsNone tx last) (Drops tx count) open_at (dropping_then count count 1 0 (count + 1) count server (omega arith) (omega arith)) first.drops second (λ c d e a b. drops_end tx last count c d e ft a b)
+
+  pub drops_fail : (s0 s1 s2 : Sites K) (server tx last count : ℕ) (e : Fault) → IsOpenAt (work kept s0) server → HasDropped s0 s1 server tx last count → Fails kept s1 s2 (in_dropping 1 1 server) (Damages (λ s. s ≡ server) rules kept s1) e → Fails kept s0 s2 (in_dropping (2 ^ 64) (2 ^ 64) server) (Damages (λ s. s ≡ server) rules kept s0) e
+  drops_fail s0 s1 s2 server tx last count e open_at first f = works_fail kept s0 s1 s2 server server (in_dropping count count server) (in_dropping 1 1 server) (in_dropping (2 ^ 64) (2 ^ 64) server) (DropsTo tx 0 last count) e open_at (dropping_then count count 1 1 (2 ^ 64) (2 ^ 64) server (omega (arith, first.few, first.small)) (omega (arith, first.few, first.small))) (λ c d p. p.elsewhere.adds) first.drops f

@@ -1,5 +1,5 @@
 -- What applying the changes of an interval makes of the rows of a copy.
-use Rattle.std.specs.Prelude.{◌≡◌, ℕ, ◌^◌, ◌<◌, ◌≤◌, if◌then◌else◌, List, [], ◌∷◌, Option, Some, None, slice_index_or}
+use Rattle.std.specs.Prelude.{◌≡◌, ℕ, ◌+◌, ◌^◌, length, ◌<◌, ◌≤◌, if◌then◌else◌, List, [], ◌∷◌, Option, Some, None, slice_index_or}
 use Rattle.std.specs.List.{AllByRecursion}
 use Rattle.repl_types.specs.declared.area.Area.TheVariants as areas
 use Rattle.keep_core.specs.Contents.{Contents, Table}
@@ -47,10 +47,14 @@ after_changes (change ∷ changes) rows = after_changes changes (after_change ch
 
 -- ---- steps
 
--- Rows became others, in the table of the copy, and no other table changed.
-pub record Makes (becomes : List (ℕ × CopiedRow) → List (ℕ × CopiedRow)) (c d : Contents) : Type 0 where
+-- rows of the copy became others
+abbrev pub MakesRows : (List (ℕ × CopiedRow) → List (ℕ × CopiedRow)) → Contents → Contents → Type 0
+MakesRows becomes c d = (rows : List (ℕ × CopiedRow)) → AreCopies rows → c areas.Target 0 ≡ copy_table rows → AreCopies (becomes rows) × (d areas.Target 0 ≡ copy_table (becomes rows))
+
+-- The rows became those after a change, and no other table changed.
+pub record Makes (change : Change) (c d : Contents) : Type 0 where
   pub elsewhere : ChangesOne areas.Target 0 c d
-  pub makes : (rows : List (ℕ × CopiedRow)) → AreCopies rows → c areas.Target 0 ≡ copy_table rows → AreCopies (becomes rows) × (d areas.Target 0 ≡ copy_table (becomes rows))
+  pub makes : MakesRows (after_change change) c d
 
 -- One server has these changes.
 pub record HasChanges (held : List (Option Contents)) (source : ℕ) (changes : List (ℕ × Change)) : Type 0 where
@@ -59,9 +63,11 @@ pub record HasChanges (held : List (Option Contents)) (source : ℕ) (changes : 
   pub table : contents areas.Log 0 ≡ change_table changes
   pub are : AreChanges changes
 
--- the changes above one number and up to another, which the source has, were applied
-abbrev pub Applies : List (Option Contents) → ℕ → ℕ → ℕ → Contents → Contents → Type 0
-Applies held source low high c d = (changes : List (ℕ × Change)) → HasChanges held source changes → Makes (after_changes (numbers_between low high changes)) c d
+-- The changes above one number and up to another, which the source has, were applied to the rows, and no
+-- other table changed.
+pub record Applies (held : List (Option Contents)) (source low high : ℕ) (c d : Contents) : Type 0 where
+  pub elsewhere : ChangesOne areas.Target 0 c d
+  pub applies : (changes : List (ℕ × Change)) → HasChanges held source changes → MakesRows (after_changes (numbers_between low high changes)) c d
 
 -- a number above one and up to another
 abbrev pub IsWithinInterval : ℕ → ℕ → ℕ → Type 0
@@ -75,13 +81,27 @@ reached high (Some number) = number
 -- ---- calls
 
 -- how often the changes are read, and the rows written
-abbrev pub in_applying : ℕ → ℕ → ℕ → Bounds
-in_applying n source target = both (reads_of_one n source areas.Log) (writes_of_one n target areas.Target)
+abbrev pub in_applying : ℕ → ℕ → ℕ → ℕ → Bounds
+in_applying reads writes source target = both (reads_of_one reads source areas.Log) (writes_of_one writes target areas.Target)
 
 -- what applying one change does
 abbrev pub AppliesOne : {K : Type 0} → (K → Kept) → Sites K → Sites K → ℕ → Change → Type 0
-AppliesOne kept old new target change = WorksOn kept old new target (writes_of_one 1 target areas.Target) (Makes (after_change change))
+AppliesOne kept old new target change = WorksOn kept old new target (writes_of_one 1 target areas.Target) (Makes change)
 
--- what applying the changes of an interval does
-abbrev pub AppliesOn : {K : Type 0} → (K → Kept) → Sites K → Sites K → ℕ → ℕ → ℕ → ℕ → ℕ → Type 0
-AppliesOn kept old new source target low high most = WorksOn kept old new target (in_applying most source target) (Applies (held kept old) source low high)
+-- The changes of an interval were applied, and this is how many there were.
+pub record AppliesOn {K : Type 0} (kept : K → Kept) (old new : Sites K) (source target low high reads count : ℕ) : Type 0 where
+  pub works : WorksOn kept old new target (in_applying reads count source target) (Applies (held kept old) source low high)
+  pub counts : (changes : List (ℕ × Change)) → HasChanges (held kept old) source changes → count ≡ length (numbers_between low high changes)
+
+-- how many changes one step applies
+abbrev pub applied : Option ℕ → ℕ
+applied None = 0
+applied (Some number) = 1
+
+-- what one step of the loop does
+abbrev pub AppliesNext : {K : Type 0} → (K → Kept) → Sites K → Sites K → ℕ → ℕ → ℕ → ℕ → Option ℕ → Type 0
+AppliesNext kept old new source target after high next = AppliesOn kept old new source target after (reached high next) 1 (applied next)
+
+-- what the whole loop does: it reads once more than there are changes in the interval
+abbrev pub AppliesAll : {K : Type 0} → (K → Kept) → Sites K → Sites K → ℕ → ℕ → ℕ → ℕ → Type 0
+AppliesAll kept old new source target low high = (count : ℕ) × AppliesOn kept old new source target low high (count + 1) count

@@ -8,11 +8,14 @@ use Rattle.site_store.specs.declared.sites.Sites.{Sites}
 use Rattle.site_store.specs.Views.{held, work}
 use Rattle.site_store.specs.Works.{Works}
 use Rattle.site_store.specs.Calls.{Bounds, Passes}
+use Rattle.site_store.specs.Damage.{AddsOnlySpelt}
+use Rattle.rows_at_work.specs.Rules.{rules}
 
--- All tables but one are as before.
+-- All tables but one are as before, and only keys and values of that one were added to it.
 pub record ChangesOne (a : Area) (t : ℕ) (c d : Contents) : Type 0 where
   pub tables : (u : ℕ) → t ≢ u → d a u ≡ c a u
   pub areas : (b : Area) (u : ℕ) → same_area a b ≡ false → d b u ≡ c b u
+  pub adds : AddsOnlySpelt rules c d
 
 -- The server's open transaction went on by this step, and every server holds what it held.
 pub record WorksOn {K : Type 0} (kept : K → Kept) (old new : Sites K) (server : ℕ) (most : Bounds) (step : Contents → Contents → Type 0) : Type 0 where

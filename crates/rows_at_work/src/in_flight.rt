@@ -1,8 +1,10 @@
 //! The changes that a transaction has in flight are dropped.
 
-ghost use Rattle.std.specs.Prelude.{◌<◌, ◌^◌, length, OnErr, IfOk, IfSome};
+ghost use Rattle.std.specs.Prelude.{◌≡◌, ◌<◌, ◌^◌, length, IfOk, IfErr, IfSome};
 ghost use Rattle.site_store.specs.Views.{names, work, IsOpenAt};
-ghost use Rattle.site_store.specs.Calls.{ClosesAll};
+ghost use Rattle.site_store.specs.Calls.{Fails};
+ghost use Rattle.site_store.specs.Damage.{Damages};
+ghost use Rattle.rows_at_work.specs.Rules.{rules};
 ghost use Rattle.rows_at_work.specs.Dropping.{DropsNext, DropsAll, in_dropping, IsAbove};
 
 use faults::Fault;
@@ -25,7 +27,9 @@ fn drop_next<K: Keeper>(
     requires open { IsOpenAt (work K.kept sites.old) server }
     ensures ok { IfOk result (λ next. DropsNext K.kept sites.old sites.new server tx after next) }
     ensures rises { IfOk result (λ next. IfSome next (IsAbove after)) }
-    ensures fault { OnErr result (ClosesAll K.kept sites.old sites.new (in_dropping 1 1 server)) }
+    ensures fault { let most = in_dropping 1 1 server in
+        let damage = Damages (λ s. s ≡ server) rules K.kept sites.old in
+        IfErr result (Fails K.kept sites.old sites.new most damage) }
 {
     let last = InFlightKey { tx, pos: after };
     let Some((key, _row)) = sites.next::<InFlight>(alloc, server, Table0, Some(&last))? else {
@@ -49,7 +53,9 @@ pub fn drop_transaction<K: Keeper>(
     requires server { server < length (names sites.old) }
     requires open { IsOpenAt (work K.kept sites.old) server }
     ensures ok { IfOk result (λ count. DropsAll K.kept sites.old sites.new server tx count) }
-    ensures fault { OnErr result (ClosesAll K.kept sites.old sites.new (in_dropping (2 ^ 64) (2 ^ 64) server)) }
+    ensures fault { let most = in_dropping (2 ^ 64) (2 ^ 64) server in
+        let damage = Damages (λ s. s ≡ server) rules K.kept sites.old in
+        IfErr result (Fails K.kept sites.old sites.new most damage) }
 {
     let mut last = 0;
     let mut count = 0;

@@ -1,11 +1,14 @@
 //! The change rows of an interval are applied to a copy.
 
-ghost use Rattle.std.specs.Prelude.{◌≢◌, ◌<◌, ◌≤◌, ◌+◌, ◌-◌, length, OnOk, OnErr, IfOk, IfSome};
+ghost use Rattle.std.specs.Prelude.{◌≡◌, ◌≢◌, ◌<◌, ◌≤◌, ◌+◌, ◌-◌, length, OnOk, IfOk, IfErr, IfSome};
 ghost use Rattle.site_store.specs.Views.{names, work, IsOpenAt, IsClosedAt};
-ghost use Rattle.site_store.specs.Calls.{writes_of_one, ClosesAll};
+ghost use Rattle.site_store.specs.Calls.{writes_of_one, AtServer, Fails};
+ghost use Rattle.site_store.specs.Damage.{Damages};
+ghost use Rattle.site_store.specs.Records.{NoDamage};
 ghost use Rattle.repl_types.specs.declared.area.Area.TheVariants.{Target};
 ghost use Rattle.rows_at_work.specs.Records.{FitsChange};
-ghost use Rattle.rows_at_work.specs.Applying.{AppliesOne, AppliesOn, in_applying, reached, IsWithinInterval};
+ghost use Rattle.rows_at_work.specs.Rules.{rules};
+ghost use Rattle.rows_at_work.specs.Applying.{AppliesOne, AppliesNext, AppliesAll, in_applying, IsWithinInterval};
 
 use crate::records::{Change, CopiedRow};
 use faults::Fault;
@@ -25,7 +28,8 @@ fn apply_change<K: Keeper>(
     requires open { IsOpenAt (work K.kept sites.old) target }
     requires fits { FitsChange change.now }
     ensures ok { OnOk result (AppliesOne K.kept sites.old sites.new target change.now) }
-    ensures fault { OnErr result (ClosesAll K.kept sites.old sites.new (writes_of_one 1 target Target)) }
+    ensures fault { let most = writes_of_one 1 target Target in
+        IfErr result (Fails K.kept sites.old sites.new most (AtServer target NoDamage)) }
 {
     if !change.keeps {
         sites.remove::<CopiedRow>(alloc, target, Table0, &change.key)?;
@@ -53,9 +57,11 @@ fn apply_next<K: Keeper>(
     requires open { IsOpenAt (work K.kept sites.old) target }
     requires closed { IsClosedAt (work K.kept sites.old) source }
     requires order { after ≤ high }
-    ensures ok { IfOk result (λ next. AppliesOn K.kept sites.old sites.new source target after (reached high next) 1) }
+    ensures ok { IfOk result (AppliesNext K.kept sites.old sites.new source target after high) }
     ensures rises { IfOk result (λ next. IfSome next (IsWithinInterval after high)) }
-    ensures fault { OnErr result (ClosesAll K.kept sites.old sites.new (in_applying 1 source target)) }
+    ensures fault { let most = in_applying 1 1 source target in
+        let damage = Damages (λ s. s ≡ source) rules K.kept sites.old in
+        IfErr result (Fails K.kept sites.old sites.new most damage) }
 {
     let Some((number, change)) = sites.next::<Change>(alloc, source, Table0, Some(&after))? else {
         return Ok(None);
@@ -83,8 +89,11 @@ pub fn apply_interval<K: Keeper>(
     requires open { IsOpenAt (work K.kept sites.old) target }
     requires closed { IsClosedAt (work K.kept sites.old) source }
     requires order { low ≤ high }
-    ensures ok { OnOk result (AppliesOn K.kept sites.old sites.new source target low high (high - low + 1)) }
-    ensures fault { OnErr result (ClosesAll K.kept sites.old sites.new (in_applying (high - low + 1) source target)) }
+    ensures ok { OnOk result (AppliesAll K.kept sites.old sites.new source target low high) }
+    ensures fault { let times = high - low + 1 in
+        let most = in_applying times times source target in
+        let damage = Damages (λ s. s ≡ source) rules K.kept sites.old in
+        IfErr result (Fails K.kept sites.old sites.new most damage) }
 {
     let mut applied = low;
     loop {

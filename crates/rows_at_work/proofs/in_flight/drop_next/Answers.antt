@@ -3,10 +3,14 @@ use Rattle.std.proofs.Common.{◌≡◌, ◌≢◌, ℕ, false, arith}
 use Rattle.std.proofs.lemmas.Bool.Decides.{nat_tests}
 use Rattle.repl_types.specs.declared.area.Area.TheVariants as areas
 use Rattle.keep_core.specs.Contents.{IsNext, IsLast}
-use Rattle.repl_records.specs.RecordKeys.{in_flight_key_spelling}
+use Rattle.repl_records.specs.RecordKeys.{in_flight_key_spelling, IsInFlightKey}
 use Rattle.repl_records.specs.SourceSide.{in_flight_spelling}
 use Rattle.rows_at_work.proofs.DroppedRows.{key_at, none_last, none_past}
-use Rattle.rows_at_work.proofs.DropCalls.{drop_nothing, drop_found, position_above}
+use Rattle.std.proofs.lemmas.Result.{err_from_is_err_and}
+use Rattle.row_codec.specs.Spelling.{Any}
+use Rattle.rows_at_work.specs.Dropping.{in_dropping}
+use Rattle.rows_at_work.proofs.Stepping.{next_fails}
+use Rattle.rows_at_work.proofs.DropCalls.{read_in_dropping, drop_nothing, drop_found, position_above}
 use Rattle.rows_at_work.proofs.in_flight.drop_next.Goals as goal
 
 differ : (a b : ℕ) → a ≢ b → (a == b) ≡ false
@@ -23,3 +27,8 @@ returns-clause-ok g c = drop_found g.K.Keeper.kept c.args.sites.now c.next.new.s
 
 pub returns-clause-rises : goal.returns-clause-rises
 returns-clause-rises g c = position_above c.args.tx c.args.after c.in-Some.key c.if-key-tx.false (omega arith) (rw c.in-Some.is at c.in_ok-key.ensures.rises).fits (rw c.in-Some.is at c.in_ok-key.ensures.rises).above
+
+pub returns-in_err-key-clause-fault : goal.returns-in_err-key-clause-fault
+returns-in_err-key-clause-fault g c =
+    let p = err_from_is_err_and c.from_residual.result c.from_residual.ensures.1 in
+    rw (p.1, p.2) (next_fails g.K.Keeper.kept IsInFlightKey in_flight_key_spelling Any in_flight_spelling c.args.sites.now c.next.new.self c.args.server areas.Inflight (key_at c.args.tx c.args.after) (in_dropping 1 1 c.args.server) c.in_err-key.field-0.0 (λ bytes h. h) (λ bytes h. h) (read_in_dropping c.args.server) c.in_err-key.ensures.fault)

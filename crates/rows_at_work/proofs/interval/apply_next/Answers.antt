@@ -3,7 +3,12 @@ use Rattle.std.specs.Ordering.{nat_cmp}
 use Rattle.row_codec.specs.Spelling.{b64, Is64}
 use Rattle.row_codec.specs.laws.Orders.{order64, whole_order}
 use Rattle.rows_in_order.specs.laws.ByNumber.{key_less}
-use Rattle.rows_at_work.proofs.ApplyCalls.{apply_found, apply_last, apply_past}
+use Rattle.std.proofs.lemmas.Result.{err_from_is_err_and}
+use Rattle.repl_types.specs.declared.area.Area.TheVariants as areas
+use Rattle.rows_at_work.specs.Records.{change_spelling, FitsChange}
+use Rattle.rows_at_work.specs.Applying.{in_applying}
+use Rattle.rows_at_work.proofs.Stepping.{next_fails}
+use Rattle.rows_at_work.proofs.ApplyCalls.{read_in_applying, apply_found, apply_last, apply_past}
 use Rattle.rows_at_work.proofs.interval.apply_next.Goals as goal
 
 pub returns-in_default-clause-ok : goal.returns-in_default-clause-ok
@@ -17,9 +22,14 @@ returns-then-number-high-clause-ok g c =
 pub returns-clause-ok : goal.returns-clause-ok
 returns-clause-ok g c =
     let follows = rw c.in-Some.is at c.in_ok-number.ensures.rises in
-    apply_found g.K.Keeper.kept c.args.sites.now c.next.new.self c.apply_change.new.sites c.args.source c.args.target c.args.after c.in-Some.number c.in-Some.change c.requires.open c.requires.closed (omega arith) follows.fits follows.row.fits c.in_ok-number.ensures.ok c.in_ok-apply_change.ensures.ok (rw c.in-Some.is at c.in_ok-number.ensures.row)
+    apply_found g.K.Keeper.kept c.args.sites.now c.next.new.self c.apply_change.new.sites c.args.source c.args.target c.args.after c.args.high c.in-Some.number c.in-Some.change c.requires.open c.requires.closed (omega arith) follows.fits follows.row.fits c.in_ok-number.ensures.ok c.in_ok-apply_change.ensures.ok (rw c.in-Some.is at c.in_ok-number.ensures.row)
 
 pub returns-clause-rises : goal.returns-clause-rises
 returns-clause-rises g c =
     let follows = rw c.in-Some.is at c.in_ok-number.ensures.rises in
     (key_less b64 (2 ^ 64) (whole_order Is64 b64 nat_cmp order64) c.args.after c.in-Some.number (omega arith) follows.fits follows.above, c.if-number-high.false)
+
+pub returns-in_err-number-clause-fault : goal.returns-in_err-number-clause-fault
+returns-in_err-number-clause-fault g c =
+    let p = err_from_is_err_and c.from_residual.result c.from_residual.ensures.1 in
+    rw (p.1, p.2) (next_fails g.K.Keeper.kept Is64 b64 FitsChange change_spelling c.args.sites.now c.next.new.self c.args.source areas.Log (b64 c.args.after) (in_applying 1 1 c.args.source c.args.target) c.in_err-number.field-0.0 (λ bytes h. h) (λ bytes h. h) (read_in_applying 1 c.args.source c.args.target) c.in_err-number.ensures.fault)
