@@ -8,7 +8,8 @@ ghost use Rattle.site_store.specs.Records.{NoDamage};
 ghost use Rattle.repl_types.specs.declared.area.Area.TheVariants.{Target};
 ghost use Rattle.rows_at_work.specs.Records.{FitsChange};
 ghost use Rattle.rows_at_work.specs.Rules.{rules};
-ghost use Rattle.rows_at_work.specs.Applying.{AppliesOne, AppliesNext, AppliesAll, in_applying, IsWithinInterval};
+ghost use Rattle.rows_at_work.specs.Applying.{AppliesOne, AppliesNext, AppliesAll};
+ghost use Rattle.rows_at_work.specs.Applying.{in_applying, IsWithinInterval};
 
 use crate::records::{Change, CopiedRow};
 use faults::Fault;
