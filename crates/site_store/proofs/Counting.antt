@@ -43,6 +43,7 @@ counted_once counts s a b = pick (same_area a b) (s == s) (eq-eqb s s refl)
 pub record Counts (s : ℕ) (old new : Kept) (most : Bounds) : Type 0 where
   pub later : old.faults ≤ new.faults
   pub back : (a : Area) → new.reads a < 2 ^ 64 - 1 → old.reads a ≤ new.reads a
+  pub kept_up : (a : Area) → new.writes a < 2 ^ 64 - 1 → old.writes a ≤ new.writes a
   pub reads : (a : Area) → new.reads a ≤ old.reads a + most.reads s a
   pub writes : (a : Area) → new.writes a ≤ old.writes a + most.writes s a
 
@@ -51,6 +52,7 @@ pub counts_none : (s : ℕ) (old new : Kept) → old.faults ≤ new.faults → n
 counts_none s old new later reads writes = record {
   later = later;
   back = λ a lt. omega (arith, ap (λ (f : Area → ℕ). f a) reads);
+  kept_up = λ b lt. omega (arith, ap (λ (f : Area → ℕ). f b) writes);
   reads = λ a. omega (arith, ap (λ (f : Area → ℕ). f a) reads);
   writes = λ a. omega (arith, ap (λ (f : Area → ℕ). f a) writes);
 }
@@ -60,6 +62,7 @@ pub counts_read : (s : ℕ) (old new : Kept) (a : Area) → old.faults ≤ new.f
 counts_read s old new a later reads writes = record {
   later = later;
   back = λ b. subst (λ (n : ℕ). n < 2 ^ 64 - 1 → old.reads b ≤ n) (sym (ap (λ (f : Area → ℕ). f b) reads)) (counted_grows old.reads a b);
+  kept_up = λ b lt. omega (arith, ap (λ (f : Area → ℕ). f b) writes);
   reads = λ b. subst (λ (n : ℕ). n ≤ old.reads b + only 1 s a s b) (sym (ap (λ (f : Area → ℕ). f b) reads)) (counted_once old.reads s a b);
   writes = λ b. omega (arith, ap (λ (f : Area → ℕ). f b) writes);
 }
@@ -69,6 +72,7 @@ pub counts_written : (s : ℕ) (old new : Kept) (a : Area) → old.faults ≤ ne
 counts_written s old new a later reads writes = record {
   later = later;
   back = λ b lt. omega (arith, ap (λ (f : Area → ℕ). f b) reads);
+  kept_up = λ b. subst (λ (n : ℕ). n < 2 ^ 64 - 1 → old.writes b ≤ n) (sym (ap (λ (f : Area → ℕ). f b) writes)) (counted_grows old.writes a b);
   reads = λ b. omega (arith, ap (λ (f : Area → ℕ). f b) reads);
   writes = λ b. subst (λ (n : ℕ). n ≤ old.writes b + only 1 s a s b) (sym (ap (λ (f : Area → ℕ). f b) writes)) (counted_once old.writes s a b);
 }
@@ -80,6 +84,10 @@ counts_halted server s old whole new damage e most c h = record {
   back = λ a. elim h.reads [
     | inl r ↦ λ lt. omega (arith, ap (λ (f : Area → ℕ). f a) r)
     | inr r ↦ subst (λ (n : ℕ). n < 2 ^ 64 - 1 → old.reads a ≤ n) (sym (ap (λ (f : Area → ℕ). f a) r)) (c.back a)
+  ];
+  kept_up = λ a. elim h.writes [
+    | inl w ↦ λ lt. omega (arith, ap (λ (f : Area → ℕ). f a) w)
+    | inr w ↦ subst (λ (n : ℕ). n < 2 ^ 64 - 1 → old.writes a ≤ n) (sym (ap (λ (f : Area → ℕ). f a) w)) (c.kept_up a)
   ];
   reads = λ a. elim h.reads [
     | inl r ↦ omega (arith, ap (λ (f : Area → ℕ). f a) r)

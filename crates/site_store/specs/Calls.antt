@@ -53,12 +53,13 @@ pub record IsWithin {K : Type 0} (kept : K → Kept) (old new : Sites K) (most :
   pub reads : (s : ℕ) (a : Area) → slice_index_or (reads_in kept a new) s 0 ≤ slice_index_or (reads_in kept a old) s 0 + most.reads s a
   pub writes : (s : ℕ) (a : Area) → slice_index_or (writes_in kept a new) s 0 ≤ slice_index_or (writes_in kept a old) s 0 + most.writes s a
 
--- What every call keeps: the names stay, no count of faults falls, nor one of reads that is below its
--- maximum, and areas are read and written so often at most.
+-- What every call keeps: the names stay, no count of faults falls, nor one of reads or of writes that
+-- is below its maximum, and areas are read and written so often at most.
 pub record Passes {K : Type 0} (kept : K → Kept) (old new : Sites K) (most : Bounds) : Type 0 where
   pub names : names new ≡ names old
   pub faults : NoneFell (fault_counts kept old) (fault_counts kept new)
   pub reads : (a : Area) → NoneBack (reads_in kept a old) (reads_in kept a new)
+  pub writes : (a : Area) → NoneBack (writes_in kept a old) (writes_in kept a new)
   pub within : IsWithin kept old new most
 
 -- ---- what a call leaves
@@ -69,16 +70,17 @@ pub record Stays {K : Type 0} (kept : K → Kept) (old new : Sites K) (most : Bo
   pub held : held kept new ≡ held kept old
   pub work : work kept new ≡ work kept old
 
--- One area of one server was read once, and nothing else changed.
+-- One area of one server was read once, and the servers hold and their transactions see the same.
 pub record Reads {K : Type 0} (kept : K → Kept) (old new : Sites K) (s : ℕ) (a : Area) : Type 0 where
   pub stays : Stays kept old new (reads_of_one 1 s a)
   pub rose : Rises (slice_index_or (reads_in kept a old) s 0) (slice_index_or (reads_in kept a new) s 0)
 
--- The transaction of one server sees this at one key: it was written once, and nothing else changed.
+-- The transaction of one server sees this at one key: the area was written once, and what is held stays.
 pub record Puts {K : Type 0} (kept : K → Kept) (old new : Sites K) (s : ℕ) (a : Area) (t : ℕ) (key : List ℕ) (value : Option (List ℕ)) : Type 0 where
   pub passes : Passes kept old new (writes_of_one 1 s a)
   pub held : held kept new ≡ held kept old
   pub works : Works (work kept old) (work kept new) s (Sets a t key value)
+  pub rose : Rises (slice_index_or (writes_in kept a old) s 0) (slice_index_or (writes_in kept a new) s 0)
 
 -- One server has a transaction open, which sees what is held.
 pub record Begins {K : Type 0} (kept : K → Kept) (old new : Sites K) (s : ℕ) : Type 0 where

@@ -73,6 +73,7 @@ module _ {K : Type 0} (kept : K → Kept) where
     names = p.names;
     faults = p.faults;
     reads = p.reads;
+    writes = p.writes;
     within = record {
       reads = λ s a. omega (arith, p.within.reads s a, most.reads s a);
       writes = λ s a. omega (arith, p.within.writes s a, most.writes s a);
@@ -85,6 +86,7 @@ module _ {K : Type 0} (kept : K → Kept) where
     names = q.names ∙ p.names;
     faults = λ s. omega (arith, p.faults s, q.faults s);
     reads = λ a s lt. let more = q.reads a s lt in let less = p.reads a s (omega (arith, more, lt)) in omega (arith, more, less);
+    writes = λ a s lt. let more = q.writes a s lt in let less = p.writes a s (omega (arith, more, lt)) in omega (arith, more, less);
     within = record {
       reads = λ s a. omega (arith, p.within.reads s a, q.within.reads s a, most.reads s a);
       writes = λ s a. omega (arith, p.within.writes s a, q.within.writes s a, most.writes s a);
@@ -97,6 +99,7 @@ module _ {K : Type 0} (kept : K → Kept) where
     names = refl;
     faults = λ s. omega arith;
     reads = λ a s lt. omega arith;
+    writes = λ a s lt. omega arith;
     within = record { reads = λ s a. omega arith; writes = λ s a. omega arith };
   }
 
