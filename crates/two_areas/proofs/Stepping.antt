@@ -19,12 +19,12 @@ use Rattle.site_store.specs.Records.{or_first, StateIs}
 use Rattle.site_store.specs.Servers.{AllClosed}
 use Rattle.site_store.specs.Views.{names, held, work, sees}
 use Rattle.site_store.specs.Works.{Works, Sets}
-use Rattle.site_store.specs.Calls.{reads_of_one, no_access, both, Reads, Begins, Puts, Blames, Fails}
+use Rattle.site_store.specs.Calls.{reads_of_one, writes_of_one, no_access, both, Passes, Reads, Begins, Puts, Blames, Fails}
 use Rattle.site_store.specs.Damage.{Damages, IsUndamaged, IsNoDamage}
-use Rattle.site_store.specs.laws.Counts.{at_most_itself}
+use Rattle.site_store.specs.laws.Counts.{at_most_itself, passes_then}
 use Rattle.site_store.specs.laws.Transactions.{works_then, seen_held, took}
 use Rattle.site_store.specs.laws.Damage.{no_damage, fails_after, fails_begun}
-use Rattle.two_areas.specs.World.{World, copied, numbered, source_tables, target_tables, with_count, shown, Shows, Stands, OneOf, rules, Copies, in_loop, CopiesOn}
+use Rattle.two_areas.specs.World.{World, copied, numbered, source_tables, target_tables, with_count, shown, Shows, Stands, OneOf, rules, Copies, in_loop, in_step, CopiesOn}
 use Rattle.two_areas.proofs.Evidence.{source_spelt, target_spelt, undamaged}
 
 -- what holds anyway holds of an error
@@ -84,6 +84,17 @@ pub stands_same : (source target : ℕ) (h h2 : List (Option Contents)) (w : Wor
 stands_same source target h h2 w same at = subst (λ (l : List (Option Contents)). Stands source target l w) (sym same) at
 
 module _ {K : Type 0} (kept : K → Kept) where
+  -- how often the calls of a step read and write, one after another
+  pub step_passes : (s0 s1 s2 s3 s4 s5 : Sites K) (source target most : ℕ) → Passes kept s0 s1 (reads_of_one 1 target areas.Capture) → Passes kept s1 s2 no_access → Passes kept s2 s3 (in_loop most source target) → Passes kept s3 s4 (writes_of_one 1 target areas.Capture) → Passes kept s4 s5 no_access → Passes kept s0 s5 (in_step most source target)
+  step_passes s0 s1 s2 s3 s4 s5 source target most read begin copies put commit =
+      let read_in = reads_of_one 1 target areas.Capture in
+      let copied_in = both read_in (in_loop most source target) in
+      let step = in_step most source target in
+      let p = passes_then kept s0 s1 s2 read_in no_access read_in read begin (record { reads = λ s a. omega arith; writes = λ s a. omega arith }) in
+      let q = passes_then kept s0 s2 s3 read_in (in_loop most source target) copied_in p copies (at_most_itself copied_in) in
+      let r = passes_then kept s0 s3 s4 copied_in (writes_of_one 1 target areas.Capture) step q put (at_most_itself step) in
+      passes_then kept s0 s4 s5 step no_access step r commit (record { reads = λ s a. omega arith; writes = λ s a. omega arith })
+
   -- ---- evidence
 
   -- servers that stand for a world are blamed for no damage
