@@ -1,12 +1,10 @@
 -- Rows are put and removed by changes, in the order of the changes' numbers.
 use Rattle.std.proofs.Common.{◌≡◌, ℕ, ◌^◌, ◌<◌, ◌≤◌, Bool, true, false, cond, List, [], ◌∷◌, ◌++◌, refl, sym, ap, subst, ◌∙◌, arith}
 use Rattle.std.specs.Prelude.{Option, Some, None}
-use Rattle.std.specs.Ordering.{nat_cmp}
 use Rattle.repl_types.specs.declared.area.Area.TheVariants as areas
 use Rattle.keep_core.specs.Contents.{Contents, Table, IsNext, IsLast, set_key, put_at}
-use Rattle.row_codec.specs.Spelling.{b64, Is64}
+use Rattle.row_codec.specs.Spelling.{b64}
 use Rattle.row_codec.specs.laws.Ones.{one_whole}
-use Rattle.row_codec.specs.laws.Orders.{order64, whole_order}
 use Rattle.rows_in_order.specs.Numbers.{NextNumber, numbers_between, with_number, without_number}
 use Rattle.rows_in_order.specs.laws.BetweenNumbers.{numbers_nothing, numbers_first, numbers_yet, numbers_none, numbers_parts}
 use Rattle.rows_in_order.specs.laws.ByNumber.{read_next, read_last}
@@ -18,7 +16,9 @@ use Rattle.rows_at_work.specs.declared.records.CopiedRow.{CopiedRow}
 use Rattle.rows_at_work.specs.Records.{change_spelling, FitsChange}
 use Rattle.rows_at_work.specs.laws.Records.{one_change}
 use Rattle.rows_at_work.specs.Applying.{change_table, copy_table, AreChanges, AreCopies, after_change, after_changes, MakesRows, Makes, Applies}
-use Rattle.rows_at_work.proofs.Stepping.{changes_put, changes_remove, changes_then}
+use Rattle.site_store.specs.laws.Steps.{changes_put, changes_remove, changes_then}
+use Rattle.site_store.specs.laws.Numbers.{numbers_in_order}
+use Rattle.rows_at_work.specs.Rules.{rules}
 
 -- ---- one change
 
@@ -34,12 +34,12 @@ MakesEither x rows d keeps = (λ (l : List (ℕ × CopiedRow)). AreCopies l × (
 pub makes_put : (x : Change) (c d : Contents) → FitsChange x → x.keeps ≡ true → d ≡ put_at c areas.Target 0 (b64 x.key) (Some (b64 x.value)) → Makes x c d
 unfolding MakesEither
 makes_put x c d fits keeps sets = record {
-  elsewhere = changes_put areas.Target 0 (b64 x.key) (b64 x.value) c d sets (x.key, fits.0, refl) (record { value = x.value }, fits.1, refl);
+  elsewhere = changes_put rules areas.Target 0 (b64 x.key) (b64 x.value) c d sets (x.key, fits.0, refl) (record { value = x.value }, fits.1, refl);
   makes = λ rows are has.
       let row : ℕ × CopiedRow = (x.key, record { value = x.value }) in
       subst (MakesEither x rows d) (sym keeps) (
         record { rise = number_put_rises row rows are.rise; below = with_below (2 ^ 64) row rows fits.0 are.below },
-        written c d x.key (Some (b64 x.value)) rows sets has ∙ sym (put_number b64 (2 ^ 64) (whole_order Is64 b64 nat_cmp order64) (λ r. b64 r.value) row rows fits.0 are.below),
+        written c d x.key (Some (b64 x.value)) rows sets has ∙ sym (put_number b64 (2 ^ 64) numbers_in_order (λ r. b64 r.value) row rows fits.0 are.below),
       );
 }
 
@@ -47,10 +47,10 @@ makes_put x c d fits keeps sets = record {
 pub makes_removed : (x : Change) (c d : Contents) → FitsChange x → x.keeps ≡ false → d ≡ put_at c areas.Target 0 (b64 x.key) None → Makes x c d
 unfolding MakesEither
 makes_removed x c d fits keeps sets = record {
-  elsewhere = changes_remove areas.Target 0 (b64 x.key) c d sets;
+  elsewhere = changes_remove rules areas.Target 0 (b64 x.key) c d sets;
   makes = λ rows are has. subst (MakesEither x rows d) (sym keeps) (
     record { rise = number_removed_rises x.key rows are.rise; below = without_below (2 ^ 64) x.key rows are.below },
-    written c d x.key None rows sets has ∙ sym (remove_number b64 (2 ^ 64) (whole_order Is64 b64 nat_cmp order64) (λ r. b64 r.value) x.key rows fits.0 are.below),
+    written c d x.key None rows sets has ∙ sym (remove_number b64 (2 ^ 64) numbers_in_order (λ r. b64 r.value) x.key rows fits.0 are.below),
   );
 }
 
@@ -63,7 +63,7 @@ after_both (x ∷ xs) ys rows = after_both xs ys (after_change x.1 rows)
 
 -- the change that a read finds is the next one
 pub found_next : (after number : ℕ) (x : Change) (changes : List (ℕ × Change)) → after < 2 ^ 64 → number < 2 ^ 64 → FitsChange x → AreChanges changes → IsNext (change_table changes) (b64 after) (b64 number) (change_spelling x) → NextNumber changes after (number, x)
-found_next after number x changes la ln fits are read = read_next b64 (2 ^ 64) (whole_order Is64 b64 nat_cmp order64) change_spelling after changes (number, x) la ln are.below are.rise (all_weaker (λ r. FitsChange r.1) (λ r. r.0 ≡ number → change_spelling r.1 ≡ change_spelling x → r ≡ (number, x)) changes (λ r fit keys values. λ i. (keys i, one_whole FitsChange change_spelling one_change r.1 x fit fits values i)) are.fit) read
+found_next after number x changes la ln fits are read = read_next b64 (2 ^ 64) numbers_in_order change_spelling after changes (number, x) la ln are.below are.rise (all_weaker (λ r. FitsChange r.1) (λ r. r.0 ≡ number → change_spelling r.1 ≡ change_spelling x → r ≡ (number, x)) changes (λ r fit keys values. λ i. (keys i, one_whole FitsChange change_spelling one_change r.1 x fit fits values i)) are.fit) read
 
 -- up to the next change there is that one
 pub up_to_next : (after number : ℕ) (x : Change) (changes : List (ℕ × Change)) → NextNumber changes after (number, x) → numbers_between after number changes ≡ (number, x) ∷ []
@@ -75,7 +75,7 @@ none_past after high number x changes le lt next = numbers_yet changes after aft
 
 -- nor if there is none
 pub none_last : (after high : ℕ) (changes : List (ℕ × Change)) → after ≤ high → after < 2 ^ 64 → AreChanges changes → IsLast (change_table changes) (b64 after) → numbers_between after high changes ≡ []
-none_last after high changes le la are last = numbers_none changes after after high (read_last b64 (2 ^ 64) (whole_order Is64 b64 nat_cmp order64) change_spelling after changes la are.below last) le ∙ numbers_nothing changes after
+none_last after high changes le la are last = numbers_none changes after after high (read_last b64 (2 ^ 64) numbers_in_order change_spelling after changes la are.below last) le ∙ numbers_nothing changes after
 
 -- without changes the rows stay
 pub makes_nothing : (xs : List (ℕ × Change)) (c d : Contents) → xs ≡ [] → d ≡ c → MakesRows (after_changes xs) c d
@@ -88,7 +88,7 @@ makes_one xs number x c d one made = subst (λ (l : List (ℕ × Change)). Makes
 -- the changes up to a number, and then those after it
 pub applies_then : (h : List (Option Contents)) (source low mid high : ℕ) (c d e : Contents) → low ≤ mid → mid ≤ high → Applies h source low mid c d → Applies h source mid high d e → Applies h source low high c e
 applies_then h source low mid high c d e le more first second = record {
-  elsewhere = changes_then areas.Target 0 c d e first.elsewhere second.elsewhere;
+  elsewhere = changes_then rules areas.Target 0 c d e first.elsewhere second.elsewhere;
   applies = λ changes has rows are is.
       let xs = numbers_between low mid changes in
       let ys = numbers_between mid high changes in

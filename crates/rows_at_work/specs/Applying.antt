@@ -9,11 +9,12 @@ use Rattle.rows_in_order.specs.Rows.{table_of}
 use Rattle.rows_in_order.specs.Numbers.{AllBelow, NumbersRise, numbers_between, with_number, without_number}
 use Rattle.site_store.specs.declared.sites.Sites.{Sites}
 use Rattle.site_store.specs.Views.{held}
-use Rattle.site_store.specs.Calls.{Bounds, reads_of_one, writes_of_one, both}
+use Rattle.site_store.specs.Calls.{Bounds, writes_of_one, reads_and_writes}
 use Rattle.rows_at_work.specs.declared.records.Change.{Change}
 use Rattle.rows_at_work.specs.declared.records.CopiedRow.{CopiedRow}
 use Rattle.rows_at_work.specs.Records.{change_spelling, FitsChange}
-use Rattle.rows_at_work.specs.Steps.{ChangesOne, WorksOn}
+use Rattle.site_store.specs.Steps.{ChangesOne, WorksOn}
+use Rattle.rows_at_work.specs.Rules.{rules}
 
 -- ---- rows
 
@@ -53,7 +54,7 @@ MakesRows becomes c d = (rows : List (ℕ × CopiedRow)) → AreCopies rows → 
 
 -- The rows became those after a change, and no other table changed.
 pub record Makes (change : Change) (c d : Contents) : Type 0 where
-  pub elsewhere : ChangesOne areas.Target 0 c d
+  pub elsewhere : ChangesOne rules areas.Target 0 c d
   pub makes : MakesRows (after_change change) c d
 
 -- One server has these changes.
@@ -66,7 +67,7 @@ pub record HasChanges (held : List (Option Contents)) (source : ℕ) (changes : 
 -- The changes above one number and up to another, which the source has, were applied to the rows, and no
 -- other table changed.
 pub record Applies (held : List (Option Contents)) (source low high : ℕ) (c d : Contents) : Type 0 where
-  pub elsewhere : ChangesOne areas.Target 0 c d
+  pub elsewhere : ChangesOne rules areas.Target 0 c d
   pub applies : (changes : List (ℕ × Change)) → HasChanges held source changes → MakesRows (after_changes (numbers_between low high changes)) c d
 
 -- a number above one and up to another
@@ -82,7 +83,7 @@ reached high (Some number) = number
 
 -- how often the changes are read, and the rows written
 abbrev pub in_applying : ℕ → ℕ → ℕ → ℕ → Bounds
-in_applying reads writes source target = both (reads_of_one reads source areas.Log) (writes_of_one writes target areas.Target)
+in_applying reads writes source target = reads_and_writes reads source areas.Log writes target areas.Target
 
 -- what applying one change does
 abbrev pub AppliesOne : {K : Type 0} → (K → Kept) → Sites K → Sites K → ℕ → Change → Type 0

@@ -2,5 +2,4 @@ pub mod Applying
 pub mod Dropping
 pub mod Records
 pub mod Rules
-pub mod Steps
 pub mod laws

@@ -1,5 +1,5 @@
 -- A call of one server's keeper, as all servers see it.
-use Rattle.std.proofs.Common.{◌≡◌, ℕ, ◌<◌, ◌≤◌, List, length, get_or, map, refl, sym, ap, subst, ◌∙◌, arith, inl, inr}
+use Rattle.std.proofs.Common.{◌≡◌, ℕ, ◌<◌, List, length, get_or, map, refl, sym, ap, subst, ◌∙◌, arith, inl, inr}
 use Rattle.std.specs.Prelude.{Option, Some, None, IsSome}
 use Rattle.std.specs.Option.{option_map}
 use Rattle.std.specs.Vec.{with_item}
@@ -15,7 +15,7 @@ use Rattle.site_store.specs.declared.site.Site.{Site}
 use Rattle.site_store.specs.declared.sites.Sites.{Sites}
 use Rattle.site_store.specs.Records.{NoDamage, BlamesOne, Halts, MayHalt}
 use Rattle.site_store.specs.Servers.{AreServers, names_of}
-use Rattle.site_store.specs.Views.{names, held, work, fault_counts, reads_in, writes_in, sees}
+use Rattle.site_store.specs.Views.{names, held, work, fault_counts, reads_in, sees}
 use Rattle.site_store.specs.Calls.{Bounds, no_access, reads_of_one, writes_of_one, Passes, Reads, Puts, Begins, ClosesOne, ClosesAll, Commits, AtServer, Blames, Fails, InDoubt}
 use Rattle.site_store.specs.laws.Counts.{passes_then}
 use Rattle.site_store.specs.laws.Transactions.{works_set}

@@ -25,7 +25,7 @@ module _ {K : Type 0} (kept : K → Kept) (xs : List (Site K)) (s : ℕ) (site :
   pub names_stay : names_of (swapped xs s site new) ≡ names_of xs
   names_stay = map-set_same (λ x. x.name) xs s _ site (ap (λ (x : Site K). x.name) is)
 
-  -- what the keepers have doesn't change where the new one has the same
+  -- what the keepers have doesn't change if the new one has the same
   pub stays : {X : Type 0} (f : Kept → X) → f (kept new) ≡ f (kept site.keeper) → map (λ x. f (kept x.keeper)) (swapped xs s site new) ≡ map (λ x. f (kept x.keeper)) xs
   stays f e = map-set_same (λ x. f (kept x.keeper)) xs s _ site (e ∙ ap (λ (x : Site K). f (kept x.keeper)) is)
 

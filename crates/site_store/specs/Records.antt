@@ -24,16 +24,16 @@ abbrev pub RowIs : {X : Type 0} → (X → List ℕ) → Area → ℕ → List �
 RowIs spelling a t key row c = c a t key ≡ option_map spelling row
 
 -- a record of the kind, whose spelling has the size of a value
-pub record IsRow {X : Type 0} (row_fits : X → Type 0) (spelling : X → List ℕ) (row : X) : Type 0 where
+pub record IsRecord {X : Type 0} (row_fits : X → Type 0) (spelling : X → List ℕ) (row : X) : Type 0 where
   pub fits : row_fits row
   pub size : IsValueSize (spelling row)
 
--- the bytes, or where there are none those of a first state
+-- the bytes, or if there are none those of a first state
 abbrev pub or_first : {X : Type 0} → (X → List ℕ) → X → Option (List ℕ) → List ℕ
 or_first spelling first None = spelling first
 or_first spelling first (Some bytes) = bytes
 
--- the record is what the contents have at the key, and where they have nothing it is the first state
+-- the record is what the contents have at the key, and if they have nothing it is the first state
 abbrev pub StateIs : {X : Type 0} → (X → List ℕ) → Area → ℕ → List ℕ → X → X → Contents → Type 0
 StateIs spelling a t key first state c = spelling state ≡ or_first spelling first (c a t key)
 
@@ -52,7 +52,7 @@ pub record Follows {Y X : Type 0} (key_fits : Y → Type 0) (key_spelling : Y �
   pub above : bytes_cmp after (key_spelling entry.0) ≡ Less
   pub fits : key_fits entry.0
   pub size : IsKeySize (key_spelling entry.0)
-  pub row : IsRow row_fits spelling entry.1
+  pub row : IsRecord row_fits spelling entry.1
 
 -- ---- damage
 
@@ -90,7 +90,7 @@ MisspeltNext key_fits key_spelling fits spelling a t after saw bytes =
 
 -- ---- why a call of one keeper failed
 
--- Who is to blame: nobody for want of memory; the server, if its keeper's count of faults rose; or what
+-- Who is to blame: nobody if memory ran out; the server, if its keeper's count of faults rose; or what
 -- was read of an area, if that shows damage. No call of a keeper refuses.
 abbrev pub BlamesOne : ℕ → Kept → Kept → (Area → DamageCause → Type 0) → Fault → Type 0
 BlamesOne server old new damage faults.Memory = Unit {0}

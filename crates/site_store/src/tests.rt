@@ -149,7 +149,7 @@ fn sites_of(alloc: Global, names: &[&str]) -> Option<Result<Sites<Slot>, SitesEr
     Some(Sites::new(list))
 }
 
-/// How many servers the names give, and 0 where they give none.
+/// How many servers the names give, and 0 if they give none.
 fn count_of(alloc: Global, names: &[&str]) -> Option<u32> {
     match sites_of(alloc, names) {
         Some(Ok(sites)) => Some(sites.len()),

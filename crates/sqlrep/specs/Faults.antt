@@ -3,7 +3,7 @@ use Rattle.std.specs.Prelude.{ℕ, ◌+◌, ◌-◌, ◌^◌, min, Result, Ok, E
 use Rattle.keep_core.specs.declared.streams.ReadError.{ReadError}
 use Rattle.keep_core.specs.declared.streams.ReadError.TheVariants.{Memory, Failed}
 
--- one more fault where the stream failed, up to the last number of 64 bits
+-- one more fault if the stream failed, up to the maximum of 64 bits
 abbrev pub faults_of_error : ReadError → ℕ → ℕ
 faults_of_error Memory faults = faults
 faults_of_error Failed faults = min (faults + 1) (2 ^ 64 - 1)

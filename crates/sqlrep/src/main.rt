@@ -2,7 +2,10 @@
 //!
 //! The program stands on `session_core`, whose `session` does the work and says what a run
 //! promises. What is here gives it the words of the command line and the standard streams, and
-//! tells its status to the caller. `sqlrep --help` says which words it takes.
+//! hands its status to the caller. `sqlrep --help` says which words it takes.
+//!
+//! For example, of the two lines `insert 1 items 1 'pen'` and `commit 1 ann 100` it prints
+//! `row 1 'pen'` and `ok rows 1`, and exits with 0.
 #![tactic(auto)]
 
 ghost use Rattle.std.specs.Prelude.{◌≡◌, ◌≢◌, ◌⊎◌, drop, map, string_bytes, true, false, IfErr, IsOk, IsTrue};
@@ -63,7 +66,7 @@ fn printed(answer: Result<(), ReadError>) -> Status
     }
 }
 
-/// Prints the help or the version where the words of a command line ask for it, and else answers
+/// Prints the help or the version if the words of a command line ask for it, and else answers
 /// `Usage`.
 fn run_help(rt: &HostRuntime, words: &[String]) -> Status
     ensures asked { IsTrue (asks_text (map string_bytes words.now)) → result ≢ Status.Usage }

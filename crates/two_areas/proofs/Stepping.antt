@@ -23,9 +23,9 @@ use Rattle.site_store.specs.Calls.{reads_of_one, writes_of_one, no_access, both,
 use Rattle.site_store.specs.Damage.{Damages, IsUndamaged, IsNoDamage}
 use Rattle.site_store.specs.laws.Counts.{at_most_itself, passes_then}
 use Rattle.site_store.specs.laws.Transactions.{works_then, seen_held, took}
-use Rattle.site_store.specs.laws.Damage.{no_damage, fails_after, fails_begun}
-use Rattle.two_areas.specs.World.{World, copied, numbered, source_tables, target_tables, with_count, shown, Shows, Stands, OneOf, rules, Copies, in_loop, in_step, CopiesOn}
-use Rattle.two_areas.proofs.Evidence.{source_spelt, target_spelt, undamaged}
+use Rattle.site_store.specs.laws.Damage.{no_damage, fails_after, fails_begun, spelt_undamaged}
+use Rattle.two_areas.specs.World.{World, copied, numbered, source_tables, target_tables, with_count, shown, HasTables, Stands, OneOf, rules, Copies, in_loop, in_step, CopiesOn}
+use Rattle.two_areas.proofs.Evidence.{source_spelt, target_spelt, asks_nothing}
 
 -- what holds anyway holds of an error
 pub on_err : {T E P : Type 0} (r : Result T E) → P → OnErr r P
@@ -105,8 +105,8 @@ module _ {K : Type 0} (kept : K → Kept) where
       seen s c is = ap (seen_of (get_or (held kept s0) s None)) (closed s) ∙ is
 
       clean : (s : ℕ) → OneOf source target s → (c : Contents) × (sees kept s0 s ≡ Some c) × IsUndamaged rules c
-      clean s (inl is) = (at.at_source.contents, seen s at.at_source.contents (ap (λ (k : ℕ). get_or (held kept s0) k None) is ∙ at.at_source.is), undamaged at.at_source.contents (source_spelt w at.at_source.contents at.sound at.at_source.shows))
-      clean s (inr is) = (at.at_target.contents, seen s at.at_target.contents (ap (λ (k : ℕ). get_or (held kept s0) k None) is ∙ at.at_target.is), undamaged at.at_target.contents (target_spelt w at.at_target.contents at.sound at.at_target.shows))
+      clean s (inl is) = (at.at_source.contents, seen s at.at_source.contents (ap (λ (k : ℕ). get_or (held kept s0) k None) is ∙ at.at_source.is), spelt_undamaged rules asks_nothing at.at_source.contents (source_spelt w at.at_source.contents at.sound at.at_source.shows))
+      clean s (inr is) = (at.at_target.contents, seen s at.at_target.contents (ap (λ (k : ℕ). get_or (held kept s0) k None) is ∙ at.at_target.is), spelt_undamaged rules asks_nothing at.at_target.contents (target_spelt w at.at_target.contents at.sound at.at_target.shows))
 
   -- a fault of the copying is one of the step
   pub loop_fails : (s0 s1 s2 s3 : Sites K) (source target most : ℕ) (e : Fault) → target < length (names s0) → AllClosed (work kept s0) → Reads kept s0 s1 target areas.Capture → Begins kept s1 s2 target → Fails kept s2 s3 (in_loop most source target) (Damages (OneOf source target) rules kept s2) e → Blames kept s0 s3 (Damages (OneOf source target) rules kept s0) e
@@ -126,7 +126,7 @@ module _ {K : Type 0} (kept : K → Kept) where
 
     -- the work of the step
     pub did : Works (work kept s2) (work kept s4) target Did
-    did = works_then (work kept s2) (work kept s3) (work kept s4) target (Copies (held kept s2) source from to) (Sets areas.Capture 0 (b64 0) (Some (b64 to))) Did lt2 copies.works put.works (λ c d e is a b. (d, a, b))
+    did = works_then (work kept s2) (work kept s3) (work kept s4) target (Copies (held kept s2) source from to) (Sets areas.Capture 0 (b64 0) (Some (b64 to))) Did lt2 copies.works.works put.works (λ c d e is a b. (d, a, b))
       where
         lt2 : target < length (work kept s2)
         lt2 = let lt0 : target < length (work kept s0) = rw length-map (simp length-map at below) in rw (begin.work, length-set, read.stays.work) lt0
@@ -142,7 +142,7 @@ module _ {K : Type 0} (kept : K → Kept) where
     to_is w at =
         let is = from_is w at in
         let same : held kept s2 ≡ held kept s0 = begin.held ∙ read.stays.held in
-        let reached = copies.reaches w at.sound (subst (λ (h : List (Option Contents)). Shows h source (source_tables w)) (sym same) at.at_source) (omega (arith, is, at.sound.taken)) in
+        let reached = copies.reaches w at.sound (subst (λ (h : List (Option Contents)). HasTables h source (source_tables w)) (sym same) at.at_source) (omega (arith, is, at.sound.taken)) in
         reached ∙ ap (λ (n : ℕ). min (n + most) (length w.numbers)) is
 
     -- what stands after a commit that took place
@@ -153,9 +153,9 @@ module _ {K : Type 0} (kept : K → Kept) where
         let same : held kept s2 ≡ held kept s0 = begin.held ∙ read.stays.held in
         let below1 : target < length (names s1) = subst (λ (l : List (List ℕ)). target < length l) (sym read.stays.passes.names) below in
         let is1 = ap (λ (h : List (Option Contents)). get_or h target None) read.stays.held ∙ at.at_target.is in
-        let e = took kept s1 s2 s4 target Did begin did h5 c below1 (put.held ∙ copies.held) commit is1 in
+        let e = took kept s1 s2 s4 target Did begin did h5 c below1 (put.held ∙ copies.works.held) commit is1 in
         let d = e.2.0 in
-        let source_at = subst (λ (h : List (Option Contents)). Shows h source (source_tables w)) (sym same) at.at_source in
+        let source_at = subst (λ (h : List (Option Contents)). HasTables h source (source_tables w)) (sym same) at.at_source in
         let numbers = e.2.1.copies w at.sound source_at (omega (arith, is, at.sound.taken)) (at.at_target.shows areas.Target 0 ∙ ap (λ (n : ℕ). numbered (take n w.numbers)) (sym is)) in
         let lt : target < length (held kept s1) = rw length-map (simp length-map at below1) in
         record {
@@ -172,7 +172,7 @@ module _ {K : Type 0} (kept : K → Kept) where
           };
         }
       where
-        source_shows : (w : World) (at : Shows (held kept s0) source (source_tables w)) → (a : Area) (t : ℕ) → shown a t (at.contents a t) ≡ source_tables (copied most w) a t
+        source_shows : (w : World) (at : HasTables (held kept s0) source (source_tables w)) → (a : Area) (t : ℕ) → shown a t (at.contents a t) ≡ source_tables (copied most w) a t
         source_shows w at areas.Log zero = at.shows areas.Log 0
         source_shows w at areas.Capture zero = at.shows areas.Capture 0
         source_shows w at a t = at.shows a t

@@ -57,7 +57,7 @@ fn step_and_tell<K: Keeper, O: Sink>(
     }
 }
 
-/// Copies the next numbers again and again, so many times, and writes how many are copied after
+/// Copies the next numbers again and again, `times` times, and writes how many are copied after
 /// each commit. No line is ahead of its commit.
 pub fn run<K: Keeper, O: Sink>(
     sites: &mut Sites<K>,

@@ -5,7 +5,7 @@ use Rattle.repl_types.specs.Area.{same_area}
 use Rattle.repl_types.specs.declared.area.Area.{Area}
 use Rattle.keep_core.specs.Kept.{Kept}
 use Rattle.site_store.specs.declared.sites.Sites.{Sites}
-use Rattle.site_store.specs.Calls.{Bounds, only, no_access, reads_of_one, writes_of_one, both, Passes, Stays}
+use Rattle.site_store.specs.Calls.{Bounds, only, no_access, reads_of_one, writes_of_one, both, reads_and_writes, Passes, Stays}
 
 -- The one bounds allow no more than the others.
 pub record IsAtMost (x y : Bounds) : Type 0 where
@@ -51,6 +51,17 @@ reads_wider m n s a le = record { reads = λ q b. only_wider m n s a q b le; wri
 -- and for writes
 pub writes_wider : (m n s : ℕ) (a : Area) → m ≤ n → IsAtMost (writes_of_one m s a) (writes_of_one n s a)
 writes_wider m n s a le = record { reads = λ q b. omega arith; writes = λ q b. only_wider m n s a q b le }
+
+-- reads of one area and writes of one area add up
+pub reads_and_writes_then : (i j m n x y s : ℕ) (a : Area) (t : ℕ) (b : Area) → i + m ≤ x → j + n ≤ y → IsAtMost (both (reads_and_writes i s a j t b) (reads_and_writes m s a n t b)) (reads_and_writes x s a y t b)
+reads_and_writes_then i j m n x y s a t b few fewer = record {
+  reads = λ q c. omega (arith, only_more i m s a q c, only_wider (i + m) x s a q c few);
+  writes = λ q c. omega (arith, only_more j n t b q c, only_wider (j + n) y t b q c fewer);
+}
+
+-- so does one read
+pub read_within : (n s : ℕ) (a : Area) (t : ℕ) (b : Area) → IsAtMost (reads_of_one 1 s a) (reads_and_writes 1 s a n t b)
+read_within n s a t b = record { reads = λ q c. omega arith; writes = λ q c. omega arith }
 
 -- bounds add up in any order
 pub both_at_most : (x y u v : Bounds) → IsAtMost x u → IsAtMost y v → IsAtMost (both x y) (both u v)

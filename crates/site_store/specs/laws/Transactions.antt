@@ -72,7 +72,7 @@ works_then w0 w1 w2 s P Q R lt a b step = record {
       (e.0, e.1, step c d.0 e.0 here d.2 e.2);
 }
 
--- what the transaction sees is known where something is read in it
+-- what the transaction sees is known if something is read in it
 pub works_seen : (w0 w1 w2 : List (Option (Option Contents))) (s : ℕ) (P R : Contents → Contents → Type 0) → s < length w0 → Works w0 w1 s P → w2 ≡ w1 → ((c d : Contents) → get_or w1 s None ≡ Some (Some d) → P c d → R c d) → Works w0 w2 s R
 works_seen w0 w1 w2 s P R lt a same step = record {
   now = a.now;

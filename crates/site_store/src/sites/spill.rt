@@ -38,7 +38,7 @@ impl<K: Keeper> Sites<K> {
         }
     }
 
-    /// Whether there is a key above `after`, and the first of these in `key`, with its bytes in
+    /// Whether there is a key above `after`, and the first one in `key`, with its bytes in
     /// `out`.
     pub fn next_spill(
         &mut self,

@@ -1,5 +1,5 @@
 use Rattle.std.specs.Prelude.{◌==◌}
-use Rattle.std.proofs.Common.{◌≡◌, ◌≢◌, ℕ, false, arith}
+use Rattle.std.proofs.Common.{◌≡◌, ◌≢◌, ℕ, false, arith, refl}
 use Rattle.std.proofs.lemmas.Bool.Decides.{nat_tests}
 use Rattle.repl_types.specs.declared.area.Area.TheVariants as areas
 use Rattle.keep_core.specs.Contents.{IsNext, IsLast}
@@ -9,8 +9,10 @@ use Rattle.rows_at_work.proofs.DroppedRows.{key_at, none_last, none_past}
 use Rattle.std.proofs.lemmas.Result.{err_from_is_err_and}
 use Rattle.row_codec.specs.Spelling.{Any}
 use Rattle.rows_at_work.specs.Dropping.{in_dropping}
-use Rattle.rows_at_work.proofs.Stepping.{next_fails}
-use Rattle.rows_at_work.proofs.DropCalls.{read_in_dropping, drop_nothing, drop_found, position_above}
+use Rattle.site_store.specs.laws.Steps.{next_fails}
+use Rattle.rows_at_work.proofs.DropCalls.{drop_nothing, drop_found, position_above}
+use Rattle.rows_at_work.specs.Rules.{rules}
+use Rattle.site_store.specs.laws.Counts.{read_within}
 use Rattle.rows_at_work.proofs.in_flight.drop_next.Goals as goal
 
 differ : (a b : ℕ) → a ≢ b → (a == b) ≡ false
@@ -31,4 +33,4 @@ returns-clause-rises g c = position_above c.args.tx c.args.after c.in-Some.key c
 pub returns-in_err-key-clause-fault : goal.returns-in_err-key-clause-fault
 returns-in_err-key-clause-fault g c =
     let p = err_from_is_err_and c.from_residual.result c.from_residual.ensures.1 in
-    rw (p.1, p.2) (next_fails g.K.Keeper.kept IsInFlightKey in_flight_key_spelling Any in_flight_spelling c.args.sites.now c.next.new.self c.args.server areas.Inflight (key_at c.args.tx c.args.after) (in_dropping 1 1 c.args.server) c.in_err-key.field-0.0 (λ bytes h. h) (λ bytes h. h) (read_in_dropping c.args.server) c.in_err-key.ensures.fault)
+    rw (p.1, p.2) (next_fails g.K.Keeper.kept IsInFlightKey in_flight_key_spelling Any in_flight_spelling (λ s. s ≡ c.args.server) rules c.args.sites.now c.next.new.self c.args.server areas.Inflight 0 (key_at c.args.tx c.args.after) (in_dropping 1 1 c.args.server) c.in_err-key.field-0.0 refl (λ bytes h. h) (λ bytes h. h) (read_within 1 c.args.server areas.Inflight c.args.server areas.Inflight) c.in_err-key.ensures.fault)

@@ -1,4 +1,4 @@
-use Rattle.std.proofs.Common.{◌≡◌, ℕ, List, length, get_or, ap, ◌∙◌, arith}
+use Rattle.std.proofs.Common.{ℕ, List, get_or, ap, ◌∙◌, arith}
 use Rattle.std.proofs.lemmas.List.{with_items_is}
 use Rattle.std.specs.Prelude.{None}
 use Rattle.site_store.specs.declared.site.Site.{Site}

@@ -8,11 +8,10 @@ use Rattle.site_store.specs.declared.sites.Sites.{Sites}
 use Rattle.site_store.specs.Views.{held, work}
 use Rattle.site_store.specs.Works.{Works}
 use Rattle.site_store.specs.Calls.{Bounds, Passes}
-use Rattle.site_store.specs.Damage.{AddsOnlySpelt}
-use Rattle.rows_at_work.specs.Rules.{rules}
+use Rattle.site_store.specs.Damage.{Rules, AddsOnlySpelt}
 
 -- All tables but one are as before, and only keys and values of that one were added to it.
-pub record ChangesOne (a : Area) (t : ℕ) (c d : Contents) : Type 0 where
+pub record ChangesOne (rules : Rules) (a : Area) (t : ℕ) (c d : Contents) : Type 0 where
   pub tables : (u : ℕ) → t ≢ u → d a u ≡ c a u
   pub areas : (b : Area) (u : ℕ) → same_area a b ≡ false → d b u ≡ c b u
   pub adds : AddsOnlySpelt rules c d
