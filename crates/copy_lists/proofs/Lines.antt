@@ -2,7 +2,7 @@
 use Rattle.std.proofs.Common.{◌≡◌, ℕ, ◌++◌, List, [], ◌∷◌, Option, refl, append_assoc}
 use Rattle.std.proofs.lemmas.List.{append-nil}
 use Rattle.std.proofs.lemmas.List.Concat.{flat_map-append}
-use Rattle.keep_core.specs.Told.{Takes, TakesFront}
+use Rattle.keep_core.specs.Revealed.{Takes, TakesPrefix}
 use Rattle.copy_lists.specs.Replies.{joined}
 
 -- one piece and then another are both of them together
@@ -28,28 +28,28 @@ pub handed_all : (before now : Option (List ℕ)) (lines : List (List ℕ)) → 
 handed_all before now lines h = rw (h.parts, append-nil) h.taken
 
 -- with a front of the next line, a front of all lines was taken
-pub handed_front : Joins → (before between now : Option (List ℕ)) (lines : List (List ℕ)) (line : List ℕ) (left : List (List ℕ)) → Handed before between lines (line ∷ left) → TakesFront between now line → TakesFront before now (joined lines)
+pub handed_front : Joins → (before between now : Option (List ℕ)) (lines : List (List ℕ)) (line : List ℕ) (left : List (List ℕ)) → Handed before between lines (line ∷ left) → TakesPrefix between now line → TakesPrefix before now (joined lines)
 handed_front both before between now lines line left h part = record {
-  front = joined h.done ++ part.front;
+  prefix = joined h.done ++ part.prefix;
   rest = part.rest ++ joined left;
   parts = rw h.parts (simp (flat_map-append, part.parts, append_assoc));
-  taken = both before between now (joined h.done) part.front h.taken part.taken;
+  taken = both before between now (joined h.done) part.prefix h.taken part.taken;
 }
 
 -- taking nothing takes a front of any line
-pub takes_no_front : (told : Option (List ℕ)) (line : List ℕ) → Takes told told [] → TakesFront told told line
-takes_no_front told line nothing = record { front = []; rest = line; parts = refl; taken = nothing }
+pub takes_no_front : (told : Option (List ℕ)) (line : List ℕ) → Takes told told [] → TakesPrefix told told line
+takes_no_front told line nothing = record { prefix = []; rest = line; parts = refl; taken = nothing }
 
 -- a front of some lines is one of more lines
-pub front_longer : (before now : Option (List ℕ)) (lines more : List (List ℕ)) → TakesFront before now (joined lines) → TakesFront before now (joined (lines ++ more))
+pub front_longer : (before now : Option (List ℕ)) (lines more : List (List ℕ)) → TakesPrefix before now (joined lines) → TakesPrefix before now (joined (lines ++ more))
 front_longer before now lines more part = record {
-  front = part.front;
+  prefix = part.prefix;
   rest = part.rest ++ joined more;
   parts = simp (flat_map-append, part.parts, append_assoc);
   taken = part.taken;
 }
 
 -- after whole lines a front of one more
-pub front_after : Joins → (before between now : Option (List ℕ)) (lines : List (List ℕ)) (line : List ℕ) → Takes before between (joined lines) → TakesFront between now line → TakesFront before now (joined (lines ++ line ∷ []))
+pub front_after : Joins → (before between now : Option (List ℕ)) (lines : List (List ℕ)) (line : List ℕ) → Takes before between (joined lines) → TakesPrefix between now line → TakesPrefix before now (joined (lines ++ line ∷ []))
 front_after both before between now lines line whole part =
     handed_front both before between now (lines ++ line ∷ []) line [] (record { done = lines; parts = refl; taken = whole }) part

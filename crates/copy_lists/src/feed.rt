@@ -1,7 +1,7 @@
 //! The lines of an input, fed to the log of the source.
 
 ghost use Rattle.std.specs.Prelude.{◌≡◌, ◌≤◌, ◌<◌, ◌+◌, ℕ, List, [], ◌∷◌, length, IfOk, IfSome, OnOk, Some};
-ghost use Rattle.keep_core.specs.Told.{Rises};
+ghost use Rattle.keep_core.specs.Revealed.{Rises};
 ghost use Rattle.line_input.specs.Limits.{line_limit, input_limit};
 ghost use Rattle.copy_lists.specs.Feed.{is_blank as is_blank_lem, short_outcome, feed_of};
 ghost use Rattle.copy_lists.specs.Fed.{feed_kept, IsFed, Leaves};

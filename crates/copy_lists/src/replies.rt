@@ -1,7 +1,7 @@
 //! The lines that a run writes.
 
 ghost use Rattle.std.specs.Prelude.{◌≡◌, ◌≤◌, ◌++◌, IfOk, OnOk, OnErr, string_bytes};
-ghost use Rattle.keep_core.specs.Told.{Rises, Takes, TakesFront};
+ghost use Rattle.keep_core.specs.Revealed.{Rises, Takes, TakesPrefix};
 ghost use Rattle.copy_lists.specs.Replies.{row_line as row_line_lem, count_line as count_line_lem, refused_line as refused_line_lem, rows_lines, refusal_lines, joined};
 
 use crate::refused::{Cause, Refused};
@@ -46,7 +46,7 @@ fn refused_line(alloc: Global, refused: Refused) -> Result<String, AllocError>
 fn write_row<O: Sink>(alloc: Global, output: &mut O, row: &Row) -> Result<(), ReadError>
     ensures ok { OnOk result (Takes (O.taken output.old) (O.taken output.new)
         (row_line_lem row.now)) }
-    ensures err { OnErr result (TakesFront (O.taken output.old) (O.taken output.new)
+    ensures err { OnErr result (TakesPrefix (O.taken output.old) (O.taken output.new)
         (row_line_lem row.now)) }
     ensures cause { result ≡ Err ReadError.Failed
         → Rises (O.faults output.old) (O.faults output.new) }
@@ -60,7 +60,7 @@ fn write_row<O: Sink>(alloc: Global, output: &mut O, row: &Row) -> Result<(), Re
 fn write_count<O: Sink>(alloc: Global, output: &mut O, count: usize) -> Result<(), ReadError>
     ensures ok { OnOk result (Takes (O.taken output.old) (O.taken output.new)
         (count_line_lem count)) }
-    ensures err { OnErr result (TakesFront (O.taken output.old) (O.taken output.new)
+    ensures err { OnErr result (TakesPrefix (O.taken output.old) (O.taken output.new)
         (count_line_lem count)) }
     ensures cause { result ≡ Err ReadError.Failed
         → Rises (O.faults output.old) (O.faults output.new) }
@@ -75,7 +75,7 @@ fn write_count<O: Sink>(alloc: Global, output: &mut O, count: usize) -> Result<(
 fn write_rows<O: Sink>(alloc: Global, output: &mut O, rows: &Rows) -> Result<(), ReadError>
     ensures ok { OnOk result (Takes (O.taken output.old) (O.taken output.new)
         (joined (rows_lines rows.now))) }
-    ensures err { OnErr result (TakesFront (O.taken output.old) (O.taken output.new)
+    ensures err { OnErr result (TakesPrefix (O.taken output.old) (O.taken output.new)
         (joined (rows_lines rows.now))) }
     ensures cause { result ≡ Err ReadError.Failed
         → Rises (O.faults output.old) (O.faults output.new) }
@@ -92,7 +92,7 @@ fn write_rows<O: Sink>(alloc: Global, output: &mut O, rows: &Rows) -> Result<(),
 fn write_refused<O: Sink>(alloc: Global, output: &mut O, refused: Refused) -> Result<(), ReadError>
     ensures ok { OnOk result (Takes (O.taken output.old) (O.taken output.new)
         (refused_line_lem refused)) }
-    ensures err { OnErr result (TakesFront (O.taken output.old) (O.taken output.new)
+    ensures err { OnErr result (TakesPrefix (O.taken output.old) (O.taken output.new)
         (refused_line_lem refused)) }
     ensures cause { result ≡ Err ReadError.Failed
         → Rises (O.faults output.old) (O.faults output.new) }
@@ -113,7 +113,7 @@ pub fn write_copy<O: Sink>(
 ) -> Result<(), ReadError>
     ensures ok { OnOk result (Takes (O.taken output.old) (O.taken output.new)
         (joined (rows_lines rows.now ++ refusal_lines refused))) }
-    ensures err { OnErr result (TakesFront (O.taken output.old) (O.taken output.new)
+    ensures err { OnErr result (TakesPrefix (O.taken output.old) (O.taken output.new)
         (joined (rows_lines rows.now ++ refusal_lines refused))) }
     ensures cause { result ≡ Err ReadError.Failed
         → Rises (O.faults output.old) (O.faults output.new) }

@@ -1,7 +1,7 @@
 //! The copy of the items, from the input to the output.
 
 ghost use Rattle.std.specs.Prelude.{◌≡◌, ◌≤◌, ◌<◌, [], length, IfSome, IfOk, OnOk, OnErr, Some};
-ghost use Rattle.keep_core.specs.Told.{Rises, Takes, TakesFront};
+ghost use Rattle.keep_core.specs.Revealed.{Rises, Takes, TakesPrefix};
 ghost use Rattle.std.specs.FinMap.{empty};
 ghost use Rattle.std.specs.List.{flat_map};
 ghost use Rattle.repl_model.specs.ChangeRows.{change_rows, after_change_rows};
@@ -61,7 +61,7 @@ pub fn run_copy<I: Source, O: Sink>(
         (λ bytes. Takes (O.taken output.old) (O.taken output.new) (text_of bytes))) }
     ensures fits { OnOk result (IfSome (I.left input.old) (λ bytes. length bytes ≤ input_limit)) }
     ensures front { OnErr result (IfSome (I.left input.old)
-        (λ bytes. TakesFront (O.taken output.old) (O.taken output.new) (text_of bytes))) }
+        (λ bytes. TakesPrefix (O.taken output.old) (O.taken output.new) (text_of bytes))) }
     ensures too_long { result ≡ Err Early.InputTooLong
         → IfSome (I.left input.old) (λ bytes. input_limit < length bytes) }
     ensures input_fault { result ≡ Err Early.InputFailed

@@ -2,7 +2,7 @@
 use Rattle.std.specs.Prelude.{◌≡◌, ◌≢◌, ℕ, ◌+◌, ◌-◌, ◌<◌, ◌≤◌, List, [], ◌∷◌, ◌++◌, length, take, drop, Bool, true, false, nat_lt, Option, Some, None, Result, Err}
 use Rattle.std.specs.Option.{option_map, IfSome}
 use Rattle.std.specs.Str.Lines.{lines, strip_carriage_return}
-use Rattle.keep_core.specs.Told.{Rises}
+use Rattle.keep_core.specs.Revealed.{Rises}
 use Rattle.keep_core.specs.declared.streams.ReadError.{ReadError}
 use Rattle.keep_core.specs.declared.streams.ReadError.TheVariants as reads
 use Rattle.line_input.specs.declared.input.InputError.{InputError}

@@ -8,7 +8,7 @@
 #![tactic(auto)]
 
 ghost use Rattle.std.specs.Prelude.{◌≡◌, ◌≤◌, ◌<◌, ◌↔◌, [], length, map, string_bytes, IsTrue, IfSome, Some, false};
-ghost use Rattle.keep_core.specs.Told.{Rises, Takes, TakesFront};
+ghost use Rattle.keep_core.specs.Revealed.{Rises, Takes, TakesPrefix};
 ghost use Rattle.copy_lists.specs.Feed.{feed_of};
 ghost use Rattle.line_input.specs.Limits.{input_limit};
 ghost use Rattle.copy_lists.specs.Replies.{text_of};
@@ -57,7 +57,7 @@ pub fn session<I: Source, O: Sink>(
     ensures refused { IsTrue (is_done result)
         → IfSome (I.left input.old) (λ bytes. result ≡ status_of (feed_of bytes).refusal) }
     ensures front { IfSome (I.left input.old)
-        (λ bytes. TakesFront (O.taken output.old) (O.taken output.new) (text_of bytes)) }
+        (λ bytes. TakesPrefix (O.taken output.old) (O.taken output.new) (text_of bytes)) }
     ensures too_long { IfSome (I.left input.old)
         (λ bytes. (result ≡ Status.InputTooLong → input_limit < length bytes)
         × (IsTrue (is_done result) → length bytes ≤ input_limit)) }

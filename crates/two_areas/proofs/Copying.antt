@@ -8,7 +8,7 @@ use Rattle.repl_types.specs.Area.{same_area}
 use Rattle.repl_types.specs.declared.area.Area.{Area}
 use Rattle.repl_types.specs.declared.area.Area.TheVariants as areas
 use Rattle.faults.specs.declared.fault.Fault.{Fault}
-use Rattle.keep_core.specs.Contents.{Contents, Table, IsNext, IsLast, set_key, with_table, put_at}
+use Rattle.keep_core.specs.Contents.{Contents, Table, IsNextKey, IsLastKey, set_key, with_table, put_at}
 use Rattle.keep_core.specs.Kept.{Kept, seen_of}
 use Rattle.row_codec.specs.Spelling.{b64}
 use Rattle.rows_in_order.specs.Rows.{table_of}
@@ -69,15 +69,15 @@ source_has : (h : List (Option Contents)) (work : List (Option (Option Contents)
 source_has h work s P closed saw w at = subst P (at.shows areas.Log 0) (seen_held h work s at.contents (λ c. P (c areas.Log 0)) closed at.is saw)
 
 -- with no number after a place none is left
-pub none_left : (w : World) → IsSound w → (after : ℕ) → after ≤ length w.numbers → IsLast (numbered w.numbers) (b64 after) → after ≡ length w.numbers
+pub none_left : (w : World) → IsSound w → (after : ℕ) → after ≤ length w.numbers → IsLastKey (numbered w.numbers) (b64 after) → after ≡ length w.numbers
 none_left w sound after le last = let past = numbered_last b64 (2 ^ 64) in_order b64 1 after w.numbers (omega (arith, sound.short)) (omega arith) last in omega (arith, past)
 
 -- the number after a place is the next one
-pub next_place : (w : World) → IsSound w → (after place : ℕ) (v : List ℕ) → after ≤ length w.numbers → place < 2 ^ 64 → IsNext (numbered w.numbers) (b64 after) (b64 place) v → (place ≡ after + 1) × (place ≤ length w.numbers)
+pub next_place : (w : World) → IsSound w → (after place : ℕ) (v : List ℕ) → after ≤ length w.numbers → place < 2 ^ 64 → IsNextKey (numbered w.numbers) (b64 after) (b64 place) v → (place ≡ after + 1) × (place ≤ length w.numbers)
 next_place w sound after place v le small next = let found = numbered_next b64 (2 ^ 64) in_order b64 1 after place w.numbers v (omega (arith, sound.short)) (omega (arith, sound.short)) small (omega arith) next in (found.0, omega (arith, found.1))
 
 -- its value is the number at that place
-next_value : (w : World) → IsSound w → (after place : ℕ) (v : List ℕ) → place ≡ after + 1 → place ≤ length w.numbers → IsNext (numbered w.numbers) (b64 after) (b64 place) v → v ≡ b64 (get_or w.numbers after 0)
+next_value : (w : World) → IsSound w → (after place : ℕ) (v : List ℕ) → place ≡ after + 1 → place ≤ length w.numbers → IsNextKey (numbered w.numbers) (b64 after) (b64 place) v → v ≡ b64 (get_or w.numbers after 0)
 next_value w sound after place v is le next =
     let one : place ≡ 1 + after = omega (arith, is) in
     inside v (b64 (get_or w.numbers after 0)) (sym next.has ∙ ap (λ (n : ℕ). numbered w.numbers (b64 n)) one ∙ numbered_at b64 (2 ^ 64) in_order b64 1 after w.numbers 0 (omega (arith, sound.short)) (omega (arith, is)))
@@ -113,16 +113,16 @@ module _ {K : Type 0} (kept : K → Kept) where
   }
 
   -- there was no number more
-  pub copies_none : (s0 s1 : Sites K) (source target after : ℕ) → IsOpenAt (work kept s0) target → IsClosedAt (work kept s0) source → Reads kept s0 s1 source areas.Log → IfSome (sees kept s0 source) (λ c. IsLast (c areas.Log 0) (b64 after)) → CopiesOn kept s0 s1 source target after after 1
+  pub copies_none : (s0 s1 : Sites K) (source target after : ℕ) → IsOpenAt (work kept s0) target → IsClosedAt (work kept s0) source → Reads kept s0 s1 source areas.Log → IfSome (sees kept s0 source) (λ c. IsLastKey (c areas.Log 0) (b64 after)) → CopiesOn kept s0 s1 source target after after 1
   copies_none s0 s1 source target after open_at closed read saw = record {
     passes = passes_within kept s0 s1 (reads_of_one 1 source areas.Log) (in_loop 1 source target) read.stays.passes (reads_in_loop source target);
     works = works_seen (work kept s0) (work kept s0) (work kept s1) target (λ c d. d ≡ c) (Copies (held kept s0) source after after) (open_below (work kept s0) target open_at) (works_start (work kept s0) target open_at) read.stays.work (λ c d is same. copies_nothing (held kept s0) source after c d same);
-    reaches = λ w sound at le. let all = none_left w sound after le (source_has (held kept s0) (work kept s0) source (λ t. IsLast t (b64 after)) closed saw w at) in omega (arith, all);
+    reaches = λ w sound at le. let all = none_left w sound after le (source_has (held kept s0) (work kept s0) source (λ t. IsLastKey t (b64 after)) closed saw w at) in omega (arith, all);
     held = read.stays.held;
   }
 
   -- there was one
-  pub copies_one : (s0 s1 s2 : Sites K) (source target after place number : ℕ) → IsOpenAt (work kept s0) target → IsClosedAt (work kept s0) source → Reads kept s0 s1 source areas.Log → Puts kept s1 s2 target areas.Target 0 (b64 place) (Some (b64 number)) → place < 2 ^ 64 → number < 2 ^ 64 → IfSome (sees kept s0 source) (λ c. IsNext (c areas.Log 0) (b64 after) (b64 place) (b64 number)) → CopiesOn kept s0 s2 source target after place 1
+  pub copies_one : (s0 s1 s2 : Sites K) (source target after place number : ℕ) → IsOpenAt (work kept s0) target → IsClosedAt (work kept s0) source → Reads kept s0 s1 source areas.Log → Puts kept s1 s2 target areas.Target 0 (b64 place) (Some (b64 number)) → place < 2 ^ 64 → number < 2 ^ 64 → IfSome (sees kept s0 source) (λ c. IsNextKey (c areas.Log 0) (b64 after) (b64 place) (b64 number)) → CopiesOn kept s0 s2 source target after place 1
   copies_one s0 s1 s2 source target after place number open_at closed read put small_place small saw = record {
     passes = passes_then kept s0 s1 s2 (reads_of_one 1 source areas.Log) (writes_of_one 1 target areas.Target) (in_loop 1 source target) read.stays.passes put.passes (at_most_itself (in_loop 1 source target));
     works = works_seen (work kept s0) (work kept s2) (work kept s2) target (Sets areas.Target 0 (b64 place) (Some (b64 number))) (Copies (held kept s0) source after place) (open_below (work kept s0) target open_at) (subst (λ (l : List (Option (Option Contents))). Works l (work kept s2) target (Sets areas.Target 0 (b64 place) (Some (b64 number)))) read.stays.work put.works) refl (λ c d is sets. record { adds = subst (AddsOnlySpelt rules c) (sym sets) (adds_put rules c areas.Target 0 (b64 place) (b64 number) (place, small_place, refl) (number, small, refl)); copies = numbers c d sets });
@@ -130,8 +130,8 @@ module _ {K : Type 0} (kept : K → Kept) where
     held = put.held ∙ read.stays.held;
   }
     where
-      from_source : (w : World) → Shows (held kept s0) source (source_tables w) → IsNext (numbered w.numbers) (b64 after) (b64 place) (b64 number)
-      from_source w at = source_has (held kept s0) (work kept s0) source (λ t. IsNext t (b64 after) (b64 place) (b64 number)) closed saw w at
+      from_source : (w : World) → Shows (held kept s0) source (source_tables w) → IsNextKey (numbered w.numbers) (b64 after) (b64 place) (b64 number)
+      from_source w at = source_has (held kept s0) (work kept s0) source (λ t. IsNextKey t (b64 after) (b64 place) (b64 number)) closed saw w at
 
       numbers : (c d : Contents) → d ≡ put_at c areas.Target 0 (b64 place) (Some (b64 number)) → CopiesNumbers (held kept s0) source after place c d
       numbers c d sets w sound at le has =
