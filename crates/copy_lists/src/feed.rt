@@ -22,15 +22,14 @@ pub struct Fed {
     pub refused: Option<Refused>,
 }
 
-/// Whether a line says nothing.
+/// Whether a line consists of blanks, or is empty.
 fn is_blank(line: &[u8]) -> bool
     ensures { result ≡ is_blank_lem line.now }
 {
     line.iter().all(|byte| *byte == b' ')
 }
 
-/// Takes the record of a line where it may be taken, and answers why where it may not. A blank line
-/// is skipped.
+/// Takes the record of a line if it may be taken, else answers why it may not. Skips a blank line.
 fn take_text(
     alloc: Global,
     source: &mut SourceLog,
@@ -55,7 +54,7 @@ impl Fed {
     ghost use Rattle.line_input.specs.Limits.{line_limit};
     ghost use Rattle.copy_lists.specs.Fed.{IsFed, resumed};
 
-    /// No line was fed yet.
+    /// An empty log, with no line fed.
     fn new(alloc: Global) -> Result<Fed, AllocError>
         ensures fed { IfOk result (λ fed. IsFed fed) }
         ensures records { IfOk result (λ fed. fed.source.records ≡ []) }
@@ -106,7 +105,7 @@ impl Fed {
     }
 }
 
-/// Reads the input to its end and feeds its lines. Those after a refused line aren't taken.
+/// Reads the input to its end and feeds its lines. It takes no line after a refused one.
 pub fn feed<I: Source>(alloc: Global, source: &mut I) -> Result<Fed, InputError>
     ensures feed { IfOk result (λ fed. IfSome (I.left source.old) (λ bytes. feed_kept fed
         ≡ feed_of bytes)) }
