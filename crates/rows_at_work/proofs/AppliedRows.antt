@@ -2,7 +2,7 @@
 use Rattle.std.proofs.Common.{◌≡◌, ℕ, ◌^◌, ◌<◌, ◌≤◌, Bool, true, false, cond, List, [], ◌∷◌, ◌++◌, refl, sym, ap, subst, ◌∙◌, arith}
 use Rattle.std.specs.Prelude.{Option, Some, None}
 use Rattle.repl_types.specs.declared.area.Area.TheVariants as areas
-use Rattle.keep_core.specs.Contents.{Contents, Table, IsNext, IsLast, set_key, put_at}
+use Rattle.keep_core.specs.Contents.{Contents, Table, IsNextKey, IsLastKey, set_key, put_at}
 use Rattle.row_codec.specs.Spelling.{b64}
 use Rattle.row_codec.specs.laws.Ones.{one_whole}
 use Rattle.rows_in_order.specs.Numbers.{NextNumber, numbers_between, with_number, without_number}
@@ -62,7 +62,7 @@ after_both [] ys rows = refl
 after_both (x ∷ xs) ys rows = after_both xs ys (after_change x.1 rows)
 
 -- the change that a read finds is the next one
-pub found_next : (after number : ℕ) (x : Change) (changes : List (ℕ × Change)) → after < 2 ^ 64 → number < 2 ^ 64 → FitsChange x → AreChanges changes → IsNext (change_table changes) (b64 after) (b64 number) (change_spelling x) → NextNumber changes after (number, x)
+pub found_next : (after number : ℕ) (x : Change) (changes : List (ℕ × Change)) → after < 2 ^ 64 → number < 2 ^ 64 → FitsChange x → AreChanges changes → IsNextKey (change_table changes) (b64 after) (b64 number) (change_spelling x) → NextNumber changes after (number, x)
 found_next after number x changes la ln fits are read = read_next b64 (2 ^ 64) numbers_in_order change_spelling after changes (number, x) la ln are.below are.rise (all_weaker (λ r. FitsChange r.1) (λ r. r.0 ≡ number → change_spelling r.1 ≡ change_spelling x → r ≡ (number, x)) changes (λ r fit keys values. λ i. (keys i, one_whole FitsChange change_spelling one_change r.1 x fit fits values i)) are.fit) read
 
 -- up to the next change there is that one
@@ -74,7 +74,7 @@ pub none_past : (after high number : ℕ) (x : Change) (changes : List (ℕ × C
 none_past after high number x changes le lt next = numbers_yet changes after after high (number, x) next le lt ∙ numbers_nothing changes after
 
 -- nor if there is none
-pub none_last : (after high : ℕ) (changes : List (ℕ × Change)) → after ≤ high → after < 2 ^ 64 → AreChanges changes → IsLast (change_table changes) (b64 after) → numbers_between after high changes ≡ []
+pub none_last : (after high : ℕ) (changes : List (ℕ × Change)) → after ≤ high → after < 2 ^ 64 → AreChanges changes → IsLastKey (change_table changes) (b64 after) → numbers_between after high changes ≡ []
 none_last after high changes le la are last = numbers_none changes after after high (read_last b64 (2 ^ 64) numbers_in_order change_spelling after changes la are.below last) le ∙ numbers_nothing changes after
 
 -- without changes the rows stay

@@ -2,7 +2,7 @@
 use Rattle.std.proofs.Common.{◌≡◌, ℕ, ◌+◌, ◌^◌, ◌<◌, ◌≤◌, List, [], length, sym, subst, ap, ◌∙◌, refl, arith}
 use Rattle.std.specs.Prelude.{Option, Some, None, IfSome}
 use Rattle.repl_types.specs.declared.area.Area.TheVariants as areas
-use Rattle.keep_core.specs.Contents.{Contents, Table, IsNext}
+use Rattle.keep_core.specs.Contents.{Contents, Table, IsNextKey}
 use Rattle.keep_core.specs.Kept.{Kept}
 use Rattle.repl_types.specs.Bytes.{bytes_cmp}
 use Rattle.std.specs.declared.cmp.Ordering.TheVariants.{Less}
@@ -59,7 +59,7 @@ module _ {K : Type 0} (kept : K → Kept) where
   -- ---- one call
 
   -- the next row of the transaction was removed
-  pub drop_one : (s0 s1 s2 : Sites K) (server tx after pos : ℕ) (e : InFlight) → IsOpenAt (work kept s0) server → tx < 2 ^ 32 → pos < 2 ^ 64 → after < pos → Reads kept s0 s1 server areas.Inflight → Puts kept s1 s2 server areas.Inflight 0 (key_at tx pos) None → IfSome (sees kept s0 server) (λ c. IsNext (c areas.Inflight 0) (key_at tx after) (key_at tx pos) (in_flight_spelling e)) → DropsNext kept s0 s2 server tx after (Some pos)
+  pub drop_one : (s0 s1 s2 : Sites K) (server tx after pos : ℕ) (e : InFlight) → IsOpenAt (work kept s0) server → tx < 2 ^ 32 → pos < 2 ^ 64 → after < pos → Reads kept s0 s1 server areas.Inflight → Puts kept s1 s2 server areas.Inflight 0 (key_at tx pos) None → IfSome (sees kept s0 server) (λ c. IsNextKey (c areas.Inflight 0) (key_at tx after) (key_at tx pos) (in_flight_spelling e)) → DropsNext kept s0 s2 server tx after (Some pos)
   drop_one s0 s1 s2 server tx after pos e open_at ft fp lt read put saw = record {
     passes = passes_then kept s0 s1 s2 (reads_of_one 1 server areas.Inflight) (writes_of_one 1 server areas.Inflight) (in_dropping 1 1 server) read.stays.passes put.passes (at_most_itself (in_dropping 1 1 server));
     held = put.held ∙ read.stays.held;
@@ -70,22 +70,22 @@ module _ {K : Type 0} (kept : K → Kept) where
       sets = Sets areas.Inflight 0 (key_at tx pos) None
 
       next : Contents → Type 0
-      next c = IsNext (c areas.Inflight 0) (key_at tx after) (key_at tx pos) (in_flight_spelling e)
+      next c = IsNextKey (c areas.Inflight 0) (key_at tx after) (key_at tx pos) (in_flight_spelling e)
 
       one : (c d : Contents) → next c → sets c d → DropsTo tx after pos 1 c d
       one c d is put_there = record {
         elsewhere = changes_remove rules areas.Inflight 0 (key_at tx pos) c d put_there;
-        drops = λ rows stand. drop_row tx after pos c d e rows ft fp lt stand (subst (λ (t : Table). IsNext t (key_at tx after) (key_at tx pos) (in_flight_spelling e)) stand.table is) put_there;
+        drops = λ rows stand. drop_row tx after pos c d e rows ft fp lt stand (subst (λ (t : Table). IsNextKey t (key_at tx after) (key_at tx pos) (in_flight_spelling e)) stand.table is) put_there;
       }
 
   -- so it was if the key that was found is the transaction's
-  pub drop_found : (s0 s1 s2 : Sites K) (server tx after : ℕ) (k : InFlightKey) (e : InFlight) → k.tx ≡ tx → IsOpenAt (work kept s0) server → after < 2 ^ 64 → IsInFlightKey k → bytes_cmp (key_at tx after) (in_flight_key_spelling k) ≡ Less → Reads kept s0 s1 server areas.Inflight → Puts kept s1 s2 server areas.Inflight 0 (in_flight_key_spelling k) None → IfSome (sees kept s0 server) (λ c. IsNext (c areas.Inflight 0) (key_at tx after) (in_flight_key_spelling k) (in_flight_spelling e)) → DropsNext kept s0 s2 server tx after (Some k.pos)
+  pub drop_found : (s0 s1 s2 : Sites K) (server tx after : ℕ) (k : InFlightKey) (e : InFlight) → k.tx ≡ tx → IsOpenAt (work kept s0) server → after < 2 ^ 64 → IsInFlightKey k → bytes_cmp (key_at tx after) (in_flight_key_spelling k) ≡ Less → Reads kept s0 s1 server areas.Inflight → Puts kept s1 s2 server areas.Inflight 0 (in_flight_key_spelling k) None → IfSome (sees kept s0 server) (λ c. IsNextKey (c areas.Inflight 0) (key_at tx after) (in_flight_key_spelling k) (in_flight_spelling e)) → DropsNext kept s0 s2 server tx after (Some k.pos)
   drop_found s0 s1 s2 server tx after k e own open_at fa fk above read put saw =
       let same : in_flight_key_spelling k ≡ key_at tx k.pos = ap (λ (n : ℕ). key_at n k.pos) own in
       let lt = position_above tx after k own fa fk above in
       drop_one s0 s1 s2 server tx after k.pos e open_at (subst (λ (n : ℕ). n < 2 ^ 32) own fk.0) fk.1 lt.0 read
       (subst (λ (b : List ℕ). Puts kept s1 s2 server areas.Inflight 0 b None) same put)
-      (subst (λ (b : List ℕ). IfSome (sees kept s0 server) (λ c. IsNext (c areas.Inflight 0) (key_at tx after) b (in_flight_spelling e))) same saw)
+      (subst (λ (b : List ℕ). IfSome (sees kept s0 server) (λ c. IsNextKey (c areas.Inflight 0) (key_at tx after) b (in_flight_spelling e))) same saw)
 
   -- what was read shows that there is none
   pub drop_nothing : (s0 s1 : Sites K) (server tx after : ℕ) (N : Contents → Type 0) → IsOpenAt (work kept s0) server → Reads kept s0 s1 server areas.Inflight → IfSome (sees kept s0 server) N → ((c : Contents) (rows : List Row) → N c → StandFrom tx after c rows → of_transaction tx rows ≡ []) → DropsNext kept s0 s1 server tx after None

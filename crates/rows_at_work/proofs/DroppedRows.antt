@@ -10,7 +10,7 @@ use Rattle.std.proofs.lemmas.Bool.{eq-eqb, eqb-true}
 use Rattle.std.proofs.lemmas.Cmp.{tied_itself, nat_cmp_total}
 use Rattle.repl_types.specs.Bytes.{bytes_cmp}
 use Rattle.repl_types.specs.declared.area.Area.TheVariants as areas
-use Rattle.keep_core.specs.Contents.{Contents, IsNext, IsLast, same_key, put_at}
+use Rattle.keep_core.specs.Contents.{Contents, IsNextKey, IsLastKey, same_key, put_at}
 use Rattle.row_codec.specs.Spelling.{b32, b64}
 use Rattle.row_codec.specs.laws.Numbers.{one32}
 use Rattle.row_codec.specs.laws.Ones.{one_whole}
@@ -132,7 +132,7 @@ absent tx pos rows ft fp fit = pick (in_flight_table (of_others tx rows) (key_at
     pick (Some v) e = absurd (found v e)
 
 -- the next row of the transaction is removed: the others are left, and so are its later ones
-pub drop_row : (tx after pos : ℕ) (c d : Contents) (e : InFlight) (rows : List Row) → tx < 2 ^ 32 → pos < 2 ^ 64 → after < pos → StandFrom tx after c rows → IsNext (in_flight_table rows) (key_at tx after) (key_at tx pos) (in_flight_spelling e) → d ≡ put_at c areas.Inflight 0 (key_at tx pos) None → (left : List Row) × StandFrom tx pos d left × AreLeft tx 1 rows left
+pub drop_row : (tx after pos : ℕ) (c d : Contents) (e : InFlight) (rows : List Row) → tx < 2 ^ 32 → pos < 2 ^ 64 → after < pos → StandFrom tx after c rows → IsNextKey (in_flight_table rows) (key_at tx after) (key_at tx pos) (in_flight_spelling e) → d ≡ put_at c areas.Inflight 0 (key_at tx pos) None → (left : List Row) × StandFrom tx pos d left × AreLeft tx 1 rows left
 drop_row tx after pos c d e rows ft fp lt stand read sets =
     let row : Row = (record { tx = tx; pos = pos }, e) in
     let own : Row → Bool = λ r. r.0.tx == tx in
@@ -158,15 +158,15 @@ none_after : (tx after : ℕ) (c : Contents) (rows : List Row) → tx < 2 ^ 32 �
 none_after tx after c rows ft stand none = no_first_row in_flight_key_spelling (of_transaction tx rows) (key_at tx after) (subst (NoneAfter in_flight_key_spelling (key_at tx after)) (prefix_is tx ft rows stand.are.fit) none) stand.later
 
 -- with no next key none is left
-pub none_last : (tx after : ℕ) (c : Contents) (rows : List Row) → tx < 2 ^ 32 → IsLast (c areas.Inflight 0) (key_at tx after) → StandFrom tx after c rows → of_transaction tx rows ≡ []
+pub none_last : (tx after : ℕ) (c : Contents) (rows : List Row) → tx < 2 ^ 32 → IsLastKey (c areas.Inflight 0) (key_at tx after) → StandFrom tx after c rows → of_transaction tx rows ≡ []
 none_last tx after c rows ft last stand =
-    let over = subst (λ (t : List ℕ → Option (List ℕ)). IsLast t (key_at tx after)) stand.table last in
+    let over = subst (λ (t : List ℕ → Option (List ℕ)). IsLastKey t (key_at tx after)) stand.table last in
     none_after tx after c rows ft stand (prefix_last in_flight_key_spelling (b32 tx) rows (key_at tx after) (no_row in_flight_key_spelling in_flight_spelling rows (key_at tx after) over))
 
 -- nor if the next key is another transaction's
-pub none_past : (tx after : ℕ) (k : InFlightKey) (e : InFlight) (c : Contents) (rows : List Row) → tx < 2 ^ 32 → IsInFlightKey k → (k.tx == tx) ≡ false → IsNext (c areas.Inflight 0) (key_at tx after) (in_flight_key_spelling k) (in_flight_spelling e) → StandFrom tx after c rows → of_transaction tx rows ≡ []
+pub none_past : (tx after : ℕ) (k : InFlightKey) (e : InFlight) (c : Contents) (rows : List Row) → tx < 2 ^ 32 → IsInFlightKey k → (k.tx == tx) ≡ false → IsNextKey (c areas.Inflight 0) (key_at tx after) (in_flight_key_spelling k) (in_flight_spelling e) → StandFrom tx after c rows → of_transaction tx rows ≡ []
 none_past tx after k e c rows ft fk ne read stand =
-    let here = subst (λ (t : List ℕ → Option (List ℕ)). IsNext t (key_at tx after) (in_flight_key_spelling k) (in_flight_spelling e)) stand.table read in
+    let here = subst (λ (t : List ℕ → Option (List ℕ)). IsNextKey t (key_at tx after) (in_flight_key_spelling k) (in_flight_spelling e)) stand.table read in
     let n = next_of in_flight_key_spelling in_flight_spelling rows (key_at tx after) (in_flight_key_spelling k) (in_flight_spelling e) stand.are.rise here in
     let past : begins_with (b32 tx) (in_flight_key_spelling n.0.0) ≡ false = ap (begins_with (b32 tx)) n.2 ∙ begins_own k tx fk.0 ft ∙ ne in
     none_after tx after c rows ft stand (prefix_past in_flight_key_spelling (b32 tx) rows (key_at tx after) n.0 n.1 (begins_longer (b32 tx) (b64 after)) past)

@@ -5,7 +5,7 @@ ghost use Rattle.std.specs.Prelude.{◌≡◌, ◌≢◌, ◌<◌, length, ℕ, 
 ghost use Rattle.std.specs.List.{AllByRecursion};
 ghost use Rattle.std.specs.declared.cmp.Ordering.TheVariants.{Less};
 ghost use Rattle.repl_types.specs.Bytes.{bytes_cmp};
-ghost use Rattle.keep_core.specs.Contents.{IsNext, IsLast, set_key};
+ghost use Rattle.keep_core.specs.Contents.{IsNextKey, IsLastKey, set_key};
 ghost use Rattle.rows_in_order.specs.Rows.{IsUpTo, table_of, AllBefore, AllAfter, NoneAfter, IsRising, IsToldApart, between, HasRow, NextRow};
 
 /// The order of keys. A search from no key begins before all of them.
@@ -26,23 +26,23 @@ pub fn next_of_rows<A, X>()
     ensures next { (key : A → List ℕ) (value : X → List ℕ) (rows : List (A × X)) (after : List ℕ)
         (row : A × X)
         → IsRising key rows → IsToldApart key value rows row
-        → IsNext (table_of key value rows) after (key row.0) (value row.1)
+        → IsNextKey (table_of key value rows) after (key row.0) (value row.1)
         → NextRow key rows after row }
     ensures last { (key : A → List ℕ) (value : X → List ℕ) (rows : List (A × X)) (after : List ℕ)
-        → IsLast (table_of key value rows) after
+        → IsLastKey (table_of key value rows) after
         → NoneAfter key after rows }
     ensures some { (key : A → List ℕ) (value : X → List ℕ) (rows : List (A × X))
         (after k v : List ℕ)
-        → IsRising key rows → IsNext (table_of key value rows) after k v
+        → IsRising key rows → IsNextKey (table_of key value rows) after k v
         → (row : A × X) × NextRow key rows after row × (key row.0 ≡ k) × (value row.1 ≡ v) }
     ensures is_next { (key : A → List ℕ) (value : X → List ℕ) (rows : List (A × X))
         (after : List ℕ) (row : A × X)
         → IsRising key rows → NextRow key rows after row
-        → IsNext (table_of key value rows) after (key row.0) (value row.1) }
+        → IsNextKey (table_of key value rows) after (key row.0) (value row.1) }
     ensures is_last { (key : A → List ℕ) (value : X → List ℕ) (rows : List (A × X))
         (after : List ℕ)
         → NoneAfter key after rows
-        → IsLast (table_of key value rows) after }
+        → IsLastKey (table_of key value rows) after }
 {}
 
 /// A search that begins below all rows gives the first of them. One from the empty key does, since

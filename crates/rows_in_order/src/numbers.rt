@@ -9,7 +9,7 @@ ghost use Rattle.std.specs.Map.{lookup};
 ghost use Rattle.std.specs.Option.{option_map};
 ghost use Rattle.std.specs.declared.cmp.Ordering.TheVariants.{Less};
 ghost use Rattle.repl_types.specs.Bytes.{bytes_cmp};
-ghost use Rattle.keep_core.specs.Contents.{IsNext, IsLast, same_key, set_key};
+ghost use Rattle.keep_core.specs.Contents.{IsNextKey, IsLastKey, same_key, set_key};
 ghost use Rattle.rows_in_order.specs.Rows.{IsUpTo, table_of, AllBefore, AllAfter, IsRising, between};
 ghost use Rattle.rows_in_order.specs.Numbers.{SpellsInOrder, AllBelow, AllAbove, NoneAbove, NumbersRise, numbers_between, with_number, without_number, NextNumber};
 
@@ -99,11 +99,11 @@ pub fn next_by_number<X>()
         → SpellsInOrder key limit → after < limit → row.0 < limit
         → AllBelow limit rows → NumbersRise rows
         → AllByRecursion (λ r. r.0 ≡ row.0 → value r.1 ≡ value row.1 → r ≡ row) rows
-        → IsNext (table_of key value rows) (key after) (key row.0) (value row.1)
+        → IsNextKey (table_of key value rows) (key after) (key row.0) (value row.1)
         → NextNumber rows after row }
     ensures last { (key : ℕ → List ℕ) (value : X → List ℕ) (limit after : ℕ) (rows : List (ℕ × X))
         → SpellsInOrder key limit → after < limit → AllBelow limit rows
-        → IsLast (table_of key value rows) (key after)
+        → IsLastKey (table_of key value rows) (key after)
         → NoneAbove after rows }
 {}
 
@@ -163,11 +163,11 @@ pub fn numbered_rows_read<X>()
         (xs : List X) (v : List ℕ)
         → SpellsInOrder key limit → first + length xs ≤ limit
         → after < limit → n < limit → first ≤ after + 1
-        → IsNext (table_of key value (enumerate_from first xs)) (key after) (key n) v
+        → IsNextKey (table_of key value (enumerate_from first xs)) (key after) (key n) v
         → (n ≡ after + 1) × (n < first + length xs) }
     ensures last { (key : ℕ → List ℕ) (value : X → List ℕ) (limit first after : ℕ) (xs : List X)
         → SpellsInOrder key limit → first + length xs ≤ limit → first ≤ after + 1
-        → IsLast (table_of key value (enumerate_from first xs)) (key after)
+        → IsLastKey (table_of key value (enumerate_from first xs)) (key after)
         → first + length xs ≤ after + 1 }
 {}
 
@@ -177,12 +177,12 @@ pub fn numbered_rows_begun<X>()
         (v : List ℕ)
         → SpellsInOrder key limit → first + length xs ≤ limit → n < limit
         → ((k : ℕ) → k < limit → 0 < length (key k))
-        → IsNext (table_of key value (enumerate_from first xs)) [] (key n) v
+        → IsNextKey (table_of key value (enumerate_from first xs)) [] (key n) v
         → (n ≡ first) × (0 < length xs) }
     ensures none { (key : ℕ → List ℕ) (value : X → List ℕ) (limit first : ℕ) (xs : List X)
         → SpellsInOrder key limit → first + length xs ≤ limit
         → ((k : ℕ) → k < limit → 0 < length (key k))
-        → IsLast (table_of key value (enumerate_from first xs)) []
+        → IsLastKey (table_of key value (enumerate_from first xs)) []
         → xs ≡ [] }
 {}
 

@@ -2,7 +2,7 @@
 
 ghost use Rattle.std.specs.Prelude.{◌≡◌, ℕ, List, Some};
 ghost use Rattle.std.specs.List.{AllByRecursion};
-ghost use Rattle.keep_core.specs.Contents.{IsNext};
+ghost use Rattle.keep_core.specs.Contents.{IsNextKey};
 ghost use Rattle.rows_in_order.specs.Rows.{table_of, IsRising, IsToldApart, between, with_row, without_row, with_prefix, SpellsApart, HasRow, NextRow};
 
 use std::marker::Brand;
@@ -34,7 +34,7 @@ pub fn rows_that_fit<A, X, F: FitsRows<A, X>>()
     ensures next { (key : A → List ℕ) (value : X → List ℕ) (rows : List (A × X)) (after : List ℕ)
         (row : A × X)
         → SpellsApart F.fits key value → AllByRecursion F.fits rows → F.fits row
-        → IsRising key rows → IsNext (table_of key value rows) after (key row.0) (value row.1)
+        → IsRising key rows → IsNextKey (table_of key value rows) after (key row.0) (value row.1)
         → NextRow key rows after row }
     ensures same { (key : A → List ℕ) (value : X → List ℕ) (rows others : List (A × X))
         → SpellsApart F.fits key value

@@ -6,7 +6,7 @@ use Rattle.repl_types.specs.Area.{same_area, area_number}
 use Rattle.faults.specs.declared.fault.Fault.{Fault}
 use Rattle.repl_types.specs.declared.status.DamageCause.{DamageCause}
 use Rattle.keep_core.specs.Kept.{Kept, counted}
-use Rattle.keep_core.specs.Told.{Rises}
+use Rattle.keep_core.specs.Revealed.{Rises}
 use Rattle.site_store.specs.Calls.{Bounds, only, no_access, reads_of_one, writes_of_one}
 use Rattle.site_store.specs.Records.{Halts}
 

@@ -7,7 +7,7 @@ use Rattle.repl_types.specs.declared.status.DamageCause.TheVariants as causes
 use Rattle.faults.specs.declared.fault.Fault.{Fault}
 use Rattle.faults.specs.declared.fault.Fault.TheVariants as faults
 use Rattle.keep_core.specs.Kept.{Kept}
-use Rattle.keep_core.specs.Told.{Rises}
+use Rattle.keep_core.specs.Revealed.{Rises}
 use Rattle.site_store.specs.Servers.{AllClosed}
 use Rattle.site_store.specs.Views.{names, held, work, fault_counts, reads_in, writes_in, sees}
 use Rattle.site_store.specs.Works.{Works, Sets}

@@ -10,9 +10,9 @@ use Rattle.repl_types.specs.declared.status.DamageCause.{DamageCause}
 use Rattle.repl_types.specs.declared.status.DamageCause.TheVariants as causes
 use Rattle.faults.specs.declared.fault.Fault.{Fault}
 use Rattle.faults.specs.declared.fault.Fault.TheVariants as faults
-use Rattle.keep_core.specs.Contents.{Contents, IsNext, IsLast}
+use Rattle.keep_core.specs.Contents.{Contents, IsNextKey, IsLastKey}
 use Rattle.keep_core.specs.Kept.{Kept, seen}
-use Rattle.keep_core.specs.Told.{Rises}
+use Rattle.keep_core.specs.Revealed.{Rises}
 use Rattle.keep_core.specs.declared.keeper.KeepError.{KeepError}
 use Rattle.keep_core.specs.declared.keeper.KeepError.TheVariants as keep
 use Rattle.row_codec.specs.Takes.{NoSpelling}
@@ -44,8 +44,8 @@ after_key spelling (Some key) = spelling key
 
 -- this is the next record in key order, or there is none
 abbrev pub NextRowIs : {Y X : Type 0} → (Y → List ℕ) → (X → List ℕ) → Area → ℕ → List ℕ → Option (Y × X) → Contents → Type 0
-NextRowIs key_spelling spelling a t after None c = IsLast (c a t) after
-NextRowIs key_spelling spelling a t after (Some entry) c = IsNext (c a t) after (key_spelling entry.0) (spelling entry.1)
+NextRowIs key_spelling spelling a t after None c = IsLastKey (c a t) after
+NextRowIs key_spelling spelling a t after (Some entry) c = IsNextKey (c a t) after (key_spelling entry.0) (spelling entry.1)
 
 -- a key that is above, with its record, both of the sizes that are stored
 pub record Follows {Y X : Type 0} (key_fits : Y → Type 0) (key_spelling : Y → List ℕ) (row_fits : X → Type 0) (spelling : X → List ℕ) (after : List ℕ) (entry : Y × X) : Type 0 where
@@ -85,8 +85,8 @@ Misspelt fits spelling a t key saw bytes = NoSpelling fits spelling bytes × IfS
 -- bytes are no key's, and are the next key of what was seen; or they are no record's, and are its value
 abbrev pub MisspeltNext : {Y X : Type 0} → (Y → Type 0) → (Y → List ℕ) → (X → Type 0) → (X → List ℕ) → Area → ℕ → List ℕ → Option Contents → List ℕ → Type 0
 MisspeltNext key_fits key_spelling fits spelling a t after saw bytes =
-    (NoSpelling key_fits key_spelling bytes × IfSome saw (λ c. (value : List ℕ) × IsNext (c a t) after bytes value))
-    ⊎ (NoSpelling fits spelling bytes × IfSome saw (λ c. (key : List ℕ) × IsNext (c a t) after key bytes))
+    (NoSpelling key_fits key_spelling bytes × IfSome saw (λ c. (value : List ℕ) × IsNextKey (c a t) after bytes value))
+    ⊎ (NoSpelling fits spelling bytes × IfSome saw (λ c. (key : List ℕ) × IsNextKey (c a t) after key bytes))
 
 -- ---- why a call of one keeper failed
 

@@ -3,7 +3,7 @@
 ghost use Rattle.std.specs.Prelude.{◌≡◌, ◌↔◌, ◌<◌, ◌≤◌, length, IfOk, None};
 ghost use Rattle.std.specs.IoError.{error_kind};
 ghost use Rattle.std.specs.Io.KnownBytes.{ReadConsumes, WriteAppends};
-ghost use Rattle.keep_core.specs.Told.{Rises};
+ghost use Rattle.keep_core.specs.Revealed.{Rises};
 ghost use Rattle.sqlrep.specs.Faults.{faults_of_error, faults_after};
 
 use keep_core::{ReadError, Sink, Source};

@@ -8,7 +8,7 @@ use Rattle.repl_types.specs.Area.{same_area}
 use Rattle.repl_types.specs.declared.area.Area.{Area}
 use Rattle.repl_types.specs.declared.area.Area.TheVariants as areas
 use Rattle.faults.specs.declared.fault.Fault.{Fault}
-use Rattle.keep_core.specs.Contents.{Contents, Table, IsNext, IsLast, set_key, with_table}
+use Rattle.keep_core.specs.Contents.{Contents, Table, IsNextKey, IsLastKey, set_key, with_table}
 use Rattle.keep_core.specs.Kept.{Kept, seen_of}
 use Rattle.row_codec.specs.Spelling.{b64}
 use Rattle.rows_in_order.specs.Rows.{table_of}
@@ -58,15 +58,15 @@ source_has : (h : List (Option Contents)) (work : List (Option (Option Contents)
 source_has h work s P closed saw w at = subst P (at.shows areas.Log 0) (seen_held h work s at.contents (λ c. P (c areas.Log 0)) closed at.is saw)
 
 -- with no number after a place none is left
-pub none_left : (w : World) → IsSound w → (after : ℕ) → after ≤ length w.numbers → IsLast (numbered w.numbers) (b64 after) → after ≡ length w.numbers
+pub none_left : (w : World) → IsSound w → (after : ℕ) → after ≤ length w.numbers → IsLastKey (numbered w.numbers) (b64 after) → after ≡ length w.numbers
 none_left w sound after le last = let past = numbered_last b64 (2 ^ 64) numbers_in_order b64 1 after w.numbers (omega (arith, sound.short)) (omega arith) last in omega (arith, past)
 
 -- the number after a place is the next one
-pub next_place : (w : World) → IsSound w → (after place : ℕ) (v : List ℕ) → after ≤ length w.numbers → place < 2 ^ 64 → IsNext (numbered w.numbers) (b64 after) (b64 place) v → (place ≡ after + 1) × (place ≤ length w.numbers)
+pub next_place : (w : World) → IsSound w → (after place : ℕ) (v : List ℕ) → after ≤ length w.numbers → place < 2 ^ 64 → IsNextKey (numbered w.numbers) (b64 after) (b64 place) v → (place ≡ after + 1) × (place ≤ length w.numbers)
 next_place w sound after place v le small next = let found = numbered_next b64 (2 ^ 64) numbers_in_order b64 1 after place w.numbers v (omega (arith, sound.short)) (omega (arith, sound.short)) small (omega arith) next in (found.0, omega (arith, found.1))
 
 -- its value is the number at that place
-next_value : (w : World) → IsSound w → (after place : ℕ) (v : List ℕ) → place ≡ after + 1 → place ≤ length w.numbers → IsNext (numbered w.numbers) (b64 after) (b64 place) v → v ≡ b64 (get_or w.numbers after 0)
+next_value : (w : World) → IsSound w → (after place : ℕ) (v : List ℕ) → place ≡ after + 1 → place ≤ length w.numbers → IsNextKey (numbered w.numbers) (b64 after) (b64 place) v → v ≡ b64 (get_or w.numbers after 0)
 next_value w sound after place v is le next =
     let one : place ≡ 1 + after = omega (arith, is) in
     inside v (b64 (get_or w.numbers after 0)) (sym next.has ∙ ap (λ (n : ℕ). numbered w.numbers (b64 n)) one ∙ numbered_at b64 (2 ^ 64) numbers_in_order b64 1 after w.numbers 0 (omega (arith, sound.short)) (omega (arith, is)))
@@ -100,14 +100,14 @@ module _ {K : Type 0} (kept : K → Kept) where
   }
 
   -- there was no number more
-  pub copies_none : (s0 s1 : Sites K) (source target after : ℕ) → IsOpenAt (work kept s0) target → IsClosedAt (work kept s0) source → Reads kept s0 s1 source areas.Log → IfSome (sees kept s0 source) (λ c. IsLast (c areas.Log 0) (b64 after)) → CopiesOn kept s0 s1 source target after after 1
+  pub copies_none : (s0 s1 : Sites K) (source target after : ℕ) → IsOpenAt (work kept s0) target → IsClosedAt (work kept s0) source → Reads kept s0 s1 source areas.Log → IfSome (sees kept s0 source) (λ c. IsLastKey (c areas.Log 0) (b64 after)) → CopiesOn kept s0 s1 source target after after 1
   copies_none s0 s1 source target after open_at closed read saw = record {
     works = works_read kept s0 s1 target (reads_of_one 1 source areas.Log) (in_loop 1 source target) (Copies (held kept s0) source after after) open_at (read_within 1 source areas.Log target areas.Target) read.stays (copies_nothing (held kept s0) source after);
-    reaches = λ w sound at le. let all = none_left w sound after le (source_has (held kept s0) (work kept s0) source (λ t. IsLast t (b64 after)) closed saw w at) in omega (arith, all);
+    reaches = λ w sound at le. let all = none_left w sound after le (source_has (held kept s0) (work kept s0) source (λ t. IsLastKey t (b64 after)) closed saw w at) in omega (arith, all);
   }
 
   -- there was one
-  pub copies_one : (s0 s1 s2 : Sites K) (source target after place number : ℕ) → IsOpenAt (work kept s0) target → IsClosedAt (work kept s0) source → Reads kept s0 s1 source areas.Log → Puts kept s1 s2 target areas.Target 0 (b64 place) (Some (b64 number)) → place < 2 ^ 64 → number < 2 ^ 64 → IfSome (sees kept s0 source) (λ c. IsNext (c areas.Log 0) (b64 after) (b64 place) (b64 number)) → CopiesOn kept s0 s2 source target after place 1
+  pub copies_one : (s0 s1 s2 : Sites K) (source target after place number : ℕ) → IsOpenAt (work kept s0) target → IsClosedAt (work kept s0) source → Reads kept s0 s1 source areas.Log → Puts kept s1 s2 target areas.Target 0 (b64 place) (Some (b64 number)) → place < 2 ^ 64 → number < 2 ^ 64 → IfSome (sees kept s0 source) (λ c. IsNextKey (c areas.Log 0) (b64 after) (b64 place) (b64 number)) → CopiesOn kept s0 s2 source target after place 1
   copies_one s0 s1 s2 source target after place number open_at closed read put small_place small saw = record {
     works =
         let same : Contents → Contents → Type 0 = λ c d. d ≡ c in
@@ -120,8 +120,8 @@ module _ {K : Type 0} (kept : K → Kept) where
       sets : Contents → Contents → Type 0
       sets = Sets areas.Target 0 (b64 place) (Some (b64 number))
 
-      from_source : (w : World) → HasTables (held kept s0) source (source_tables w) → IsNext (numbered w.numbers) (b64 after) (b64 place) (b64 number)
-      from_source w at = source_has (held kept s0) (work kept s0) source (λ t. IsNext t (b64 after) (b64 place) (b64 number)) closed saw w at
+      from_source : (w : World) → HasTables (held kept s0) source (source_tables w) → IsNextKey (numbered w.numbers) (b64 after) (b64 place) (b64 number)
+      from_source w at = source_has (held kept s0) (work kept s0) source (λ t. IsNextKey t (b64 after) (b64 place) (b64 number)) closed saw w at
 
       numbers : (c d : Contents) → sets c d → CopiesNumbers (held kept s0) source after place c d
       numbers c d put_there w sound at le has =

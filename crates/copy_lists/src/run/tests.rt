@@ -19,6 +19,7 @@ fn changes_of(alloc: Global, lines: &[&str]) -> Result<List<Placed>, AllocError>
     Ok(changes)
 }
 
+/// A unit with these changes.
 fn unit_of(authid: Name, changes: List<Placed>) -> Unit {
     Unit {
         head: UnitHead {
@@ -32,7 +33,7 @@ fn unit_of(authid: Name, changes: List<Placed>) -> Unit {
     }
 }
 
-/// What the change rows of a unit do, one after another.
+/// The operations of the change rows of units, in order.
 fn ops_of(alloc: Global, units: &[Unit]) -> Result<Vec<Op>, AllocError> {
     let change_rows = change_rows_of_units(alloc, &items_registration(alloc)?, units)?;
     let mut ops = Vec::new(alloc);

@@ -10,7 +10,7 @@ use Rattle.std.specs.declared.cmp.Ordering.TheVariants.{Less}
 use Rattle.std.proofs.lemmas.Bool.{eq-eqb, eqb-true, le-ltb, ltb-false}
 use Rattle.std.proofs.lemmas.Bool.Decides.{nat_tests}
 use Rattle.repl_types.specs.Bytes.{bytes_cmp}
-use Rattle.keep_core.specs.Contents.{IsNext, IsLast, same_key}
+use Rattle.keep_core.specs.Contents.{IsNextKey, IsLastKey, same_key}
 use Rattle.rows_in_order.specs.Rows.{is_before, IsUpTo, table_of, AllBefore, AllAfter, NoneAfter, IsRising, IsToldApart, between, NextRow}
 use Rattle.rows_in_order.specs.Numbers.{SpellsInOrder, AllBelow, AllAbove, NoneAbove, NumbersRise, numbers_between, NextNumber}
 use Rattle.rows_in_order.specs.laws.Filtered.{filter_alike}
@@ -136,7 +136,7 @@ module _ (key : ℕ → List ℕ) (limit : ℕ) (in_order : SpellsInOrder key li
         }
 
     -- a read of the next key gives the next number
-    pub read_next : (value : X → List ℕ) (after : ℕ) (rows : List (ℕ × X)) (row : ℕ × X) → after < limit → row.0 < limit → AllBelow limit rows → NumbersRise rows → AllByRecursion (λ r. r.0 ≡ row.0 → value r.1 ≡ value row.1 → r ≡ row) rows → IsNext (table_of key value rows) (key after) (key row.0) (value row.1) → NextNumber rows after row
+    pub read_next : (value : X → List ℕ) (after : ℕ) (rows : List (ℕ × X)) (row : ℕ × X) → after < limit → row.0 < limit → AllBelow limit rows → NumbersRise rows → AllByRecursion (λ r. r.0 ≡ row.0 → value r.1 ≡ value row.1 → r ≡ row) rows → IsNextKey (table_of key value rows) (key after) (key row.0) (value row.1) → NextNumber rows after row
     read_next value after rows row la lr small rise apart next = number_next after rows row la small (next_row key value rows (key after) row (rises rows small rise) (told rows small apart) next)
       where
         told : (rows : List (ℕ × X)) → AllBelow limit rows → AllByRecursion (λ r. r.0 ≡ row.0 → value r.1 ≡ value row.1 → r ≡ row) rows → IsToldApart key value rows row
@@ -144,5 +144,5 @@ module _ (key : ℕ → List ℕ) (limit : ℕ) (in_order : SpellsInOrder key li
         told (r ∷ rs) small apart = (λ e. apart.0 (key_one r.0 row.0 small.0 lr e), told rs small.1 apart.1)
 
     -- a read that gives none shows that none is above
-    pub read_last : (value : X → List ℕ) (after : ℕ) (rows : List (ℕ × X)) → after < limit → AllBelow limit rows → IsLast (table_of key value rows) (key after) → NoneAbove after rows
+    pub read_last : (value : X → List ℕ) (after : ℕ) (rows : List (ℕ × X)) → after < limit → AllBelow limit rows → IsLastKey (table_of key value rows) (key after) → NoneAbove after rows
     read_last value after rows la small last = none_above after rows la small (no_row key value rows (key after) last)

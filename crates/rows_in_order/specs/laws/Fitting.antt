@@ -2,7 +2,7 @@
 use Rattle.std.proofs.Common.{◌≡◌, ℕ, List, ◌∷◌}
 use Rattle.std.specs.Prelude.{Some, not, ◌&&◌, filter}
 use Rattle.std.specs.List.{AllByRecursion}
-use Rattle.keep_core.specs.Contents.{IsNext, same_key}
+use Rattle.keep_core.specs.Contents.{IsNextKey, same_key}
 use Rattle.rows_in_order.specs.Rows.{is_before, table_of, IsRising, IsToldApart, between, with_row, without_row, with_prefix, begins_with, SpellsApart, HasRow, NextRow}
 use Rattle.rows_in_order.specs.laws.Filtered.{all_weaker, all_append, all_filter, all_at}
 use Rattle.rows_in_order.specs.laws.Rising.{row_found, next_row}
@@ -35,7 +35,7 @@ module _ {A X : Type 0} (fits : A × X → Type 0) where
     pub fits_found : (rows : List (A × X)) (row : A × X) → SpellsApart fits key value → AllByRecursion fits rows → fits row → table_of key value rows (key row.0) ≡ Some (value row.1) → HasRow rows row
     fits_found rows row apart all one has = row_found key value rows row (fits_told rows row apart all one) has
 
-    pub fits_next : (rows : List (A × X)) (after : List ℕ) (row : A × X) → SpellsApart fits key value → AllByRecursion fits rows → fits row → IsRising key rows → IsNext (table_of key value rows) after (key row.0) (value row.1) → NextRow key rows after row
+    pub fits_next : (rows : List (A × X)) (after : List ℕ) (row : A × X) → SpellsApart fits key value → AllByRecursion fits rows → fits row → IsRising key rows → IsNextKey (table_of key value rows) after (key row.0) (value row.1) → NextRow key rows after row
     fits_next rows after row apart all one rise next = next_row key value rows after row rise (fits_told rows row apart all one) next
 
     pub fits_same : (rows others : List (A × X)) → SpellsApart fits key value → AllByRecursion fits rows → AllByRecursion fits others → IsRising key rows → IsRising key others → table_of key value rows ≡ table_of key value others → rows ≡ others

@@ -5,7 +5,7 @@ use Rattle.std.specs.List.{AllByRecursion}
 use Rattle.std.specs.Ordering.{is_lt, is_eq, ordering_reverse}
 use Rattle.std.specs.declared.cmp.Ordering.TheVariants.{Less}
 use Rattle.repl_types.specs.Bytes.{bytes_cmp}
-use Rattle.keep_core.specs.Contents.{IsNext, IsLast, same_key}
+use Rattle.keep_core.specs.Contents.{IsNextKey, IsLastKey, same_key}
 use Rattle.rows_in_order.specs.Rows.{is_before, table_of, AllAfter, NoneAfter, IsRising, IsToldApart, HasRow, NextRow}
 use Rattle.rows_in_order.specs.laws.Before.{order, not_both, upto_before, empty_before}
 use Rattle.rows_in_order.specs.laws.Filtered.{all_weaker}
@@ -56,15 +56,15 @@ module _ {A X : Type 0} where
       told_apart rows row rise has = all_weaker (λ r. HasRow rows r) (λ r. key r.0 ≡ key row.0 → value r.1 ≡ value row.1 → r ≡ row) rows (λ r there keys values. one_row_at key rows r row rise there has keys) (all_there rows)
 
       -- the next key is a row's, which is the next
-      pub next_of : (rows : List (A × X)) (after k v : List ℕ) → IsRising key rows → IsNext (table_of key value rows) after k v → (row : A × X) × NextRow key rows after row × (key row.0 ≡ k) × (value row.1 ≡ v)
+      pub next_of : (rows : List (A × X)) (after k v : List ℕ) → IsRising key rows → IsNextKey (table_of key value rows) after k v → (row : A × X) × NextRow key rows after row × (key row.0 ≡ k) × (value row.1 ≡ v)
       next_of rows after k v rise next =
           let found = row_of rows k v next.has in
           let row : A × X = found.0 in
-          let spelled : IsNext (table_of key value rows) after (key row.0) (value row.1) = subst (λ (q : List ℕ). IsNext (table_of key value rows) after q (value row.1)) (sym found.2) (subst (λ (w : List ℕ). IsNext (table_of key value rows) after k w) (sym found.3) next) in
+          let spelled : IsNextKey (table_of key value rows) after (key row.0) (value row.1) = subst (λ (q : List ℕ). IsNextKey (table_of key value rows) after q (value row.1)) (sym found.2) (subst (λ (w : List ℕ). IsNextKey (table_of key value rows) after k w) (sym found.3) next) in
           (row, next_row key value rows after row rise (told_apart rows row rise found.1) spelled, found.2, found.3)
 
       -- where no row is after a key, no key is
-      pub is_last : (rows : List (A × X)) (after : List ℕ) → NoneAfter key after rows → IsLast (table_of key value rows) after
+      pub is_last : (rows : List (A × X)) (after : List ℕ) → NoneAfter key after rows → IsLastKey (table_of key value rows) after
       is_last [] after none = λ q lt. refl
       is_last (r ∷ rs) after none = λ q lt. past_head key value r rs q (differ (key r.0) q (upto_before (key r.0) after q none.0 lt)) ∙ is_last rs after none.1 q lt
 
@@ -74,7 +74,7 @@ module _ {A X : Type 0} where
       absent (r ∷ rs) k after = past_head key value r rs k (ap is_eq (order.antisymm (key r.0) k ∙ ap ordering_reverse after.0)) ∙ absent rs k after.1
 
       -- the next row's key is the next
-      pub is_next : (rows : List (A × X)) (after : List ℕ) (row : A × X) → IsRising key rows → NextRow key rows after row → IsNext (table_of key value rows) after (key row.0) (value row.1)
+      pub is_next : (rows : List (A × X)) (after : List ℕ) (row : A × X) → IsRising key rows → NextRow key rows after row → IsNextKey (table_of key value rows) after (key row.0) (value row.1)
       is_next rows after row rise next = record {
         above = next.above;
         has = found_row key value rows row rise (record { front = next.front; back = next.back; split = next.split });

@@ -4,7 +4,7 @@ use Rattle.std.specs.Prelude.{Option, Some, None}
 use Rattle.std.specs.List.{enumerate_from}
 use Rattle.std.proofs.Math.ListN.{set}
 use Rattle.std.proofs.lemmas.Bool.{cases_eq, cases_lt, eq-eqb}
-use Rattle.keep_core.specs.Contents.{Table, IsNext, IsLast, same_key, set_key}
+use Rattle.keep_core.specs.Contents.{Table, IsNextKey, IsLastKey, same_key, set_key}
 use Rattle.rows_in_order.specs.Rows.{table_of}
 use Rattle.rows_in_order.specs.Numbers.{SpellsInOrder, AllBelow, AllAbove, NumbersRise}
 use Rattle.rows_in_order.specs.laws.Before.{empty_before}
@@ -71,7 +71,7 @@ module _ {X : Type 0} (key : ℕ → List ℕ) (limit : ℕ) (in_order : SpellsI
   there b q (x ∷ xs) few low high none = some_none key value (sym (placed_at b q (x ∷ xs) x few low high) ∙ none)
 
   -- the next number is one more
-  pub numbered_next : (b after q : ℕ) (xs : List X) (v : List ℕ) → b + length xs ≤ limit → after < limit → q < limit → b ≤ after + 1 → IsNext (table_of key value (enumerate_from b xs)) (key after) (key q) v → (q ≡ after + 1) × (q < b + length xs)
+  pub numbered_next : (b after q : ℕ) (xs : List X) (v : List ℕ) → b + length xs ≤ limit → after < limit → q < limit → b ≤ after + 1 → IsNextKey (table_of key value (enumerate_from b xs)) (key after) (key q) v → (q ≡ after + 1) × (q < b + length xs)
   numbered_next b after q xs v few la lq le next =
       let above = key_less key limit in_order after q la lq next.above in
       let found = numbered_found b q xs v few lq next.has in
@@ -82,7 +82,7 @@ module _ {X : Type 0} (key : ℕ → List ℕ) (limit : ℕ) (in_order : SpellsI
       ]
 
   -- with no number above, there are no more
-  pub numbered_last : (b after : ℕ) (xs : List X) → b + length xs ≤ limit → b ≤ after + 1 → IsLast (table_of key value (enumerate_from b xs)) (key after) → b + length xs ≤ after + 1
+  pub numbered_last : (b after : ℕ) (xs : List X) → b + length xs ≤ limit → b ≤ after + 1 → IsLastKey (table_of key value (enumerate_from b xs)) (key after) → b + length xs ≤ after + 1
   numbered_last b after xs few le last = elim (cases_lt (after + 1) (b + length xs)) [
     | inl lt ↦ absurd (there b (after + 1) xs few le lt (last (key (after + 1)) (key_before key limit in_order after (after + 1) (omega arith) (omega arith) (omega arith))))
     | inr ge ↦ omega arith
@@ -91,7 +91,7 @@ module _ {X : Type 0} (key : ℕ → List ℕ) (limit : ℕ) (in_order : SpellsI
   -- ---- from the empty key
 
   -- the first number is where they begin
-  pub numbered_start : (b q : ℕ) (xs : List X) (v : List ℕ) → b + length xs ≤ limit → q < limit → ((n : ℕ) → n < limit → 0 < length (key n)) → IsNext (table_of key value (enumerate_from b xs)) [] (key q) v → (q ≡ b) × (0 < length xs)
+  pub numbered_start : (b q : ℕ) (xs : List X) (v : List ℕ) → b + length xs ≤ limit → q < limit → ((n : ℕ) → n < limit → 0 < length (key n)) → IsNextKey (table_of key value (enumerate_from b xs)) [] (key q) v → (q ≡ b) × (0 < length xs)
   numbered_start b q [] v few lq some next = absurd (some_none key value (sym next.has))
   numbered_start b q (x ∷ xs) v few lq some next = elim (cases_eq b q) [
     | inl e ↦ (sym e, omega arith)
@@ -101,7 +101,7 @@ module _ {X : Type 0} (key : ℕ → List ℕ) (limit : ℕ) (in_order : SpellsI
   ]
 
   -- and if there is none, there are no rows
-  pub numbered_none : (b : ℕ) (xs : List X) → b + length xs ≤ limit → ((n : ℕ) → n < limit → 0 < length (key n)) → IsLast (table_of key value (enumerate_from b xs)) [] → xs ≡ []
+  pub numbered_none : (b : ℕ) (xs : List X) → b + length xs ≤ limit → ((n : ℕ) → n < limit → 0 < length (key n)) → IsLastKey (table_of key value (enumerate_from b xs)) [] → xs ≡ []
   numbered_none b [] few some last = refl
   numbered_none b (x ∷ xs) few some last = absurd (some_none key value (sym (placed_at b b (x ∷ xs) x few (omega arith) (omega arith)) ∙ last (key b) (empty_before (key b) (some b (omega arith)))))
 

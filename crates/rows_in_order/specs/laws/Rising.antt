@@ -9,7 +9,7 @@ use Rattle.std.proofs.lemmas.List.{append-nil}
 use Rattle.std.proofs.lemmas.List.Elements.{filter-append}
 use Rattle.std.proofs.lemmas.Map.Lookups.{exact_bytes}
 use Rattle.repl_types.specs.Bytes.{bytes_cmp}
-use Rattle.keep_core.specs.Contents.{Table, IsNext, IsLast, same_key, set_key}
+use Rattle.keep_core.specs.Contents.{Table, IsNextKey, IsLastKey, same_key, set_key}
 use Rattle.rows_in_order.specs.Rows.{is_before, IsUpTo, table_of, AllBefore, AllAfter, NoneAfter, IsRising, between, HasRow, NextRow}
 use Rattle.rows_in_order.specs.laws.Before.{order, is_less, is_equal, not_both, not_back, upto_itself, upto_before, upto_trans}
 use Rattle.rows_in_order.specs.laws.Filtered.{all_weaker, all_filter, filter_none, filter_all, filter_alike}
@@ -246,7 +246,7 @@ module _ {A X : Type 0} (key : A → List ℕ) (value : X → List ℕ) where
   some_none e = cc
 
   -- where no key is after this one, no row is
-  pub no_row : (rows : List (A × X)) (after : List ℕ) → IsLast (table_of key value rows) after → NoneAfter key after rows
+  pub no_row : (rows : List (A × X)) (after : List ℕ) → IsLastKey (table_of key value rows) after → NoneAfter key after rows
   no_row [] after last = tt
   no_row (r ∷ rs) after last = (
     first (is_before after (key r.0)) refl,
@@ -330,11 +330,11 @@ module _ {A X : Type 0} (key : A → List ℕ) (value : X → List ℕ) where
       within (r ∷ rs) rise = past_head r (rs ++ e ∷ has.back) (key e.0) (differ (key r.0) (key e.0) (later r rs rise.0)) ∙ within rs rise.1
 
   -- the next key is the next row's
-  pub next_row : (rows : List (A × X)) (after : List ℕ) (e : A × X) → IsRising key rows → AllByRecursion (λ r. key r.0 ≡ key e.0 → value r.1 ≡ value e.1 → r ≡ e) rows → IsNext (table_of key value rows) after (key e.0) (value e.1) → NextRow key rows after e
+  pub next_row : (rows : List (A × X)) (after : List ℕ) (e : A × X) → IsRising key rows → AllByRecursion (λ r. key r.0 ≡ key e.0 → value r.1 ≡ value e.1 → r ≡ e) rows → IsNextKey (table_of key value rows) after (key e.0) (value e.1) → NextRow key rows after e
   next_row [] after e rise one next = absurd (some_none (sym next.has))
   next_row (r ∷ rs) after e rise one next = pick (is_before after (key r.0)) refl (next_row rs after e rise.1 one.1)
     where
-      pick : (t : Bool) → is_before after (key r.0) ≡ t → (IsNext (table_of key value rs) after (key e.0) (value e.1) → NextRow key rs after e) → NextRow key (r ∷ rs) after e
+      pick : (t : Bool) → is_before after (key r.0) ≡ t → (IsNextKey (table_of key value rs) after (key e.0) (value e.1) → NextRow key rs after e) → NextRow key (r ∷ rs) after e
       pick true above rest = this (same_key (key r.0) (key e.0)) refl
         where
           this : (t : Bool) → same_key (key r.0) (key e.0) ≡ t → NextRow key (r ∷ rs) after e

@@ -11,7 +11,7 @@ use Rattle.repl_types.specs.declared.status.DamageCause.{DamageCause}
 use Rattle.repl_types.specs.declared.status.DamageCause.TheVariants as causes
 use Rattle.faults.specs.declared.fault.Fault.{Fault}
 use Rattle.faults.specs.declared.fault.Fault.TheVariants as faults
-use Rattle.keep_core.specs.Contents.{Contents, same_key, put_at, IsNext}
+use Rattle.keep_core.specs.Contents.{Contents, same_key, put_at, IsNextKey}
 use Rattle.keep_core.specs.Kept.{Kept, seen_of}
 use Rattle.rows_in_order.specs.Rows.{table_of}
 use Rattle.rows_in_order.specs.laws.Found.{row_of}
@@ -58,11 +58,11 @@ misspelt_next_shows key_fits key_spelling fits spelling rules a b t after saw (c
       | inr v ↦ (t, inr ((λ is. let x = only bytes is in v.0 x.0 x.1 x.2), at_value saw v.1))
     ])
   where
-    at_key : (saw : Option Contents) → IfSome saw (λ c. (value : List ℕ) × IsNext (c a t) after bytes value) → IfSome saw (λ c. (value : List ℕ) × (c a t bytes ≡ Some value))
+    at_key : (saw : Option Contents) → IfSome saw (λ c. (value : List ℕ) × IsNextKey (c a t) after bytes value) → IfSome saw (λ c. (value : List ℕ) × (c a t bytes ≡ Some value))
     at_key None h = tt
     at_key (Some c) h = (h.0, h.1.has)
 
-    at_value : (saw : Option Contents) → IfSome saw (λ c. (key : List ℕ) × IsNext (c a t) after key bytes) → IfSome saw (λ c. (key : List ℕ) × (c a t key ≡ Some bytes))
+    at_value : (saw : Option Contents) → IfSome saw (λ c. (key : List ℕ) × IsNextKey (c a t) after key bytes) → IfSome saw (λ c. (key : List ℕ) × (c a t key ≡ Some bytes))
     at_value None h = tt
     at_value (Some c) h = (h.0, h.1.has)
 misspelt_next_shows key_fits key_spelling fits spelling rules a b t after saw (causes.Absent bytes) only_key only h = absurd h

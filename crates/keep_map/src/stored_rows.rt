@@ -1,4 +1,4 @@
-//! The rows of a keeper, and what its open transaction made of them.
+//! The rows of a keeper, with the changes of its open transaction.
 
 ghost use Rattle.std.specs.Prelude.{◌≡◌, ◌<◌, ◌≤◌, length, [], false, true, Some, None, IfOk, OnOk, OnErr, if◌then◌else◌, is_some, IfSome, IfNone};
 ghost use Rattle.std.specs.Option.{option_map};
@@ -7,40 +7,40 @@ ghost use Rattle.std.specs.Map.Iter.{deref_pair};
 ghost use Rattle.std.specs.BTreeMap.{IsOrdered, IsUnchanged};
 ghost use Rattle.repl_types.specs.Bytes.{bytes_cmp};
 ghost use Rattle.repl_types.specs.Sizes.{IsKeySize, IsValueSize};
-ghost use Rattle.keep_core.specs.Contents.{nothing, put_at, IsNext, IsLast};
+ghost use Rattle.keep_core.specs.Contents.{nothing, put_at, IsNextKey, IsLastKey};
 ghost use Rattle.keep_core.specs.Kept.{Found, NextIs, WasThere, GivesValue, GivesNext};
-ghost use Rattle.keep_map.specs.Stored.{Place, place_of, same_place, bytes_of, row_at, seen_in, table_of, seen_of, held_of, slot_cmp, entries_above, stops, is_changed, AreRows, Sets, changed, settled};
+ghost use Rattle.keep_map.specs.Stored.{Place, place_of, same_place, bytes_of, row_at, seen_in, table_seen, contents_seen, contents_held, slot_cmp, entries_above, stops, is_changed, AreRows, SetsRow, changed_row, settled};
 
-use crate::row::{Row, StoredValue};
 use crate::slot::Slot;
+use crate::stored_row::{StoredRow, StoredValue};
 use repl_types::Area;
 use std::alloc::{AllocError, Global};
 use std::collections::BTreeMap;
 use std::ops::Bound;
 
-/// The rows in the order of their slots, and the slots that the open transaction changed. A row
-/// whose value was removed stays until the transaction ends.
+/// The rows in the order of their slots, and the slots of the rows that the open transaction
+/// changed. A row whose value was removed stays in the map until the transaction ends.
 #[derive(Debug, Drop)]
-pub struct Rows {
-    map: BTreeMap<Slot, Row>,
+pub struct StoredRows {
+    map: BTreeMap<Slot, StoredRow>,
     touched: Vec<Slot>,
     ghost sound: { AreRows map touched.items },
 }
 
-impl Rows {
-    /// There is no row. It takes no memory.
-    pub fn new(alloc: Global) -> Rows
-        ensures seen { seen_of result.map ≡ nothing }
-        ensures held { held_of result.map ≡ nothing }
+impl StoredRows {
+    /// No rows. It allocates nothing.
+    pub fn new(alloc: Global) -> StoredRows
+        ensures seen { contents_seen result.map ≡ nothing }
+        ensures held { contents_held result.map ≡ nothing }
         ensures none { result.touched.items ≡ [] }
     {
-        Rows {
+        StoredRows {
             map: BTreeMap::new(alloc),
             touched: Vec::new(alloc),
         }
     }
 
-    /// Whether a value is seen at the key, and the value in `out`, which is empty where none is.
+    /// Answers whether a value is seen at the key, and puts it in `out`, which is empty if none is.
     pub fn get(
         &self,
         alloc: Global,
@@ -50,7 +50,7 @@ impl Rows {
         out: &mut Vec<u8>,
     ) -> Result<bool, AllocError>
         ensures found { IfOk result (λ found. Found area table key.now found out.new.items
-            (seen_of self.now.map)) }
+            (contents_seen self.now.map)) }
         ensures gives { IfOk result (λ found. GivesValue found out.new.items) }
     {
         out.clear();
@@ -64,8 +64,8 @@ impl Rows {
         }
     }
 
-    /// Whether the table has a key above `after` at which a value is seen, and the least of these
-    /// with its value.
+    /// Answers whether a value is seen at some key of the table above `after`, and puts the least
+    /// such key in `key` and its value in `out`.
     pub fn next(
         &self,
         alloc: Global,
@@ -76,7 +76,7 @@ impl Rows {
         out: &mut Vec<u8>,
     ) -> Result<bool, AllocError>
         ensures found { IfOk result (λ found. NextIs area table after.now found key.new.items
-            out.new.items (seen_of self.now.map)) }
+            out.new.items (contents_seen self.now.map)) }
         ensures gives { IfOk result (λ found. GivesNext after.now found key.new.items
             out.new.items) }
     {
@@ -101,12 +101,13 @@ impl Rows {
         self.map.get(slot)?.now.as_ref()
     }
 
-    /// The first slot above, of the same table, at which a value is seen.
+    /// The first slot above `after`, in the same table, at which a value is seen.
     fn above(&self, after: Slot) -> Option<(&Slot, &StoredValue)>
-        ensures none { IfNone result (IsLast (table_of self.now.map after.area after.table)
+        ensures none { IfNone result (IsLastKey (table_seen self.now.map after.area after.table)
             after.key.items) }
-        ensures next { IfSome result (λ p. IsNext (table_of self.now.map after.area after.table)
-            after.key.items p.0.now.key.items p.1.now.bytes.items) }
+        ensures next { IfSome result (λ p.
+            IsNextKey (table_seen self.now.map after.area after.table) after.key.items
+            p.0.now.key.items p.1.now.bytes.items) }
         ensures key { IfSome result (λ p. IsKeySize p.0.now.key.items) }
     {
         let (area, table) = (after.area, after.table);
@@ -117,9 +118,9 @@ impl Rows {
         }
     }
 
-    /// The first entry above the slot that is of another table, or at which a value is seen. What
-    /// it passes over was removed in this transaction.
-    fn first(&self, after: Slot) -> Option<(&Slot, &Row)>
+    /// The first entry above the slot that is of another table, or at which a value is seen. The
+    /// entries before it were removed in this transaction.
+    fn first(&self, after: Slot) -> Option<(&Slot, &StoredRow)>
         ensures entry { option_map deref_pair result
             ≡ find (stops after.area after.table) (entries_above after self.now.map) }
         ensures ordered { IsOrdered slot_cmp self.now.map }
@@ -130,7 +131,8 @@ impl Rows {
             .find(|(slot, row)| row.now.is_some() || slot.area != area || slot.table != table)
     }
 
-    /// The transaction sees this value at the key. After an error what is held is as before.
+    /// Sets the value that the transaction sees at the key. Even after an error the rows hold what
+    /// they held.
     pub fn put(
         &mut self,
         alloc: Global,
@@ -141,17 +143,17 @@ impl Rows {
     ) -> Result<(), AllocError>
         requires key { IsKeySize key.now }
         requires value { IsValueSize value.now }
-        ensures ok { OnOk result (seen_of self.new.map
-            ≡ put_at (seen_of self.old.map) area table key.now (Some value.now)) }
-        ensures held { held_of self.new.map ≡ held_of self.old.map }
+        ensures ok { OnOk result (contents_seen self.new.map
+            ≡ put_at (contents_seen self.old.map) area table key.now (Some value.now)) }
+        ensures held { contents_held self.new.map ≡ contents_held self.old.map }
     {
         let slot = Slot::new(alloc, area, table, key)?;
         let value = StoredValue::new(alloc, value)?;
         self.change(slot, Some(value))
     }
 
-    /// The transaction sees no value at the key. Tells whether there was one. After an error what
-    /// is held is as before.
+    /// Removes the value that the transaction sees at the key, and answers whether there was one.
+    /// Even after an error the rows hold what they held.
     pub fn remove(
         &mut self,
         alloc: Global,
@@ -159,11 +161,11 @@ impl Rows {
         table: u32,
         key: &[u8],
     ) -> Result<bool, AllocError>
-        ensures ok { OnOk result (seen_of self.new.map
-            ≡ put_at (seen_of self.old.map) area table key.now None) }
+        ensures ok { OnOk result (contents_seen self.new.map
+            ≡ put_at (contents_seen self.old.map) area table key.now None) }
         ensures found { IfOk result (λ found. WasThere area table key.now found
-            (seen_of self.old.map)) }
-        ensures held { held_of self.new.map ≡ held_of self.old.map }
+            (contents_seen self.old.map)) }
+        ensures held { contents_held self.new.map ≡ contents_held self.old.map }
     {
         let slot = Slot::new(alloc, area, table, key)?;
         let is_there = self.value(&slot).is_some();
@@ -173,11 +175,11 @@ impl Rows {
         Ok(is_there)
     }
 
-    /// The transaction sees this value at the slot, or none.
+    /// Sets the value that the transaction sees at the slot, or removes it.
     fn change(&mut self, slot: Slot, value: Option<StoredValue>) -> Result<(), AllocError>
         requires { IsKeySize slot.key.items }
-        ensures ok { OnOk result (Sets (place_of slot)
-            (Some (changed (row_at self.old.map (place_of slot)) value)) self.old.map
+        ensures ok { OnOk result (SetsRow (place_of slot)
+            (Some (changed_row (row_at self.old.map (place_of slot)) value)) self.old.map
             self.new.map) }
         ensures err { OnErr result ((p : Place) → row_at self.new.map p ≡ row_at self.old.map p) }
     {
@@ -189,12 +191,12 @@ impl Rows {
         Ok(())
     }
 
-    /// Ends the transaction: what is held is what it saw where it is kept, else what was held
-    /// before. It takes no memory, and its time goes by the slots that the transaction changed.
+    /// Ends the transaction. If it is kept, the rows hold what it saw, else what they held before.
+    /// This allocates nothing and takes time by the slots that the transaction changed.
     pub fn settle(&mut self, keep: bool)
-        ensures seen { seen_of self.new.map
-            ≡ (if keep then seen_of self.old.map else held_of self.old.map) }
-        ensures held { held_of self.new.map ≡ seen_of self.new.map }
+        ensures seen { contents_seen self.new.map
+            ≡ (if keep then contents_seen self.old.map else contents_held self.old.map) }
+        ensures held { contents_held self.new.map ≡ contents_seen self.new.map }
         ensures none { self.new.touched.items ≡ [] }
     {
         while let Some(slot) = self.touched.pop() {
@@ -203,19 +205,19 @@ impl Rows {
     }
 }
 
-/// The row at the slot has this value now, or none. Tells whether the transaction changed it
-/// before.
+/// Sets the value that the transaction sees at the slot, or removes it. Answers whether the
+/// transaction changed this row before.
 fn change_row(
-    map: &mut BTreeMap<Slot, Row>,
+    map: &mut BTreeMap<Slot, StoredRow>,
     slot: Slot,
     value: Option<StoredValue>,
 ) -> Result<bool, AllocError>
-    ensures ok { OnOk result (Sets (place_of slot)
-        (Some (changed (row_at map.old (place_of slot)) value)) map.old map.new) }
+    ensures ok { OnOk result (SetsRow (place_of slot)
+        (Some (changed_row (row_at map.old (place_of slot)) value)) map.old map.new) }
     ensures changed { IfOk result (λ was. was ≡ is_changed (row_at map.old (place_of slot))) }
     ensures err { OnErr result (IsUnchanged map.old map.new) }
 {
-    let none = Row {
+    let none = StoredRow {
         now: None,
         before: None,
     };
@@ -225,10 +227,10 @@ fn change_row(
     Ok(was_changed)
 }
 
-/// The row at the slot is settled. Where no value is left there, the row goes.
-fn settle_row(map: &mut BTreeMap<Slot, Row>, slot: &Slot, keep: bool)
-    ensures { Sets (place_of slot.now) (settled keep (row_at map.old (place_of slot.now))) map.old
-        map.new }
+/// Settles the row at the slot, and removes it if no value is left.
+fn settle_row(map: &mut BTreeMap<Slot, StoredRow>, slot: &Slot, keep: bool)
+    ensures { SetsRow (place_of slot.now) (settled keep (row_at map.old (place_of slot.now)))
+        map.old map.new }
 {
     let Some(row) = map.get_mut(slot) else {
         return;

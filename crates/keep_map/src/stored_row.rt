@@ -1,4 +1,4 @@
-//! What stands at one key.
+//! The row at one key: its value, and the value from before the open transaction.
 
 ghost use Rattle.std.specs.Prelude.{◌≡◌, None, Some, IfOk, if◌then◌else◌};
 ghost use Rattle.std.specs.Option.{unwrap_or};
@@ -33,15 +33,15 @@ impl StoredValue {
     }
 }
 
-/// The value at one key, and where the open transaction changed it, the one before that.
+/// The value at one key, and the value from before, if the open transaction changed it.
 #[derive(Debug, Drop)]
-pub struct Row {
+pub struct StoredRow {
     pub now: Option<StoredValue>,
     pub before: Option<Option<StoredValue>>,
 }
 
-impl Row {
-    /// The value is this one, and what stood there before the transaction is not forgotten.
+impl StoredRow {
+    /// Sets the value, or removes it, and keeps the value from before the transaction.
     pub fn change(&mut self, value: Option<StoredValue>)
         ensures { self.new
             ≡ record { now = value; before = Some (unwrap_or self.old.before self.old.now) } }
@@ -52,8 +52,8 @@ impl Row {
         }
     }
 
-    /// The value is settled: what the transaction made of it where it is kept, else what stood
-    /// there before.
+    /// Settles the value: if the transaction is kept, it is the value now, else the one from
+    /// before.
     pub fn settle(&mut self, keep: bool)
         ensures { self.new
             ≡ record {

@@ -1,6 +1,6 @@
 use Rattle.std.proofs.Common.{◌∙◌}
 use Rattle.keep_map.proofs.Sound.{sound_settled, kept_settled}
-use Rattle.keep_map.proofs.rows.Rows.settle.Goals as goal
+use Rattle.keep_map.proofs.stored_rows.StoredRows.settle.Goals as goal
 
 pub invariant_of-self : goal.invariant_of-self
 invariant_of-self c =

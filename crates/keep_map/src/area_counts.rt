@@ -1,23 +1,23 @@
-//! How often each area was read or written.
+//! Counts of the reads or the writes of each area.
 
 use repl_types::Area;
 
-/// A count of each area, at the area's number. A count that stands at the last `u64` stays there.
+/// A count for each area, at the area's number. The counts saturate.
 #[derive(Debug, Drop)]
-pub struct Counts {
+pub struct AreaCounts {
     each: [u64; Area::NUMBERS],
 }
 
-impl Counts {
+impl AreaCounts {
     ghost use Rattle.std.specs.Prelude.{◌≡◌};
     ghost use Rattle.keep_core.specs.Kept.{counted};
     ghost use Rattle.keep_map.specs.Keepers.{count_of};
 
-    /// Nothing was counted.
-    pub fn new() -> Counts
+    /// Counts that are all 0.
+    pub fn new() -> AreaCounts
         ensures { count_of result ≡ (λ _. 0) }
     {
-        Counts {
+        AreaCounts {
             each: [0; Area::NUMBERS],
         }
     }
@@ -29,7 +29,7 @@ impl Counts {
         self.each[area.number() as usize]
     }
 
-    /// One more of an area.
+    /// Raises the count of an area by one.
     pub fn bump(&mut self, area: Area)
         ensures { count_of self.new ≡ counted (count_of self.old) area }
     {

@@ -3,7 +3,7 @@ use Rattle.std.specs.List.{find}
 use Rattle.std.proofs.lemmas.Iterator.Search.{find_from_yields_List}
 use Rattle.std.proofs.lemmas.Iterator.Consumers.{YieldsList-from_rest}
 use Rattle.keep_map.specs.Stored.{stops}
-use Rattle.keep_map.proofs.rows.Rows.first.Goals as goal
+use Rattle.keep_map.proofs.stored_rows.StoredRows.first.Goals as goal
 
 pub returns-clause-entry : goal.returns-clause-entry
 returns-clause-entry c =
