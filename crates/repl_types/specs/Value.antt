@@ -38,3 +38,7 @@ abbrev pub spelled_len : Value → ℕ
 spelled_len Null = 1
 spelled_len (Int n) = 9
 spelled_len (Text t) = 3 + length t + count_by (λ b. b == 0) t
+
+-- the most bytes that a value takes there: those of a text of 1,000 zeros
+abbrev pub spelled_limit : ℕ
+spelled_limit = 2003
