@@ -7,7 +7,7 @@ ghost use Rattle.std.specs.Prelude.{◌≡◌, ◌≢◌, ◌++◌, ◌∷◌, �
 ghost use Rattle.std.specs.List.{flat_map, AllByRecursion};
 ghost use Rattle.repl_definitions.specs.declared.nested.Root.{Root};
 ghost use Rattle.repl_definitions.specs.declared.nested.Root.TheVariants.{Single, Joined};
-ghost use Rattle.row_codec.specs.Takes.{NoFront, One};
+ghost use Rattle.row_codec.specs.Takes.{NoPrefix, One};
 ghost use Rattle.repl_definitions.specs.Forests.{IsForest, IsLeaf, nodes_spelling, NodesFit};
 ghost use Rattle.repl_definitions.specs.PendingTrees.{pending_nodes, owed};
 
@@ -48,7 +48,7 @@ pub(crate) trait Nested: Sized + Drop {
         ensures ok { IfOk result (λ taken. node_fits taken.0
             × (bytes.now ≡ node_spelling taken.0 ++ taken.1.now)) }
         ensures spelling { result ≡ Err TakeError.Spelling
-            → NoFront node_fits node_spelling bytes.now };
+            → NoPrefix node_fits node_spelling bytes.now };
 
     /// Appends the spelling of the node at the top, and gives the trees below it.
     fn put_root(&self, out: &mut Vec<u8>) -> Result<Option<(&Self, &Self)>, AllocError>

@@ -5,7 +5,7 @@ ghost use Rattle.repl_records.specs.SetState.{HasNumbers, IsState, ZeroWhereAbse
 ghost use Rattle.repl_records.specs.laws.SetState.{one_state, small_state, one_last_number, small_last_number};
 ghost use Rattle.repl_types.specs.declared.area.Area.TheVariants as areas;
 ghost use Rattle.row_codec.specs.Spelling.{Any};
-ghost use Rattle.row_codec.specs.Takes.{NoFront};
+ghost use Rattle.row_codec.specs.Takes.{NoPrefix};
 
 use crate::record_keys::MemberKey;
 use repl_types::Area;
@@ -126,7 +126,7 @@ fn take_state(alloc: Global, bytes: &[u8]) -> Result<(SetState, &[u8]), TakeErro
     ensures ok { IfOk result (λ part. HasNumbers part.0
         × (bytes.now ≡ state_spelling part.0 ++ part.1.now)) }
     ensures spelling { result ≡ Err TakeError.Spelling
-        → NoFront HasNumbers state_spelling bytes.now }
+        → NoPrefix HasNumbers state_spelling bytes.now }
 {
     match bytes {
         [READ_ONLY, rest @ ..] => {

@@ -5,7 +5,7 @@ ghost use Rattle.repl_records.specs.Trail.{IsBase, base_spelling, IsEntry, entry
 ghost use Rattle.repl_records.specs.laws.Trail.{one_base, one_entry, small_entry};
 ghost use Rattle.repl_types.specs.declared.area.Area.TheVariants as areas;
 ghost use Rattle.row_codec.specs.Spelling.{Any, b64};
-ghost use Rattle.row_codec.specs.Takes.{NoFront};
+ghost use Rattle.row_codec.specs.Takes.{NoPrefix};
 
 use repl_types::Area;
 use row_codec::{Part, Stored, TakeError, take_four, take_six, take_three};
@@ -198,7 +198,7 @@ fn take_block(alloc: Global, bytes: &[u8]) -> Result<(TrailEntry, &[u8]), TakeEr
     ensures ok { IfOk result
         (λ taken. IsEntry taken.0 × (2 ∷ bytes.now ≡ entry_spelling taken.0 ++ taken.1.now)) }
     ensures spelling { result ≡ Err TakeError.Spelling
-        → NoFront IsEntry entry_spelling (2 ∷ bytes.now) }
+        → NoPrefix IsEntry entry_spelling (2 ∷ bytes.now) }
 {
     let (from, to, inserts, updates, deletes, base, rest) = take_six::<
         u64,

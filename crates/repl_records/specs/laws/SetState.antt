@@ -6,7 +6,7 @@ use Rattle.repl_records.specs.declared.set_state.LastNumber.{LastNumber}
 use Rattle.repl_records.specs.declared.set_state.SetState.TheVariants.{ReadOnly, Replica}
 use Rattle.repl_records.specs.SetState.{HasNumbers, IsState, ZeroWhereAbsent, state_spelling, IsLastNumber, last_number_spelling}
 use Rattle.row_codec.specs.Spelling.{Any, Is64, b64, flag}
-use Rattle.row_codec.specs.Takes.{One, NoFront, PairFits, pair_spelling}
+use Rattle.row_codec.specs.Takes.{One, NoPrefix, PairFits, pair_spelling}
 use Rattle.row_codec.specs.laws.Numbers.{length64, one64, one_flag}
 use Rattle.row_codec.specs.laws.Ones.{one_by, one_pair}
 use Rattle.row_codec.specs.laws.Sizes.{length_flag}
@@ -44,16 +44,16 @@ pub one_state : One IsState state_spelling
 one_state x y a b fx fy e = one_of_numbers x y a b fx.0 fy.0 e
 
 -- bytes that begin with other numbers in the place of absent points begin with no state
-pub no_other_state : (state : SetState) (after : List ℕ) → HasNumbers state → ¬ (ZeroWhereAbsent state) → NoFront IsState state_spelling (state_spelling state ++ after)
+pub no_other_state : (state : SetState) (after : List ℕ) → HasNumbers state → ¬ (ZeroWhereAbsent state) → NoPrefix IsState state_spelling (state_spelling state ++ after)
 no_other_state state after numbers other x rest fits e = other (subst ZeroWhereAbsent (sym (one_of_numbers state x after rest numbers fits.0 e).0) fits.1)
 
 -- after a 1 there is the state of a read-only set, or none
-pub only_read_only : (bytes : List ℕ) → ((has_points : Bool) (synchpoint time base : ℕ) (refresh : Bool) (entries : ℕ) (rest : List ℕ) → HasNumbers (ReadOnly has_points synchpoint time base refresh entries) → bytes ≢ (flag has_points ++ b64 synchpoint ++ b64 time ++ b64 base ++ flag refresh ++ b64 entries) ++ rest) → NoFront HasNumbers state_spelling (1 ∷ bytes)
+pub only_read_only : (bytes : List ℕ) → ((has_points : Bool) (synchpoint time base : ℕ) (refresh : Bool) (entries : ℕ) (rest : List ℕ) → HasNumbers (ReadOnly has_points synchpoint time base refresh entries) → bytes ≢ (flag has_points ++ b64 synchpoint ++ b64 time ++ b64 base ++ flag refresh ++ b64 entries) ++ rest) → NoPrefix HasNumbers state_spelling (1 ∷ bytes)
 only_read_only bytes none (ReadOnly h s t o r n) rest fits e = none h s t o r n rest fits (ap (drop 1) e)
 only_read_only bytes none (Replica h m f g n) rest fits e = other_first 1 2 _ _ (omega arith) e
 
 -- after a 2 there is the state of a replica set, or none
-pub only_replica : (bytes : List ℕ) → ((has_points : Bool) (m f signal entries : ℕ) (rest : List ℕ) → HasNumbers (Replica has_points m f signal entries) → bytes ≢ (flag has_points ++ b64 m ++ b64 f ++ b64 signal ++ b64 entries) ++ rest) → NoFront HasNumbers state_spelling (2 ∷ bytes)
+pub only_replica : (bytes : List ℕ) → ((has_points : Bool) (m f signal entries : ℕ) (rest : List ℕ) → HasNumbers (Replica has_points m f signal entries) → bytes ≢ (flag has_points ++ b64 m ++ b64 f ++ b64 signal ++ b64 entries) ++ rest) → NoPrefix HasNumbers state_spelling (2 ∷ bytes)
 only_replica bytes none (ReadOnly h s t o r n) rest fits e = other_first 2 1 _ _ (omega arith) e
 only_replica bytes none (Replica h m f g n) rest fits e = none h m f g n rest fits (ap (drop 1) e)
 
