@@ -45,8 +45,8 @@ impl Drop for Expr {
 }
 
 impl Expr {
-    /// What is left to drop of an expression that was at the left of another, of its place, and of
-    /// the one at its right.
+    /// A step of dropping an expression: `self` was at its left, in `place`, and `right` at its
+    /// right. What is left to drop weighs less.
     fn turned(self, mut place: Boxed<Expr>, right: Boxed<Expr>) -> Expr
         requires { place ≡ Expr.Column 0 }
         ensures { expr_weight result < 1 + 2 * expr_weight self + expr_weight right }
@@ -70,7 +70,7 @@ impl Expr {
         }
     }
 
-    /// Lets a leaf go.
+    /// Drops the leaf that `drop` leaves in an empty place.
     fn gone(self)
         requires { self ≡ Expr.Column 0 }
     {

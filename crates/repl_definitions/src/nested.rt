@@ -7,14 +7,14 @@ ghost use Rattle.std.specs.Prelude.{◌≡◌, ◌≢◌, ◌++◌, ◌∷◌, �
 ghost use Rattle.std.specs.List.{flat_map, AllByRecursion};
 ghost use Rattle.repl_definitions.specs.declared.nested.Root.{Root};
 ghost use Rattle.repl_definitions.specs.declared.nested.Root.TheVariants.{Single, Joined};
-ghost use Rattle.row_codec.specs.Takes.{NoFront, One};
+ghost use Rattle.row_codec.specs.Takes.{NoPrefix, One};
 ghost use Rattle.repl_definitions.specs.Forests.{IsForest, IsLeaf, nodes_spelling, NodesFit};
 ghost use Rattle.repl_definitions.specs.PendingTrees.{pending_nodes, owed};
 
 use row_codec::TakeError;
 use std::alloc::{AllocError, Global};
 
-/// What stands at the top of a tree: a leaf, or what joins two trees.
+/// The node at the top of a tree: a leaf, or what joins two trees.
 #[derive(Drop)]
 pub(crate) enum Root<L, J> {
     Single(L),
@@ -23,8 +23,10 @@ pub(crate) enum Root<L, J> {
 
 /// A tree. A clause sees it as the list of its nodes, in the order in which they are spelled.
 pub(crate) trait Nested: Sized + Drop {
+    /// A tree of one node.
     type Leaf: Drop;
 
+    /// What joins two trees.
     type Joint: Drop;
 
     /// Which of the nodes that a clause can speak of are nodes that have a spelling.
@@ -33,11 +35,13 @@ pub(crate) trait Nested: Sized + Drop {
     /// What a node must meet beside its type to have a spelling.
     ghost has_node_spelling: { Root Self.Leaf Self.Joint → Type 0 };
 
+    /// The bytes of a node.
     ghost node_spelling: { Root Self.Leaf Self.Joint → List ℕ };
 
     /// The node at the top.
     ghost top: { Self → Root Self.Leaf Self.Joint };
 
+    /// The nodes of a tree, in the order in which they are spelled.
     ghost nodes: { Self → List (Root Self.Leaf Self.Joint) };
 
     /// The node whose spelling the bytes begin with, and the bytes after it.
@@ -48,7 +52,7 @@ pub(crate) trait Nested: Sized + Drop {
         ensures ok { IfOk result (λ taken. node_fits taken.0
             × (bytes.now ≡ node_spelling taken.0 ++ taken.1.now)) }
         ensures spelling { result ≡ Err TakeError.Spelling
-            → NoFront node_fits node_spelling bytes.now };
+            → NoPrefix node_fits node_spelling bytes.now };
 
     /// Appends the spelling of the node at the top, and gives the trees below it.
     fn put_root(&self, out: &mut Vec<u8>) -> Result<Option<(&Self, &Self)>, AllocError>
@@ -78,12 +82,16 @@ pub(crate) trait Nested: Sized + Drop {
     fn join(alloc: Global, joint: Self::Joint, left: Self, right: Self) -> Result<Self, AllocError>
         ensures { IfOk result (λ tree. nodes tree ≡ Joined joint ∷ nodes left ++ nodes right) };
 
+    /// Bytes begin with the spelling of at most one node.
     ghost one_node: { One node_fits node_spelling };
 
+    /// A node has at least one byte.
     ghost filled: { (node : Root Self.Leaf Self.Joint) → node_spelling node ≢ [] };
 
+    /// The nodes of a tree are one tree.
     ghost forest: { (tree : Self) → IsForest 1 (nodes tree) };
 
+    /// The first node of a tree is the node at its top.
     ghost first: { (tree : Self) → (rest : List (Root Self.Leaf Self.Joint)) × (nodes tree ≡ top tree ∷ rest) };
 
     /// Trees of equal nodes are equal.

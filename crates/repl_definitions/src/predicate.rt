@@ -27,7 +27,7 @@ pub enum Predicate {
 }
 
 impl Drop for Predicate {
-    // As for an expression.
+    // As with an expression: a tree at the left of another is moved to the right.
     fn drop(mut self) {
         loop {
             match self {
@@ -48,8 +48,8 @@ impl Drop for Predicate {
 }
 
 impl Predicate {
-    /// What is left to drop of a predicate that was at the left of another, of its place, and of
-    /// the one at its right.
+    /// A step of dropping a predicate: `self` was at its left, in `place`, and `right` at its
+    /// right. What is left to drop weighs less.
     fn turned(self, mut place: Boxed<Predicate>, right: Boxed<Predicate>) -> Predicate
         requires { place ≡ Predicate.IsNull 0 }
         ensures { predicate_weight result < 1 + 2 * predicate_weight self + predicate_weight right }
@@ -74,7 +74,7 @@ impl Predicate {
         }
     }
 
-    /// Lets a leaf go.
+    /// Drops the leaf that `drop` leaves in an empty place.
     fn gone(self)
         requires { self ≡ Predicate.IsNull 0 }
     {
@@ -116,24 +116,24 @@ impl Part for CompareOp {
 
     fn put_part(&self, out: &mut Vec<u8>) -> Result<(), AllocError> {
         let number = match self {
-            CompareOp::Eq => 1,
-            CompareOp::Ne => 2,
-            CompareOp::Lt => 3,
-            CompareOp::Le => 4,
-            CompareOp::Gt => 5,
-            CompareOp::Ge => 6,
+            CompareOp::Eq => 0x01,
+            CompareOp::Ne => 0x02,
+            CompareOp::Lt => 0x03,
+            CompareOp::Le => 0x04,
+            CompareOp::Gt => 0x05,
+            CompareOp::Ge => 0x06,
         };
         Ok(out.push(number)?)
     }
 
     fn take_part(_: Global, bytes: &[u8]) -> Result<(CompareOp, &[u8]), TakeError> {
         match bytes {
-            [1, rest @ ..] => Ok((CompareOp::Eq, rest)),
-            [2, rest @ ..] => Ok((CompareOp::Ne, rest)),
-            [3, rest @ ..] => Ok((CompareOp::Lt, rest)),
-            [4, rest @ ..] => Ok((CompareOp::Le, rest)),
-            [5, rest @ ..] => Ok((CompareOp::Gt, rest)),
-            [6, rest @ ..] => Ok((CompareOp::Ge, rest)),
+            [0x01, rest @ ..] => Ok((CompareOp::Eq, rest)),
+            [0x02, rest @ ..] => Ok((CompareOp::Ne, rest)),
+            [0x03, rest @ ..] => Ok((CompareOp::Lt, rest)),
+            [0x04, rest @ ..] => Ok((CompareOp::Le, rest)),
+            [0x05, rest @ ..] => Ok((CompareOp::Gt, rest)),
+            [0x06, rest @ ..] => Ok((CompareOp::Ge, rest)),
             _ => Err(TakeError::Spelling),
         }
     }

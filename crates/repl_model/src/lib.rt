@@ -1,8 +1,14 @@
 //! What a source log means: its units, the rows of a table at each point, the change rows of a
 //! registration, and which records are applicable.
 //!
-//! It has no code of its own. The definitions stand in `specs/`, where the contracts of the crates
-//! above find them, and the functions here state what follows from them, for every log.
+//! It stands on `repl_types`. `row_changes` and `copy_lists` stand on it, and their contracts name
+//! its definitions, which stand in `specs/`. The functions here have no code: their contracts are
+//! laws about the definitions, for every log. Five of them serve the proofs of `copy_lists`; `undo`,
+//! `capture_by_pieces`, `worked_log` and `worked_mixed_log` are stated for readers, and no proof of
+//! another crate uses them.
+//!
+//! For example, the log of the lines `insert 1 items 1 'pen'` and `commit 1 ann 100` has one unit,
+//! whose seq is 2, and the copy of `items` at the point 2 has the row `(1, 'pen')`.
 #![tactic(auto)]
 
 ghost use Rattle.std.specs.Prelude.{◌≡◌, ◌∷◌, [], ◌++◌, ◌+◌, ◌<◌, ◌≤◌, ◌==◌, ℕ, IsTrue, List, length, map, take, codes, Option, if◌then◌else◌};
@@ -68,7 +74,7 @@ pub fn in_flight_grows()
 {}
 
 /// What one more record does to the rows of a table: a commit makes the changes that its
-/// transaction has in flight, and all else leaves them. The rows at an earlier point stay for good.
+/// transaction has in flight, and all else leaves them. The rows at an earlier point never change.
 pub fn source_grows()
     ensures change { (def : TableDef) (tx : ℕ) (change : Change) (log : List LogRecord)
         → source_at def (log ++ records.Change tx change ∷ [])
@@ -93,7 +99,7 @@ pub fn up_to_last_commit()
         → changes_between log reg 0 (last_commit log) ≡ flat_map (change_rows reg) (units log) }
 {}
 
-/// Change rows may be captured piece by piece, and those up to a point stay for good.
+/// Change rows may be captured piece by piece, and those up to a point never change.
 pub fn capture_by_pieces()
     ensures joined { (log : List LogRecord) (reg : Registration) (low mid high : ℕ) → low ≤ mid
         → mid ≤ high → changes_between log reg low high ≡ changes_between log reg low mid
@@ -103,9 +109,9 @@ pub fn capture_by_pieces()
         ≡ changes_between log reg low high }
 {}
 
-/// A copy that is kept by the change rows of a registration alone, whole rows as they come, is the
+/// A copy that is kept only by the change rows of a registration, whole rows as they come, is the
 /// source: from no rows up to the last commit, and from a copy at one point up to a later one. The
-/// log's changes leave the keys, as they do where the key is fixed and each record was applicable.
+/// log's changes leave the keys, as they do if the key is fixed and each record was applicable.
 pub fn copy_by_change_rows()
     ensures whole { (def : TableDef) (reg : Registration) (log : List LogRecord)
         → KeepsWholeRows def reg → LeavesKeys def log
@@ -120,7 +126,7 @@ pub fn copy_by_change_rows()
         → LeavesKeys def (log ++ r ∷ []) }
 {}
 
-/// Where a change applies, the change and then its inverse leave the rows as they were.
+/// If a change applies, the change and then its inverse leave the rows as they were.
 pub fn undo()
     ensures { (def : TableDef) (change : Change) (rows : Rows) → IsTrue (applies def change rows)
         → after_change def (inverse change) (after_change def change rows) ≡ rows }

@@ -56,7 +56,7 @@ impl Stored for SourceRow {
     ghost again_stored = { λ x fits sized. (again_source_row x fits, sized) };
 }
 
-/// That a change of a transaction in flight stands at a position of the log.
+/// The record of a change of a transaction in flight. Its key says all.
 #[derive(Clone, Copy, Debug, PartialEq, Eq)]
 pub struct InFlight;
 
@@ -72,12 +72,12 @@ impl Part for InFlight {
     ghost again = { λ _ _. tt };
 
     fn put_part(&self, out: &mut Vec<u8>) -> Result<(), AllocError> {
-        Ok(out.push(0)?)
+        Ok(out.push(0x00)?)
     }
 
     fn take_part(_: Global, bytes: &[u8]) -> Result<(InFlight, &[u8]), TakeError> {
         match bytes {
-            [0, rest @ ..] => Ok((InFlight, rest)),
+            [0x00, rest @ ..] => Ok((InFlight, rest)),
             _ => Err(TakeError::Spelling),
         }
     }

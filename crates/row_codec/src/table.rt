@@ -77,16 +77,16 @@ impl Part for Kind {
 
     fn put_part(&self, out: &mut Vec<u8>) -> Result<(), AllocError> {
         let number = match self {
-            Kind::Int => 1,
-            Kind::Text => 2,
+            Kind::Int => 0x01,
+            Kind::Text => 0x02,
         };
         Ok(out.push(number)?)
     }
 
     fn take_part(_: Global, bytes: &[u8]) -> Result<(Kind, &[u8]), TakeError> {
         match bytes {
-            [1, rest @ ..] => Ok((Kind::Int, rest)),
-            [2, rest @ ..] => Ok((Kind::Text, rest)),
+            [0x01, rest @ ..] => Ok((Kind::Int, rest)),
+            [0x02, rest @ ..] => Ok((Kind::Text, rest)),
             _ => Err(TakeError::Spelling),
         }
     }
