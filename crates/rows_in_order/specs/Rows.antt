@@ -40,6 +40,10 @@ IsRising key (r ∷ rs) = AllAfter key (key r.0) rs × IsRising key rs
 abbrev pub between : {A X : Type 0} → (A → List ℕ) → List ℕ → List ℕ → List (A × X) → List (A × X)
 between key low high rows = filter (λ r. is_before low (key r.0) && not (is_before high (key r.0))) rows
 
+-- the rows after a key
+abbrev pub rows_after : {A X : Type 0} → (A → List ℕ) → List ℕ → List (A × X) → List (A × X)
+rows_after key k rows = filter (λ r. is_before k (key r.0)) rows
+
 -- the rows with this one: in the place of the row at its key, or between those before and after it
 abbrev pub with_row : {A X : Type 0} → (A → List ℕ) → A × X → List (A × X) → List (A × X)
 with_row key row rows = filter (λ r. is_before (key r.0) (key row.0)) rows ++ row ∷ filter (λ r. is_before (key row.0) (key r.0)) rows

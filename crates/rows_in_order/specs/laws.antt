@@ -1,3 +1,4 @@
+pub mod After
 pub mod Before
 pub mod BetweenNumbers
 pub mod ByNumber
