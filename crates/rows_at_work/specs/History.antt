@@ -10,7 +10,7 @@ use Rattle.repl_records.specs.Capture.{IsChangeRow, change_row_spelling}
 use Rattle.repl_records.specs.RecordKeys.{IsChangeKey, change_key_spelling}
 use Rattle.repl_records.specs.declared.capture.ChangeRow.{ChangeRow}
 use Rattle.repl_records.specs.declared.record_keys.CdKey.{CdKey}
-use Rattle.rows_in_order.specs.Rows.{IsUpTo, table_of, AllBefore, IsRising, between, rows_after, with_row, HasRow}
+use Rattle.rows_in_order.specs.Rows.{IsUpTo, table_from_rows, AllBefore, IsRising, between, rows_after, with_row, HasRow}
 use Rattle.site_store.specs.declared.sites.Sites.{Sites}
 use Rattle.site_store.specs.Calls.{Bounds, reads_of_one, writes_of_one, both}
 use Rattle.rows_at_work.specs.Steps.{ChangesOne, WorksOn}
@@ -32,7 +32,7 @@ pub record AreChangeRows (rows : List KeyedChange) : Type 0 where
 
 -- the table of change rows
 abbrev pub change_row_table : List KeyedChange → Table
-change_row_table rows = table_of change_key_spelling change_row_spelling rows
+change_row_table rows = table_from_rows change_key_spelling change_row_spelling rows
 
 -- rows of the table became others
 abbrev pub MakesChangeRows : ℕ → (List KeyedChange → List KeyedChange) → Contents → Contents → Type 0

@@ -15,9 +15,9 @@ abbrev pub IsUpTo : List ℕ → List ℕ → Type 0
 IsUpTo k l = is_before l k ≡ false
 
 -- the table that has each row's value at its key
-abbrev pub table_of : {A X : Type 0} → (A → List ℕ) → (X → List ℕ) → List (A × X) → Table
-table_of key value [] k = None
-table_of key value (r ∷ rs) k = if same_key (key r.0) k then Some (value r.1) else table_of key value rs k
+abbrev pub table_from_rows : {A X : Type 0} → (A → List ℕ) → (X → List ℕ) → List (A × X) → Table
+table_from_rows key value [] k = None
+table_from_rows key value (r ∷ rs) k = if same_key (key r.0) k then Some (value r.1) else table_from_rows key value rs k
 
 -- all these rows are before the key
 abbrev pub AllBefore : {A X : Type 0} → (A → List ℕ) → List ℕ → List (A × X) → Type 0

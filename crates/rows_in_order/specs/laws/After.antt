@@ -6,7 +6,7 @@ use Rattle.std.specs.declared.cmp.Ordering.TheVariants.{Less}
 use Rattle.std.proofs.lemmas.List.Elements.{filter-append}
 use Rattle.repl_types.specs.Bytes.{bytes_cmp}
 use Rattle.keep_core.specs.Contents.{IsNext, IsLast}
-use Rattle.rows_in_order.specs.Rows.{is_before, IsUpTo, table_of, AllAfter, NoneAfter, rows_after, NextRow}
+use Rattle.rows_in_order.specs.Rows.{is_before, IsUpTo, table_from_rows, AllAfter, NoneAfter, rows_after, NextRow}
 use Rattle.rows_in_order.specs.laws.Before.{order, not_back, upto_itself, upto_trans}
 use Rattle.rows_in_order.specs.laws.Changed.{filter_at}
 use Rattle.rows_in_order.specs.laws.Filtered.{all_weaker, filter_none, filter_all}
@@ -49,13 +49,13 @@ module _ {A X : Type 0} (key : A → List ℕ) where
 
   module _ (value : X → List ℕ) where
     -- what stands at a key after another stands among the rows after that
-    at_after : (rows : List (A × X)) (after q : List ℕ) → bytes_cmp after q ≡ Less → table_of key value (rows_after key after rows) q ≡ table_of key value rows q
+    at_after : (rows : List (A × X)) (after q : List ℕ) → bytes_cmp after q ≡ Less → table_from_rows key value (rows_after key after rows) q ≡ table_from_rows key value rows q
     at_after rows after q lt =
         filter_at key value (λ r. is_before after (key r.0)) q (is_before after q) (λ r e. ap (is_before after) e) rows
-        ∙ ap (λ (t : Bool). cond t (table_of key value rows q) None) (ap is_lt lt)
+        ∙ ap (λ (t : Bool). cond t (table_from_rows key value rows q) None) (ap is_lt lt)
 
     -- the next key among the rows after a key is the next of all rows
-    pub next_after : (rows : List (A × X)) (after k v : List ℕ) → IsNext (table_of key value (rows_after key after rows)) after k v → IsNext (table_of key value rows) after k v
+    pub next_after : (rows : List (A × X)) (after k v : List ℕ) → IsNext (table_from_rows key value (rows_after key after rows)) after k v → IsNext (table_from_rows key value rows) after k v
     next_after rows after k v next = record {
       above = next.above;
       has = sym (at_after rows after k next.above) ∙ next.has;
@@ -63,5 +63,5 @@ module _ {A X : Type 0} (key : A → List ℕ) where
     }
 
     -- and if those have none, all rows have none
-    pub last_after : (rows : List (A × X)) (after : List ℕ) → IsLast (table_of key value (rows_after key after rows)) after → IsLast (table_of key value rows) after
+    pub last_after : (rows : List (A × X)) (after : List ℕ) → IsLast (table_from_rows key value (rows_after key after rows)) after → IsLast (table_from_rows key value rows) after
     last_after rows after last = λ q lt. sym (at_after rows after q lt) ∙ last q lt

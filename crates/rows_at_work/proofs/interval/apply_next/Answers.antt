@@ -5,7 +5,7 @@ use Rattle.row_codec.specs.laws.Orders.{order64, whole_order}
 use Rattle.rows_in_order.specs.laws.ByNumber.{key_less}
 use Rattle.std.proofs.lemmas.Result.{err_from_is_err_and}
 use Rattle.repl_types.specs.declared.area.Area.TheVariants as areas
-use Rattle.rows_at_work.specs.Records.{change_spelling, FitsChange}
+use Rattle.rows_at_work.specs.Records.{numbered_change_spelling, FitsChange}
 use Rattle.rows_at_work.specs.Applying.{in_applying}
 use Rattle.rows_at_work.proofs.Stepping.{next_fails}
 use Rattle.rows_at_work.proofs.ApplyCalls.{read_in_applying, apply_found, apply_last, apply_past}
@@ -32,4 +32,4 @@ returns-clause-rises g c =
 pub returns-in_err-number-clause-fault : goal.returns-in_err-number-clause-fault
 returns-in_err-number-clause-fault g c =
     let p = err_from_is_err_and c.from_residual.result c.from_residual.ensures.1 in
-    rw (p.1, p.2) (next_fails g.K.Keeper.kept Is64 b64 FitsChange change_spelling c.args.sites.now c.next.new.self c.args.source areas.Log (b64 c.args.after) (in_applying 1 1 c.args.source c.args.target) c.in_err-number.field-0.0 (λ bytes h. h) (λ bytes h. h) (read_in_applying 1 c.args.source c.args.target) c.in_err-number.ensures.fault)
+    rw (p.1, p.2) (next_fails g.K.Keeper.kept Is64 b64 FitsChange numbered_change_spelling c.args.sites.now c.next.new.self c.args.source areas.Log (b64 c.args.after) (in_applying 1 1 c.args.source c.args.target) c.in_err-number.field-0.0 (λ bytes h. h) (λ bytes h. h) (read_in_applying 1 c.args.source c.args.target) c.in_err-number.ensures.fault)
