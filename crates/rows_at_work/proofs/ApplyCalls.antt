@@ -9,14 +9,14 @@ use Rattle.rows_in_order.specs.Numbers.{numbers_between}
 use Rattle.rows_in_order.specs.laws.BetweenNumbers.{numbers_nothing, numbers_parts}
 use Rattle.site_store.specs.declared.sites.Sites.{Sites}
 use Rattle.site_store.specs.Views.{held, work, sees, IsOpenAt, IsClosedAt}
-use Rattle.site_store.specs.Calls.{reads_of_one, writes_of_one, Reads, Fails}
+use Rattle.site_store.specs.Calls.{both, reads_of_one, writes_of_one, Reads, Fails}
 use Rattle.site_store.specs.laws.Counts.{at_most_itself, reads_and_writes_then, read_within}
 use Rattle.site_store.specs.laws.Transactions.{seen_held, other_work}
 use Rattle.faults.specs.declared.fault.Fault.{Fault}
 use Rattle.site_store.specs.Damage.{Damages}
 use Rattle.rows_at_work.specs.Rules.{rules}
 use Rattle.rows_at_work.specs.declared.records.Change.{Change}
-use Rattle.rows_at_work.specs.Records.{change_spelling, FitsChange}
+use Rattle.rows_at_work.specs.Records.{numbered_change_spelling, FitsChange}
 use Rattle.rows_at_work.specs.Applying.{change_table, Makes, HasChanges, Applies, AppliesOne, AppliesOn, AppliesNext, AppliesAll, in_applying}
 use Rattle.site_store.specs.laws.Steps.{changes_none, works_none, works_read, works_on, works_fail}
 use Rattle.rows_at_work.proofs.AppliedRows.{found_next, up_to_next, none_past, none_last, makes_nothing, makes_one, applies_then}
@@ -31,7 +31,7 @@ module _ {K : Type 0} (kept : K → Kept) where
   -- ---- one call
 
   -- the next change was applied
-  pub apply_found : (s0 s1 s2 : Sites K) (source target after high number : ℕ) (x : Change) → IsOpenAt (work kept s0) target → IsClosedAt (work kept s0) source → after < 2 ^ 64 → number < 2 ^ 64 → FitsChange x → Reads kept s0 s1 source areas.Log → AppliesOne kept s1 s2 target x → IfSome (sees kept s0 source) (λ c. IsNextKey (c areas.Log 0) (b64 after) (b64 number) (change_spelling x)) → AppliesNext kept s0 s2 source target after high (Some number)
+  pub apply_found : (s0 s1 s2 : Sites K) (source target after high number : ℕ) (x : Change) → IsOpenAt (work kept s0) target → IsClosedAt (work kept s0) source → after < 2 ^ 64 → number < 2 ^ 64 → FitsChange x → Reads kept s0 s1 source areas.Log → AppliesOne kept s1 s2 target x → IfSome (sees kept s0 source) (λ c. IsNextKey (c areas.Log 0) (b64 after) (b64 number) (numbered_change_spelling x)) → AppliesNext kept s0 s2 source target after high (Some number)
   apply_found s0 s1 s2 source target after high number x open_at closed la ln fits read one saw = record {
     works = works_on kept s0 s1 s2 target (reads_of_one 1 source areas.Log) (writes_of_one 1 target areas.Target) (in_applying 1 1 source target) (λ c d. d ≡ c) (Makes x) (Applies (held kept s0) source after number) open_at (at_most_itself (in_applying 1 1 source target)) (works_read kept s0 s1 target (reads_of_one 1 source areas.Log) (reads_of_one 1 source areas.Log) (λ c d. d ≡ c) open_at (at_most_itself (reads_of_one 1 source areas.Log)) read.stays (λ c d same. same)) one (λ c d e same made.
         let from_c = subst (λ (f : Contents). Makes x f e) same made in
@@ -43,7 +43,7 @@ module _ {K : Type 0} (kept : K → Kept) where
   }
     where
       alone : (changes : List (ℕ × Change)) → HasChanges (held kept s0) source changes → numbers_between after number changes ≡ (number, x) ∷ []
-      alone changes has = up_to_next after number x changes (found_next after number x changes la ln fits has.are (source_has s0 source changes (λ t. IsNextKey t (b64 after) (b64 number) (change_spelling x)) closed has saw))
+      alone changes has = up_to_next after number x changes (found_next after number x changes la ln fits has.are (source_has s0 source changes (λ t. IsNextKey t (b64 after) (b64 number) (numbered_change_spelling x)) closed has saw))
 
   -- what was read shows that none is left
   apply_none : (s0 s1 : Sites K) (source target after high : ℕ) → IsOpenAt (work kept s0) target → Reads kept s0 s1 source areas.Log → ((changes : List (ℕ × Change)) → HasChanges (held kept s0) source changes → numbers_between after high changes ≡ []) → AppliesNext kept s0 s1 source target after high None
@@ -60,8 +60,8 @@ module _ {K : Type 0} (kept : K → Kept) where
   apply_last s0 s1 source target after high open_at closed la le read saw = apply_none s0 s1 source target after high open_at read (λ changes has. none_last after high changes le la has.are (source_has s0 source changes (λ t. IsLastKey t (b64 after)) closed has saw))
 
   -- the next change is past the end
-  pub apply_past : (s0 s1 : Sites K) (source target after high number : ℕ) (x : Change) → IsOpenAt (work kept s0) target → IsClosedAt (work kept s0) source → after < 2 ^ 64 → after ≤ high → number < 2 ^ 64 → high < number → FitsChange x → Reads kept s0 s1 source areas.Log → IfSome (sees kept s0 source) (λ c. IsNextKey (c areas.Log 0) (b64 after) (b64 number) (change_spelling x)) → AppliesNext kept s0 s1 source target after high None
-  apply_past s0 s1 source target after high number x open_at closed la le ln lt fits read saw = apply_none s0 s1 source target after high open_at read (λ changes has. none_past after high number x changes le lt (found_next after number x changes la ln fits has.are (source_has s0 source changes (λ t. IsNextKey t (b64 after) (b64 number) (change_spelling x)) closed has saw)))
+  pub apply_past : (s0 s1 : Sites K) (source target after high number : ℕ) (x : Change) → IsOpenAt (work kept s0) target → IsClosedAt (work kept s0) source → after < 2 ^ 64 → after ≤ high → number < 2 ^ 64 → high < number → FitsChange x → Reads kept s0 s1 source areas.Log → IfSome (sees kept s0 source) (λ c. IsNextKey (c areas.Log 0) (b64 after) (b64 number) (numbered_change_spelling x)) → AppliesNext kept s0 s1 source target after high None
+  apply_past s0 s1 source target after high number x open_at closed la le ln lt fits read saw = apply_none s0 s1 source target after high open_at read (λ changes has. none_past after high number x changes le lt (found_next after number x changes la ln fits has.are (source_has s0 source changes (λ t. IsNextKey t (b64 after) (b64 number) (numbered_change_spelling x)) closed has saw)))
 
   -- ---- the loop
 

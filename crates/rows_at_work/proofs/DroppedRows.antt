@@ -1,6 +1,6 @@
 -- The rows of one transaction are removed, the first of them each time.
 use Rattle.std.proofs.Common.{◌≡◌, ℕ, ◌^◌, ◌<◌, Bool, true, false, cond, List, [], ◌∷◌, length, drop, refl, sym, ap, subst, ◌∙◌, arith}
-use Rattle.std.specs.Prelude.{Option, Some, None, ◌==◌, not, filter}
+use Rattle.std.specs.Prelude.{Option, Some, None, ◌==◌, not}
 use Rattle.std.specs.List.{AllByRecursion}
 use Rattle.std.specs.Ordering.{nat_cmp, ordering_then}
 use Rattle.std.specs.Cmp.{nat_cmp_is, ranked}
@@ -23,41 +23,13 @@ use Rattle.repl_records.specs.declared.source_side.InFlight.{InFlight}
 use Rattle.rows_in_order.specs.Rows.{AllAfter, NoneAfter, IsRising, without_row, begins_with, with_prefix, SpellsApart, NextRow}
 use Rattle.rows_in_order.specs.laws.Before.{not_both}
 use Rattle.rows_in_order.specs.laws.Changed.{rises_without, without_absent, without_split}
-use Rattle.rows_in_order.specs.laws.Filtered.{all_weaker, all_filter, all_kept, filter_alike}
+use Rattle.rows_in_order.specs.laws.Filtered.{all_weaker, all_filter, all_kept, filter_alike, filters_commute, filter_others}
 use Rattle.rows_in_order.specs.laws.Fitting.{fits_each, fits_removed, fits_next}
 use Rattle.rows_in_order.specs.laws.Found.{first_row, no_first_row, next_of, row_of}
 use Rattle.rows_in_order.specs.laws.Prefixed.{begins_longer, begins_parts, prefix_next, prefix_last, prefix_past}
 use Rattle.rows_in_order.specs.laws.Rising.{filter_rises, no_row}
 use Rattle.rows_in_order.specs.laws.Written.{written_removed}
 use Rattle.rows_at_work.specs.Dropping.{Row, FitsRow, AreInFlight, in_flight_table, of_transaction, of_others, StandFrom, AreLeft}
-
--- ---- filters
-
--- two filters may be applied in either order
-filters_commute : {X : Type 0} (p q : X → Bool) (xs : List X) → filter p (filter q xs) ≡ filter q (filter p xs)
-filters_commute p q [] = refl
-filters_commute {X} p q (x ∷ xs) = pick (p x) refl (q x) refl (filters_commute p q xs)
-  where
-    first : (t : Bool) → p x ≡ t → filter p (x ∷ filter q xs) ≡ cond t (x ∷ filter p (filter q xs)) (filter p (filter q xs))
-    first t e = ap (λ (b : Bool). cond b (x ∷ filter p (filter q xs)) (filter p (filter q xs))) e
-
-    second : (t : Bool) → q x ≡ t → filter q (x ∷ filter p xs) ≡ cond t (x ∷ filter q (filter p xs)) (filter q (filter p xs))
-    second t e = ap (λ (b : Bool). cond b (x ∷ filter q (filter p xs)) (filter q (filter p xs))) e
-
-    pick : (s : Bool) → p x ≡ s → (t : Bool) → q x ≡ t → filter p (filter q xs) ≡ filter q (filter p xs) → filter p (cond t (x ∷ filter q xs) (filter q xs)) ≡ filter q (cond s (x ∷ filter p xs) (filter p xs))
-    pick true e true f rest = first true e ∙ ap (λ (l : List X). x ∷ l) rest ∙ sym (second true f)
-    pick true e false f rest = rest ∙ sym (second false f)
-    pick false e true f rest = first false e ∙ rest
-    pick false e false f rest = rest
-
--- if none passes a test, all pass the opposite
-all_others : {X : Type 0} (p : X → Bool) (xs : List X) → filter p xs ≡ [] → filter (λ x. not (p x)) xs ≡ xs
-all_others p [] none = refl
-all_others {X} p (x ∷ xs) none = pick (p x) none (all_others p xs)
-  where
-    pick : (t : Bool) → cond t (x ∷ filter p xs) (filter p xs) ≡ [] → (filter p xs ≡ [] → filter (λ y. not (p y)) xs ≡ xs) → cond (not t) (x ∷ filter (λ y. not (p y)) xs) (filter (λ y. not (p y)) xs) ≡ x ∷ xs
-    pick true none rest = absurd cc
-    pick false none rest = ap (λ (l : List X). x ∷ l) (rest none)
 
 -- ---- keys
 
@@ -173,4 +145,4 @@ none_past tx after k e c rows ft fk ne read stand =
 
 -- if the transaction has none left, the others are all
 pub others_all : (tx : ℕ) (rows : List Row) → of_transaction tx rows ≡ [] → of_others tx rows ≡ rows
-others_all tx rows none = all_others (λ r. r.0.tx == tx) rows none
+others_all tx rows none = filter_others (λ r. r.0.tx == tx) rows none

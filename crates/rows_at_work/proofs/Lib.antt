@@ -3,3 +3,5 @@ pub mod ApplyCalls
 pub mod DropCalls
 pub mod DroppedRows
 pub mod Evidence
+pub mod HistoryCalls
+pub mod HistoryRows

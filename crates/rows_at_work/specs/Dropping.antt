@@ -9,7 +9,7 @@ use Rattle.repl_records.specs.RecordKeys.{in_flight_key_spelling, IsInFlightKey}
 use Rattle.repl_records.specs.SourceSide.{in_flight_spelling}
 use Rattle.repl_records.specs.declared.record_keys.InFlightKey.{InFlightKey}
 use Rattle.repl_records.specs.declared.source_side.InFlight.{InFlight}
-use Rattle.rows_in_order.specs.Rows.{table_of, AllAfter, IsRising}
+use Rattle.rows_in_order.specs.Rows.{table_from_rows, AllAfter, IsRising}
 use Rattle.site_store.specs.declared.sites.Sites.{Sites}
 use Rattle.site_store.specs.Calls.{Bounds, reads_and_writes}
 use Rattle.site_store.specs.Steps.{ChangesOne, WorksOn}
@@ -30,7 +30,7 @@ pub record AreInFlight (rows : List Row) : Type 0 where
 
 -- the table of changes in flight
 abbrev pub in_flight_table : List Row → Table
-in_flight_table rows = table_of in_flight_key_spelling in_flight_spelling rows
+in_flight_table rows = table_from_rows in_flight_key_spelling in_flight_spelling rows
 
 -- the changes that a transaction has in flight
 abbrev pub of_transaction : ℕ → List Row → List Row

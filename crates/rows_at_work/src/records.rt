@@ -6,7 +6,7 @@ ghost use Rattle.row_codec.specs.Spelling.{b64, Is64, Any};
 ghost use Rattle.row_codec.specs.laws.Numbers.{one64};
 ghost use Rattle.row_codec.specs.laws.Ones.{one_by};
 ghost use Rattle.row_codec.specs.laws.Sizes.{value64};
-ghost use Rattle.rows_at_work.specs.Records.{change_spelling, FitsChange};
+ghost use Rattle.rows_at_work.specs.Records.{numbered_change_spelling, FitsChange};
 ghost use Rattle.rows_at_work.specs.laws.Records.{one_change, small_change};
 
 use repl_types::Area;
@@ -32,7 +32,7 @@ impl Part for Change {
 
     ghost has_spelling = { Any };
 
-    ghost spelling = { change_spelling };
+    ghost spelling = { numbered_change_spelling };
 
     ghost one = { one_change };
 

@@ -11,7 +11,7 @@ use Rattle.faults.specs.declared.fault.Fault.{Fault}
 use Rattle.keep_core.specs.Contents.{Contents, Table, IsNextKey, IsLastKey, set_key, with_table}
 use Rattle.keep_core.specs.Kept.{Kept, seen_of}
 use Rattle.row_codec.specs.Spelling.{b64}
-use Rattle.rows_in_order.specs.Rows.{table_of}
+use Rattle.rows_in_order.specs.Rows.{table_from_rows}
 use Rattle.rows_in_order.specs.laws.Numbered.{numbered_at, numbered_next, numbered_last, numbered_push}
 use Rattle.site_store.specs.declared.sites.Sites.{Sites}
 use Rattle.site_store.specs.Views.{held, work, sees, IsOpenAt, IsClosedAt}
@@ -82,7 +82,7 @@ one_copied w sound after place is le =
     let one : 1 + length (take after w.numbers) ≡ place = omega (arith, count, is) in
     ap (λ (n : ℕ). set_key (numbered (take after w.numbers)) (b64 n) (Some (b64 x))) (sym one)
     ∙ sym (numbered_push b64 (2 ^ 64) numbers_in_order b64 1 (take after w.numbers) x (omega (arith, count, is, sound.short)))
-    ∙ ap (λ (l : List ℕ). table_of b64 b64 (enumerate_from 1 l)) (sym (take_more w.numbers after 0 (omega (arith, is))) ∙ ap (λ (n : ℕ). take n w.numbers) (sym is))
+    ∙ ap (λ (l : List ℕ). table_from_rows b64 b64 (enumerate_from 1 l)) (sym (take_more w.numbers after 0 (omega (arith, is))) ∙ ap (λ (n : ℕ). take n w.numbers) (sym is))
 
 -- nothing is copied if nothing changes
 copies_nothing : (h : List (Option Contents)) (source from : ℕ) (c d : Contents) → d ≡ c → Copies h source from from c d

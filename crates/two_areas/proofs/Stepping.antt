@@ -12,7 +12,7 @@ use Rattle.keep_core.specs.Kept.{Kept, seen_of}
 use Rattle.row_codec.specs.Spelling.{b64, Is64}
 use Rattle.row_codec.specs.laws.Numbers.{one64}
 use Rattle.row_codec.specs.laws.Ones.{one_whole}
-use Rattle.rows_in_order.specs.Rows.{table_of}
+use Rattle.rows_in_order.specs.Rows.{table_from_rows}
 use Rattle.rows_in_order.specs.laws.Rising.{same_itself}
 use Rattle.site_store.specs.declared.sites.Sites.{Sites}
 use Rattle.site_store.specs.Records.{or_first, StateIs}
@@ -46,14 +46,14 @@ number_is m n lm ln e = one_whole Is64 b64 one64 m n lm ln e
 -- ---- the count
 
 -- what is shown of the count is what it is read as
-count_shown : (t : Table) (n : ℕ) → with_count t ≡ table_of b64 b64 ((0, n) ∷ []) → or_first b64 0 (t (b64 0)) ≡ b64 n
+count_shown : (t : Table) (n : ℕ) → with_count t ≡ table_from_rows b64 b64 ((0, n) ∷ []) → or_first b64 0 (t (b64 0)) ≡ b64 n
 count_shown t n e = inside (or_first b64 0 (t (b64 0))) (b64 n) (sym (ap (λ (s : Bool). cond s (Some (or_first b64 0 (t (b64 0)))) (t (b64 0))) (same_itself (b64 0))) ∙ ap (λ (f : Table). f (b64 0)) e ∙ ap (λ (s : Bool). cond s (Some (b64 n)) None) (same_itself (b64 0)))
   where
     inside : (x y : List ℕ) → ◌≡◌ {A = Option (List ℕ)} (Some x) (Some y) → x ≡ y
     inside x y e = cc
 
 -- a count that is put is shown
-count_put : (t : Table) (n m : ℕ) → with_count t ≡ table_of b64 b64 ((0, n) ∷ []) → with_count (set_key t (b64 0) (Some (b64 m))) ≡ table_of b64 b64 ((0, m) ∷ [])
+count_put : (t : Table) (n m : ℕ) → with_count t ≡ table_from_rows b64 b64 ((0, n) ∷ []) → with_count (set_key t (b64 0) (Some (b64 m))) ≡ table_from_rows b64 b64 ((0, m) ∷ [])
 count_put t n m e = λ i k. at k i
   where
     here : set_key t (b64 0) (Some (b64 m)) (b64 0) ≡ Some (b64 m)
@@ -63,7 +63,7 @@ count_put t n m e = λ i k. at k i
     pick k true same = ap (λ (o : Option (List ℕ)). Some (or_first b64 0 o)) here
     pick k false other = sym (ap (λ (s : Bool). cond s (Some (or_first b64 0 (t (b64 0)))) (t k)) other) ∙ ap (λ (f : Table). f k) e ∙ ap (λ (s : Bool). cond s (Some (b64 n)) None) other
 
-    at : (k : List ℕ) → with_count (set_key t (b64 0) (Some (b64 m))) k ≡ table_of b64 b64 ((0, m) ∷ []) k
+    at : (k : List ℕ) → with_count (set_key t (b64 0) (Some (b64 m))) k ≡ table_from_rows b64 b64 ((0, m) ∷ []) k
     at k = pick k (same_key (b64 0) k) refl
 
 -- ---- what stands
@@ -75,7 +75,7 @@ target_after w c d e to most is shows first last a t = subst (λ (f : Contents).
     at : (a : Area) (t : ℕ) → shown a t (put_at (with_table c areas.Target 0 (numbered (take to w.numbers))) areas.Capture 0 (b64 0) (Some (b64 to)) a t) ≡ target_tables (copied most w) a t
     at areas.Target zero = ap (λ (n : ℕ). numbered (take n w.numbers)) is
     at areas.Target (suc t) = ap (λ (s : Bool). cond s (numbered (take to w.numbers)) (c areas.Target (suc t))) (other_table t) ∙ shows areas.Target (suc t)
-    at areas.Capture zero = count_put (c areas.Capture 0) w.taken to (shows areas.Capture 0) ∙ ap (λ (n : ℕ). table_of b64 b64 ((0, n) ∷ [])) is
+    at areas.Capture zero = count_put (c areas.Capture 0) w.taken to (shows areas.Capture 0) ∙ ap (λ (n : ℕ). table_from_rows b64 b64 ((0, n) ∷ [])) is
     at areas.Capture (suc t) = ap (λ (s : Bool). cond s (set_key (c areas.Capture 0) (b64 0) (Some (b64 to))) (c areas.Capture (suc t))) (other_table t) ∙ shows areas.Capture (suc t)
     at a t = shows a t
 

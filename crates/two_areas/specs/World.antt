@@ -8,7 +8,7 @@ use Rattle.faults.specs.declared.fault.Fault.{Fault}
 use Rattle.faults.specs.declared.fault.Fault.TheVariants as faults
 use Rattle.keep_core.specs.Contents.{Contents, Table, nothing, same_key, with_table}
 use Rattle.row_codec.specs.Spelling.{b64, Is64}
-use Rattle.rows_in_order.specs.Rows.{table_of}
+use Rattle.rows_in_order.specs.Rows.{table_from_rows}
 use Rattle.site_store.specs.Records.{or_first}
 use Rattle.keep_core.specs.Kept.{Kept}
 use Rattle.site_store.specs.declared.sites.Sites.{Sites}
@@ -35,18 +35,18 @@ copied most w = record w { taken = min (w.taken + most) (length w.numbers) }
 
 -- the numbers at their places, from 1 on
 abbrev pub numbered : List ℕ → Table
-numbered xs = table_of b64 b64 (enumerate_from 1 xs)
+numbered xs = table_from_rows b64 b64 (enumerate_from 1 xs)
 
 -- what the source has; a missing count stands for 0 there too
 abbrev pub source_tables : World → Area → ℕ → Table
 source_tables w areas.Log zero = numbered w.numbers
-source_tables w areas.Capture zero = table_of b64 b64 ((0, 0) ∷ [])
+source_tables w areas.Capture zero = table_from_rows b64 b64 ((0, 0) ∷ [])
 source_tables w a t = nothing a t
 
 -- what the target has
 abbrev pub target_tables : World → Area → ℕ → Table
 target_tables w areas.Target zero = numbered (take w.taken w.numbers)
-target_tables w areas.Capture zero = table_of b64 b64 ((0, w.taken) ∷ [])
+target_tables w areas.Capture zero = table_from_rows b64 b64 ((0, w.taken) ∷ [])
 target_tables w a t = nothing a t
 
 -- a table with the count that a missing record stands for

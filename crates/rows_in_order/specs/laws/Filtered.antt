@@ -1,6 +1,6 @@
 -- Filters of lists.
-use Rattle.std.proofs.Common.{◌≡◌, Bool, true, false, cond, List, [], ◌∷◌, ◌++◌, refl, ap, subst, ◌∙◌}
-use Rattle.std.specs.Prelude.{filter}
+use Rattle.std.proofs.Common.{◌≡◌, Bool, true, false, cond, List, [], ◌∷◌, ◌++◌, refl, sym, ap, subst, ◌∙◌}
+use Rattle.std.specs.Prelude.{filter, not}
 use Rattle.std.specs.List.{AllByRecursion}
 
 -- what holds of all may be weakened
@@ -53,3 +53,29 @@ all_at {X} P xs x front back split all = at front (subst (AllByRecursion P) spli
     at : (front : List X) → AllByRecursion P (front ++ x ∷ back) → P x
     at [] all = all.0
     at (y ∷ ys) all = at ys all.1
+
+-- two filters may be applied in either order
+pub filters_commute : {X : Type 0} (p q : X → Bool) (xs : List X) → filter p (filter q xs) ≡ filter q (filter p xs)
+filters_commute p q [] = refl
+filters_commute {X} p q (x ∷ xs) = pick (p x) refl (q x) refl (filters_commute p q xs)
+  where
+    first : (t : Bool) → p x ≡ t → filter p (x ∷ filter q xs) ≡ cond t (x ∷ filter p (filter q xs)) (filter p (filter q xs))
+    first t e = ap (λ (b : Bool). cond b (x ∷ filter p (filter q xs)) (filter p (filter q xs))) e
+
+    second : (t : Bool) → q x ≡ t → filter q (x ∷ filter p xs) ≡ cond t (x ∷ filter q (filter p xs)) (filter q (filter p xs))
+    second t e = ap (λ (b : Bool). cond b (x ∷ filter q (filter p xs)) (filter q (filter p xs))) e
+
+    pick : (s : Bool) → p x ≡ s → (t : Bool) → q x ≡ t → filter p (filter q xs) ≡ filter q (filter p xs) → filter p (cond t (x ∷ filter q xs) (filter q xs)) ≡ filter q (cond s (x ∷ filter p xs) (filter p xs))
+    pick true e true f rest = first true e ∙ ap (λ (l : List X). x ∷ l) rest ∙ sym (second true f)
+    pick true e false f rest = rest ∙ sym (second false f)
+    pick false e true f rest = first false e ∙ rest
+    pick false e false f rest = rest
+
+-- if none passes a test, all pass the opposite
+pub filter_others : {X : Type 0} (p : X → Bool) (xs : List X) → filter p xs ≡ [] → filter (λ x. not (p x)) xs ≡ xs
+filter_others p [] none = refl
+filter_others {X} p (x ∷ xs) none = pick (p x) none (filter_others p xs)
+  where
+    pick : (t : Bool) → cond t (x ∷ filter p xs) (filter p xs) ≡ [] → (filter p xs ≡ [] → filter (λ y. not (p y)) xs ≡ xs) → cond (not t) (x ∷ filter (λ y. not (p y)) xs) (filter (λ y. not (p y)) xs) ≡ x ∷ xs
+    pick true none rest = absurd cc
+    pick false none rest = ap (λ (l : List X). x ∷ l) (rest none)

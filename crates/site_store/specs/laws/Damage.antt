@@ -13,7 +13,7 @@ use Rattle.faults.specs.declared.fault.Fault.{Fault}
 use Rattle.faults.specs.declared.fault.Fault.TheVariants as faults
 use Rattle.keep_core.specs.Contents.{Contents, same_key, put_at, IsNextKey}
 use Rattle.keep_core.specs.Kept.{Kept, seen_of}
-use Rattle.rows_in_order.specs.Rows.{table_of}
+use Rattle.rows_in_order.specs.Rows.{table_from_rows}
 use Rattle.rows_in_order.specs.laws.Found.{row_of}
 use Rattle.rows_in_order.specs.laws.Rising.{same_is}
 use Rattle.site_store.specs.declared.sites.Sites.{Sites}
@@ -81,7 +81,7 @@ one_of_all P [] x back all = all.0
 one_of_all P (y ∷ ys) x back all = one_of_all P ys x back all.1
 
 -- an entry of a table that is made of rows is a key and a value, if each row is spelt as such
-pub rows_spelt : {A X : Type 0} (rules : Rules) (a : Area) (t : ℕ) (key : A → List ℕ) (value : X → List ℕ) (rows : List (A × X)) (k v : List ℕ) → AllByRecursion (λ r. rules.is_key a t (key r.0) × rules.is_value a t (value r.1)) rows → table_of key value rows k ≡ Some v → rules.is_key a t k × rules.is_value a t v
+pub rows_spelt : {A X : Type 0} (rules : Rules) (a : Area) (t : ℕ) (key : A → List ℕ) (value : X → List ℕ) (rows : List (A × X)) (k v : List ℕ) → AllByRecursion (λ r. rules.is_key a t (key r.0) × rules.is_value a t (value r.1)) rows → table_from_rows key value rows k ≡ Some v → rules.is_key a t k × rules.is_value a t v
 rows_spelt {A} {X} rules a t key value rows k v all has =
     let r = row_of key value rows k v has in
     let P = λ (q : A × X). rules.is_key a t (key q.0) × rules.is_value a t (value q.1) in

@@ -1,6 +1,6 @@
 -- Laws of steps inside a transaction, one after another: proofs, and nothing to believe.
 use Rattle.std.proofs.Common.{◌≡◌, ℕ, List, refl, sym, ap, subst, ◌∙◌}
-use Rattle.std.specs.Prelude.{Option, Some, None}
+use Rattle.std.specs.Prelude.{Option, Some, None, IfSome}
 use Rattle.repl_types.specs.declared.area.Area.{Area}
 use Rattle.repl_types.specs.declared.status.DamageCause.{DamageCause}
 use Rattle.keep_core.specs.Contents.{Contents, put_at}
@@ -8,14 +8,14 @@ use Rattle.keep_core.specs.Kept.{Kept}
 use Rattle.rows_in_order.specs.laws.Written.{put_other_table, put_other_area}
 use Rattle.faults.specs.declared.fault.Fault.{Fault}
 use Rattle.site_store.specs.declared.sites.Sites.{Sites}
-use Rattle.site_store.specs.Views.{work, sees, IsOpenAt}
+use Rattle.site_store.specs.Views.{held, work, sees, IsOpenAt}
 use Rattle.site_store.specs.Works.{Sets}
-use Rattle.site_store.specs.Calls.{Bounds, both, reads_of_one, writes_of_one, AtServer, Stays, Puts, Fails}
+use Rattle.site_store.specs.Calls.{Bounds, both, reads_of_one, writes_of_one, AtServer, Stays, Reads, Puts, Fails}
 use Rattle.site_store.specs.Records.{Misread, Misspelt, MisspeltNext}
 use Rattle.site_store.specs.Damage.{Rules, AddsOnlySpelt, Shows, ShownBefore, Damages}
 use Rattle.site_store.specs.Steps.{ChangesOne, WorksOn}
 use Rattle.site_store.specs.laws.Counts.{IsAtMost, passes_none, passes_within, passes_then}
-use Rattle.site_store.specs.laws.Transactions.{open_below, works_start, works_then, works_seen}
+use Rattle.site_store.specs.laws.Transactions.{open_below, works_start, works_then, works_seen, seen_work}
 use Rattle.site_store.specs.laws.Damage.{adds_nothing, adds_put, adds_remove, adds_then, shows_at, misspelt_shows, misspelt_next_shows, fails_by, fails_within, fails_in_work}
 
 -- nothing changed
@@ -67,6 +67,14 @@ module _ {K : Type 0} (kept : K → Kept) where
     works = works_seen (work kept s0) (work kept s0) (work kept s1) server (λ c d. d ≡ c) R (open_below (work kept s0) server open_at) (works_start (work kept s0) server open_at) stays.work (λ c d is same. step c d same);
   }
 
+  -- a read found something
+  pub works_saw : (s0 s1 : Sites K) (server : ℕ) (a : Area) (most : Bounds) (N : Contents → Type 0) (R : Contents → Contents → Type 0) → IsOpenAt (work kept s0) server → IsAtMost (reads_of_one 1 server a) most → Reads kept s0 s1 server a → IfSome (sees kept s0 server) N → ((c d : Contents) → N c → d ≡ c → R c d) → WorksOn kept s0 s1 server most R
+  works_saw s0 s1 server a most N R open_at le read saw step = record {
+    passes = passes_within kept s0 s1 (reads_of_one 1 server a) most read.stays.passes le;
+    held = read.stays.held;
+    works = works_seen (work kept s0) (work kept s0) (work kept s1) server (λ c d. d ≡ c) R (open_below (work kept s0) server open_at) (works_start (work kept s0) server open_at) read.stays.work (λ c d here same. step c d (subst N same (seen_work (held kept s0) (work kept s0) server d N here saw)) same);
+  }
+
   -- something was written
   pub works_put : (s0 s1 : Sites K) (server : ℕ) (a : Area) (t : ℕ) (k : List ℕ) (v : Option (List ℕ)) (R : Contents → Contents → Type 0) → IsOpenAt (work kept s0) server → Puts kept s0 s1 server a t k v → ((c d : Contents) → d ≡ put_at c a t k v → R c d) → WorksOn kept s0 s1 server (writes_of_one 1 server a) R
   works_put s0 s1 server a t k v R open_at put step = record {
@@ -81,6 +89,14 @@ module _ {K : Type 0} (kept : K → Kept) where
     passes = passes_then kept s0 s1 s2 x y z first.passes second.passes most;
     held = second.held ∙ first.held;
     works = works_then (work kept s0) (work kept s1) (work kept s2) server P Q R (open_below (work kept s0) server open_at) first.works second.works (λ c d e is p q. step c d e p q);
+  }
+
+  -- a step did what follows from what it did
+  pub works_as : (s0 s1 : Sites K) (server : ℕ) (most : Bounds) (P R : Contents → Contents → Type 0) → IsOpenAt (work kept s0) server → WorksOn kept s0 s1 server most P → ((c d : Contents) → P c d → R c d) → WorksOn kept s0 s1 server most R
+  works_as s0 s1 server most P R open_at w step = record {
+    passes = w.passes;
+    held = w.held;
+    works = works_seen (work kept s0) (work kept s1) (work kept s1) server P R (open_below (work kept s0) server open_at) w.works refl (λ c d here p. step c d p);
   }
 
   -- a step fails after others
