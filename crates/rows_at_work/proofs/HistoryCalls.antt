@@ -58,7 +58,7 @@ module _ {K : Type 0} (kept : K → Kept) where
       (works_put kept s1 s2 server areas.Cd t k v (λ c d. d ≡ put_at c areas.Cd t k v) (subst (λ (l : List (Option (Option Contents))). IsOpenAt l server) (sym read.stays.work) open_at) put (λ c d sets. sets))
       (λ c d e first sets. step c e first.0 (subst (λ (f : Contents). e ≡ put_at f areas.Cd t k v) first.1 sets))
 
-  -- a step says less, too
+  -- what a step does, said more weakly
   works_as : (s0 s1 : Sites K) (server : ℕ) (most : Bounds) (P R : Contents → Contents → Type 0) → IsOpenAt (work kept s0) server → WorksOn kept s0 s1 server most P → ((c d : Contents) → P c d → R c d) → WorksOn kept s0 s1 server most R
   works_as s0 s1 server most P R open_at w step = record {
     passes = w.passes;

@@ -78,7 +78,7 @@ pub rank_rises : (last : Option CdKey) (key : CdKey) → IfSome last IsChangeKey
 rank_rises None key fit fits less = omega arith
 rank_rises (Some k) key fit fits less = omega (arith, key_rises k key fit fits less)
 
--- there are at most so many keys
+-- the rank of a key is at most the number of keys
 pub rank_small : (last : Option CdKey) → IfSome last IsChangeKey → rank_of last ≤ 2 ^ 144
 rank_small None fit = omega arith
 rank_small (Some k) fit = omega (arith, fit.0, fit.1.0, fit.1.1)
