@@ -11,7 +11,7 @@ use Rattle.rows_in_order.specs.Numbers.{NextNumber, numbers_between, with_number
 use Rattle.rows_in_order.specs.laws.BetweenNumbers.{numbers_nothing, numbers_first, numbers_yet, numbers_none, numbers_parts}
 use Rattle.rows_in_order.specs.laws.ByNumber.{read_next, read_last}
 use Rattle.rows_in_order.specs.laws.ChangedNumbers.{with_below, without_below, put_number, remove_number, number_put_rises, number_removed_rises}
-use Rattle.rows_in_order.specs.laws.Filtered.{all_weaker}
+use Rattle.repl_types.specs.laws.Lists.{all_weaker}
 use Rattle.rows_in_order.specs.laws.Written.{put_here}
 use Rattle.rows_at_work.specs.declared.records.Change.{Change}
 use Rattle.rows_at_work.specs.declared.records.CopiedRow.{CopiedRow}

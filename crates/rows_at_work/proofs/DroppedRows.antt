@@ -23,7 +23,8 @@ use Rattle.repl_records.specs.declared.source_side.InFlight.{InFlight}
 use Rattle.rows_in_order.specs.Rows.{AllAfter, NoneAfter, IsRising, without_row, begins_with, with_prefix, SpellsApart, NextRow}
 use Rattle.rows_in_order.specs.laws.Before.{not_both}
 use Rattle.rows_in_order.specs.laws.Changed.{rises_without, without_absent, without_split}
-use Rattle.rows_in_order.specs.laws.Filtered.{all_weaker, all_filter, all_kept, filter_alike, filters_commute, filter_others}
+use Rattle.repl_types.specs.laws.Lists.{all_weaker, all_filter, filter_alike}
+use Rattle.rows_in_order.specs.laws.Filtered.{all_kept, filters_commute, filter_others}
 use Rattle.rows_in_order.specs.laws.Fitting.{fits_each, fits_removed, fits_next}
 use Rattle.rows_in_order.specs.laws.Found.{first_row, no_first_row, next_of, row_of}
 use Rattle.rows_in_order.specs.laws.Prefixed.{begins_longer, begins_parts, prefix_next, prefix_last, prefix_past}

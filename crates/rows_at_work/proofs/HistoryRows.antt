@@ -24,7 +24,7 @@ use Rattle.rows_in_order.specs.Rows.{is_before, IsUpTo, between, rows_after, Spe
 use Rattle.rows_in_order.specs.laws.After.{after_all, after_first, after_next, after_yet, after_none, next_after, last_after}
 use Rattle.rows_in_order.specs.laws.Before.{upto_itself}
 use Rattle.rows_in_order.specs.laws.Changed.{rises_with}
-use Rattle.rows_in_order.specs.laws.Filtered.{all_weaker, all_append, all_filter}
+use Rattle.repl_types.specs.laws.Lists.{all_weaker, all_append, all_filter}
 use Rattle.rows_in_order.specs.laws.Fitting.{fits_each, fits_put, fits_next}
 use Rattle.rows_in_order.specs.laws.Found.{all_some, row_of}
 use Rattle.rows_in_order.specs.laws.Rising.{between_first, between_nothing, between_yet, between_none, between_parts, filter_rises, rises_push, no_row, found_row}
@@ -79,7 +79,7 @@ pub rank_rises : (last : Option CdKey) (key : CdKey) → IfSome last IsChangeKey
 rank_rises None key fit fits less = omega arith
 rank_rises (Some k) key fit fits less = omega (arith, key_rises k key fit fits less)
 
--- there are at most so many keys
+-- the rank of a key is at most the number of keys
 pub rank_small : (last : Option CdKey) → IfSome last IsChangeKey → rank_of last ≤ 2 ^ 144
 rank_small None fit = omega arith
 rank_small (Some k) fit = omega (arith, fit.0, fit.1.0, fit.1.1)

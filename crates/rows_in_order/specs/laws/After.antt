@@ -9,7 +9,7 @@ use Rattle.keep_core.specs.Contents.{IsNextKey, IsLastKey}
 use Rattle.rows_in_order.specs.Rows.{is_before, IsUpTo, table_from_rows, AllAfter, NoneAfter, rows_after, NextRow}
 use Rattle.rows_in_order.specs.laws.Before.{order, not_back, upto_itself, upto_trans}
 use Rattle.rows_in_order.specs.laws.Changed.{filter_at}
-use Rattle.rows_in_order.specs.laws.Filtered.{all_weaker, filter_none, filter_all}
+use Rattle.repl_types.specs.laws.Lists.{all_weaker, filter_none, filter_all}
 use Rattle.rows_in_order.specs.laws.Rising.{at_seam}
 
 module _ {A X : Type 0} (key : A → List ℕ) where

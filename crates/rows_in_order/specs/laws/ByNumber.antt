@@ -11,7 +11,7 @@ use Rattle.repl_types.specs.Bytes.{bytes_cmp}
 use Rattle.keep_core.specs.Contents.{IsNextKey, IsLastKey, same_key}
 use Rattle.rows_in_order.specs.Rows.{is_before, IsUpTo, table_from_rows, AllBefore, AllAfter, NoneAfter, IsRising, IsToldApart, between, NextRow}
 use Rattle.rows_in_order.specs.Numbers.{SpellsInOrder, AllBelow, AllAbove, NoneAbove, NumbersRise, numbers_between, NextNumber}
-use Rattle.rows_in_order.specs.laws.Filtered.{filter_alike}
+use Rattle.repl_types.specs.laws.Lists.{filter_alike}
 use Rattle.rows_in_order.specs.laws.Rising.{part, next_row, no_row}
 
 -- ---- tests

@@ -10,10 +10,11 @@ use Rattle.repl_types.specs.Bytes.{bytes_cmp}
 use Rattle.keep_core.specs.Contents.{same_key, set_key}
 use Rattle.rows_in_order.specs.Rows.{is_before, table_from_rows, AllBefore, AllAfter, IsRising, with_row, without_row}
 use Rattle.rows_in_order.specs.laws.Before.{order, is_less}
-use Rattle.rows_in_order.specs.laws.Filtered.{all_weaker, all_append, all_kept, filter_all}
+use Rattle.repl_types.specs.laws.Lists.{all_weaker, all_append, filter_all}
+use Rattle.rows_in_order.specs.laws.Filtered.{all_kept}
 use Rattle.rows_in_order.specs.laws.Rising.{same_itself, same_is, differ, filter_rises, no_row_at}
 
--- the first of two where it is something, else the second
+-- the first of two if it is something, else the second
 abbrev pub or_else : Option (List ℕ) → Option (List ℕ) → Option (List ℕ)
 or_else None other = other
 or_else (Some v) other = Some v

@@ -4,7 +4,7 @@ use Rattle.std.specs.Prelude.{Some, None, ltb, not, ◌==◌, filter}
 use Rattle.keep_core.specs.Contents.{same_key, set_key}
 use Rattle.rows_in_order.specs.Rows.{is_before, table_from_rows, IsRising, with_row, without_row}
 use Rattle.rows_in_order.specs.Numbers.{SpellsInOrder, AllBelow, NumbersRise, with_number, without_number}
-use Rattle.rows_in_order.specs.laws.Filtered.{filter_alike, all_weaker, all_append, all_filter}
+use Rattle.repl_types.specs.laws.Lists.{filter_alike, all_weaker, all_append, all_filter}
 use Rattle.rows_in_order.specs.laws.Changed.{table_with, table_without, rises_with, rises_without}
 use Rattle.rows_in_order.specs.laws.BetweenNumbers.{lone, lone_order, limit_of, below}
 use Rattle.rows_in_order.specs.laws.ByNumber.{key_same, key_is_before, rises, number_rises}

@@ -4,7 +4,8 @@ use Rattle.std.specs.Prelude.{not, filter}
 use Rattle.std.specs.List.{AllByRecursion}
 use Rattle.keep_core.specs.Contents.{IsNextKey, same_key}
 use Rattle.rows_in_order.specs.Rows.{is_before, table_from_rows, IsRising, IsToldApart, with_row, without_row, SpellsApart, HasRow, NextRow}
-use Rattle.rows_in_order.specs.laws.Filtered.{all_weaker, all_append, all_filter, all_at}
+use Rattle.repl_types.specs.laws.Lists.{all_weaker, all_append, all_filter}
+use Rattle.rows_in_order.specs.laws.Filtered.{all_at}
 use Rattle.rows_in_order.specs.laws.Rising.{next_row}
 
 module _ {A X : Type 0} (fits : A × X → Type 0) where

@@ -8,7 +8,7 @@ use Rattle.repl_types.specs.Bytes.{bytes_cmp}
 use Rattle.keep_core.specs.Contents.{IsNextKey, same_key}
 use Rattle.rows_in_order.specs.Rows.{is_before, table_from_rows, AllAfter, NoneAfter, IsRising, IsToldApart, HasRow, NextRow}
 use Rattle.rows_in_order.specs.laws.Before.{not_both, empty_before}
-use Rattle.rows_in_order.specs.laws.Filtered.{all_weaker}
+use Rattle.repl_types.specs.laws.Lists.{all_weaker}
 use Rattle.rows_in_order.specs.laws.Rising.{same_is, past_head, some_is, some_none, next_row}
 use Rattle.rows_in_order.specs.laws.Unique.{one_row_at}
 

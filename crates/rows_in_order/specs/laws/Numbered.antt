@@ -47,7 +47,7 @@ module _ {X : Type 0} (key : ℕ → List ℕ) (limit : ℕ) (in_order : SpellsI
       back : b ≤ b + i → b + i - b ≡ i
       back le = omega arith
 
-  -- where something stands there is one of them
+  -- if something stands at a number, it is the number of one of them
   pub numbered_found : (b q : ℕ) (xs : List X) (v : List ℕ) → b + length xs ≤ limit → q < limit → table_from_rows key value (enumerate_from b xs) (key q) ≡ Some v → (b ≤ q) × (q < b + length xs)
   numbered_found b q [] v few small has = absurd (some_none key value (sym has))
   numbered_found b q (x ∷ xs) v few small has = elim (cases_eq b q) [

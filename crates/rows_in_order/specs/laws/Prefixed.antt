@@ -11,7 +11,7 @@ use Rattle.std.proofs.lemmas.Slice.Eq.{starts_is}
 use Rattle.repl_types.specs.Bytes.{bytes_cmp}
 use Rattle.rows_in_order.specs.Rows.{IsUpTo, NoneAfter, NextRow, begins_with, with_prefix}
 use Rattle.rows_in_order.specs.laws.Before.{not_both}
-use Rattle.rows_in_order.specs.laws.Filtered.{all_weaker, all_filter, filter_none}
+use Rattle.repl_types.specs.laws.Lists.{all_weaker, all_filter, filter_none}
 use Rattle.rows_in_order.specs.laws.Rising.{at_seam}
 
 -- ---- keys

@@ -11,7 +11,7 @@ use Rattle.repl_types.specs.Bytes.{bytes_cmp}
 use Rattle.keep_core.specs.Contents.{Table, IsNextKey, IsLastKey, same_key, set_key}
 use Rattle.rows_in_order.specs.Rows.{is_before, IsUpTo, table_from_rows, AllBefore, AllAfter, NoneAfter, IsRising, between, HasRow, NextRow}
 use Rattle.rows_in_order.specs.laws.Before.{order, is_less, is_equal, not_both, not_back, upto_itself, upto_before, upto_trans}
-use Rattle.rows_in_order.specs.laws.Filtered.{all_weaker, all_filter, filter_none, filter_alike}
+use Rattle.repl_types.specs.laws.Lists.{all_weaker, all_filter, filter_none, filter_alike}
 
 -- ---- tests of keys
 
@@ -176,7 +176,7 @@ module _ {A X : Type 0} (key : A → List ℕ) (value : X → List ℕ) where
   pub some_none : {v : List ℕ} → ◌≡◌ {A = Option (List ℕ)} (Some v) None → ⊥
   some_none e = cc
 
-  -- where no key is after this one, no row is
+  -- if no key is after this one, no row is
   pub no_row : (rows : List (A × X)) (after : List ℕ) → IsLastKey (table_from_rows key value rows) after → NoneAfter key after rows
   no_row [] after last = tt
   no_row (r ∷ rs) after last = (
@@ -217,7 +217,7 @@ module _ {A X : Type 0} (key : A → List ℕ) (value : X → List ℕ) where
       pick k true e = ap (λ (b : Bool). cond b None (table_from_rows key value (r ∷ rs) k)) e ∙ nothing (table_from_rows key value rs k) (λ v has. not_both (same_key (key r.0) k) e (differ (key r.0) k (found_after (key r.0) k rs after v has)))
       pick k false e = ap (λ (b : Bool). cond b None (table_from_rows key value (r ∷ rs) k)) e ∙ past_head r rs k e
 
-  -- where nothing is found at a key no row has it
+  -- if nothing is found at a key, no row has it
   pub no_row_at : (rows : List (A × X)) (k : List ℕ) → table_from_rows key value rows k ≡ None → AllByRecursion (λ r. key r.0 ≢ k) rows
   no_row_at [] k none = tt
   no_row_at (r ∷ rs) k none = (
