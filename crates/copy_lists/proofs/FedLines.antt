@@ -16,7 +16,7 @@ use Rattle.copy_lists.specs.declared.feed.Fed.{Fed}
 use Rattle.line_input.specs.declared.input.Input.{Input}
 use Rattle.line_input.specs.declared.input.Next.TheVariants.{End}
 use Rattle.line_input.specs.Input.{piece_left, left_of, total_of, ReadsLine}
-use Rattle.copy_lists.specs.Fed.{resumed, Leaves, ComesTo}
+use Rattle.copy_lists.specs.Fed.{resumed, Leaves, LeadsToFeed}
 
 -- if no refusal is present, it is None
 pub no_refusal : (refusal : Option Refused) (absent : Bool) → is_some refusal ≡ not absent → absent ≡ true → refusal ≡ None
@@ -57,11 +57,11 @@ line_fed before now refusal number line more cause none h leaves =
 -- ---- the end of the input
 
 -- at the end the source has nothing left
-pub end_left : (first before later : Option (List ℕ)) (fed : Fed) (number : ℕ) (line : List ℕ) (input : Input) → ComesTo first before fed number → ReadsLine End line before (left_of input later) → IfSome first (λ _. later ≡ Some [])
-end_left None before later fed number line input comes reads = tt
-end_left (Some bytes) None later fed number line input comes reads = absurd comes
-end_left (Some bytes) (Some b) None fed number line input comes reads = absurd reads
-end_left (Some bytes) (Some b) (Some rest) fed number line input comes reads = ap Some (nil_from_length rest (omega (arith, sym (length-append (piece_left input) rest) ∙ ap length reads.1)))
+pub end_left : (first before later : Option (List ℕ)) (fed : Fed) (number : ℕ) (line : List ℕ) (input : Input) → LeadsToFeed first before fed number → ReadsLine End line before (left_of input later) → IfSome first (λ _. later ≡ Some [])
+end_left None before later fed number line input leads reads = tt
+end_left (Some bytes) None later fed number line input leads reads = absurd leads
+end_left (Some bytes) (Some b) None fed number line input leads reads = absurd reads
+end_left (Some bytes) (Some b) (Some rest) fed number line input leads reads = ap Some (nil_from_length rest (omega (arith, sym (length-append (piece_left input) rest) ∙ ap length reads.1)))
 
 -- at the end the input had no more bytes than an input may have
 pub end_fits : (first later : Option (List ℕ)) (input : Input) → IfSome first (λ _. later ≡ Some []) → total_of input later ≡ option_map (λ bytes. length bytes) first → input.taken ≤ input_limit → IfSome first (λ bytes. length bytes ≤ input_limit)

@@ -30,7 +30,7 @@ Leaves (taken r) cause before now = (cause ≡ None) × IsKeptLog now × (now.re
 Leaves (refused why) cause before now = (cause ≡ Some why) × KeepsRecords before now
 
 -- the feed after the lines that are left is the feed of all bytes, if the source reveals them
-abbrev pub ComesTo : Option (List ℕ) → Option (List ℕ) → Fed → ℕ → Type 0
-ComesTo None left fed number = left ≡ None
-ComesTo (Some bytes) None fed number = ⊥
-ComesTo (Some bytes) (Some rest) fed number = resumed fed.source.records fed.refused number (lines rest) ≡ feed_of bytes
+abbrev pub LeadsToFeed : Option (List ℕ) → Option (List ℕ) → Fed → ℕ → Type 0
+LeadsToFeed None left fed number = left ≡ None
+LeadsToFeed (Some bytes) None fed number = ⊥
+LeadsToFeed (Some bytes) (Some rest) fed number = resumed fed.source.records fed.refused number (lines rest) ≡ feed_of bytes
