@@ -3,7 +3,7 @@
 //!
 //! It stands on `repl_types`. `row_changes` and `copy_lists` stand on it, and their contracts name
 //! its definitions, which stand in `specs/`. The functions here have no code: their contracts are
-//! laws about the definitions, for every log. Five of them serve the proofs of `copy_lists`; `undo`,
+//! laws about the definitions, for every log. Six of them serve the proofs of `copy_lists`; `undo`,
 //! `capture_by_pieces`, `worked_log` and `worked_mixed_log` are stated for readers, and no proof of
 //! another crate uses them.
 //!

@@ -109,8 +109,8 @@ fn update_row(
     })
 }
 
-/// Appends the change rows of an update: none, a delete and an insert, or one. Out of memory, some
-/// may be appended.
+/// Appends the change rows of an update: none, a delete and an insert, or one. If memory runs out,
+/// some may be appended.
 fn change_rows_of_update(
     alloc: Global,
     reg: &Registration,
@@ -140,7 +140,7 @@ fn change_rows_of_update(
 }
 
 /// Appends the change rows of one change of a unit with this seq: none if it is of another table
-/// than the registration. Out of memory, some may be appended.
+/// than the registration. If memory runs out, some may be appended.
 pub fn change_rows_of_change(
     alloc: Global,
     reg: &Registration,
@@ -165,8 +165,8 @@ pub fn change_rows_of_change(
     Ok(())
 }
 
-/// Appends the change rows of a unit, those of its changes in order. Out of memory, some may be
-/// appended.
+/// Appends the change rows of a unit, those of its changes in order. If memory runs out, some may
+/// be appended.
 #[tactic(auto, unfolding(repl_model::specs::ChangeRows::change_rows))]
 pub fn change_rows_of_unit(
     alloc: Global,
@@ -182,8 +182,8 @@ pub fn change_rows_of_unit(
     Ok(())
 }
 
-/// Does to the rows of a table what a change row says, whose after-images are a whole row. Out of
-/// memory, the rows are unspecified.
+/// Does to the rows of a table what a change row says, whose after-images are a whole row. If memory
+/// runs out, the rows are unspecified.
 pub fn apply_change_row(
     alloc: Global,
     def: &TableDef,
@@ -200,8 +200,8 @@ pub fn apply_change_row(
     Ok(())
 }
 
-/// Does what change rows say, one after another, whose after-images are whole rows. Out of memory,
-/// the rows are unspecified.
+/// Does what change rows say, one after another, whose after-images are whole rows. If memory runs
+/// out, the rows are unspecified.
 pub fn apply_change_rows(
     alloc: Global,
     def: &TableDef,

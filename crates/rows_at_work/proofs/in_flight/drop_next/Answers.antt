@@ -33,4 +33,4 @@ returns-clause-rises g c = position_above c.args.tx c.args.after c.in-Some.key c
 pub returns-in_err-key-clause-fault : goal.returns-in_err-key-clause-fault
 returns-in_err-key-clause-fault g c =
     let p = err_from_is_err_and c.from_residual.result c.from_residual.ensures.1 in
-    rw (p.1, p.2) (next_fails g.K.Keeper.kept IsInFlightKey in_flight_key_spelling Any in_flight_spelling rules (λ s. s ≡ c.args.server) rules c.args.sites.now c.next.new.self 0 c.args.server areas.Inflight 0 (key_at c.args.tx c.args.after) (in_dropping 1 1 c.args.server) c.in_err-key.field-0.0 refl (λ bytes h. h) (λ bytes h. h) (read_within 1 c.args.server areas.Inflight c.args.server areas.Inflight) c.in_err-key.ensures.fault)
+    rw (p.1, p.2) (next_fails g.K.Keeper.kept IsInFlightKey in_flight_key_spelling Any in_flight_spelling (λ s. s ≡ c.args.server) rules c.args.sites.now c.next.new.self c.args.server areas.Inflight 0 (key_at c.args.tx c.args.after) (in_dropping 1 1 c.args.server) c.in_err-key.field-0.0 refl (λ bytes h. h) (λ bytes h. h) (read_within 1 c.args.server areas.Inflight c.args.server areas.Inflight) c.in_err-key.ensures.fault)

@@ -1,4 +1,4 @@
-use Rattle.std.proofs.Common.{◌^◌, arith}
+use Rattle.std.proofs.Common.{◌^◌, arith, ◌≡◌, refl}
 use Rattle.std.specs.Ordering.{nat_cmp}
 use Rattle.row_codec.specs.Spelling.{b64, Is64}
 use Rattle.row_codec.specs.laws.Orders.{order64, whole_order}
@@ -35,4 +35,4 @@ returns-clause-rises g c =
 pub returns-in_err-number-clause-fault : goal.returns-in_err-number-clause-fault
 returns-in_err-number-clause-fault g c =
     let p = err_from_is_err_and c.from_residual.result c.from_residual.ensures.1 in
-    rw (p.1, p.2) (next_fails g.K.Keeper.kept Is64 b64 FitsChange numbered_change_spelling rules c.args.sites.now c.next.new.self c.args.source areas.Log 0 (b64 c.args.after) (in_applying 1 1 c.args.source c.args.target) c.in_err-number.field-0.0 (λ bytes h. h) (λ bytes h. h) (read_within 1 c.args.source areas.Log c.args.target areas.Target) c.in_err-number.ensures.fault)
+    rw (p.1, p.2) (next_fails g.K.Keeper.kept Is64 b64 FitsChange numbered_change_spelling (λ s. s ≡ c.args.source) rules c.args.sites.now c.next.new.self c.args.source areas.Log 0 (b64 c.args.after) (in_applying 1 1 c.args.source c.args.target) c.in_err-number.field-0.0 refl (λ bytes h. h) (λ bytes h. h) (read_within 1 c.args.source areas.Log c.args.target areas.Target) c.in_err-number.ensures.fault)
