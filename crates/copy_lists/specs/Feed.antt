@@ -2,6 +2,7 @@
 use Rattle.std.specs.Prelude.{ℕ, ◌+◌, Bool, true, false, not, ◌==◌, nat_lt, if◌then◌else◌, List, [], ◌∷◌, ◌++◌, length, fold, Option, Some, None}
 use Rattle.std.specs.List.{list_all}
 use Rattle.std.specs.Str.Lines.{lines}
+use Rattle.log_text.specs.Words.{blank}
 use Rattle.repl_types.specs.declared.record.LogRecord.{LogRecord}
 use Rattle.repl_types.specs.declared.record.LogRecord.TheVariants as records
 use Rattle.log_text.specs.Records.{record_of}
@@ -11,10 +12,6 @@ use Rattle.copy_lists.specs.declared.refused.Cause.TheVariants.{LineTooLong, Bad
 use Rattle.copy_lists.specs.declared.refused.Refused.{Refused}
 use Rattle.line_input.specs.Limits.{line_limit}
 use Rattle.copy_lists.specs.Items.{items_def}
-
--- the byte of a blank
-abbrev pub blank : ℕ
-blank = 32
 
 -- the line consists of blanks, or is empty
 abbrev pub is_blank : List ℕ → Bool

@@ -12,7 +12,8 @@ use Rattle.copy_lists.specs.declared.refused.Cause.{Cause}
 use Rattle.copy_lists.specs.declared.refused.Cause.TheVariants.{LineTooLong, BadLog, NotApplicable}
 use Rattle.copy_lists.specs.declared.refused.Refused.{Refused}
 use Rattle.copy_lists.specs.Items.{items_def}
-use Rattle.copy_lists.specs.Feed.{blank, Feed, feed_of}
+use Rattle.log_text.specs.Words.{blank}
+use Rattle.copy_lists.specs.Feed.{Feed, feed_of}
 
 -- the line of a row: each value after a blank
 abbrev pub row_line : Values → List ℕ

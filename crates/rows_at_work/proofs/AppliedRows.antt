@@ -1,12 +1,10 @@
 -- Rows are put and removed by changes, in the order of the changes' numbers.
 use Rattle.std.proofs.Common.{◌≡◌, ℕ, ◌^◌, ◌<◌, ◌≤◌, Bool, true, false, cond, List, [], ◌∷◌, ◌++◌, refl, sym, ap, subst, ◌∙◌, arith}
 use Rattle.std.specs.Prelude.{Option, Some, None}
-use Rattle.std.specs.Ordering.{nat_cmp}
 use Rattle.repl_types.specs.declared.area.Area.TheVariants as areas
 use Rattle.keep_core.specs.Contents.{Contents, Table, IsNextKey, IsLastKey, set_key, put_at}
-use Rattle.row_codec.specs.Spelling.{b64, Is64}
+use Rattle.row_codec.specs.Spelling.{b64}
 use Rattle.row_codec.specs.laws.Ones.{one_whole}
-use Rattle.row_codec.specs.laws.Orders.{order64, whole_order}
 use Rattle.rows_in_order.specs.Numbers.{NextNumber, numbers_between, with_number, without_number}
 use Rattle.rows_in_order.specs.laws.BetweenNumbers.{numbers_nothing, numbers_first, numbers_yet, numbers_none, numbers_parts}
 use Rattle.rows_in_order.specs.laws.ByNumber.{read_next, read_last}

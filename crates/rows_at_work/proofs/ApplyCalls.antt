@@ -9,7 +9,7 @@ use Rattle.rows_in_order.specs.Numbers.{numbers_between}
 use Rattle.rows_in_order.specs.laws.BetweenNumbers.{numbers_nothing, numbers_parts}
 use Rattle.site_store.specs.declared.sites.Sites.{Sites}
 use Rattle.site_store.specs.Views.{held, work, sees, IsOpenAt, IsClosedAt}
-use Rattle.site_store.specs.Calls.{both, reads_of_one, writes_of_one, Reads, Fails}
+use Rattle.site_store.specs.Calls.{reads_of_one, writes_of_one, Reads, Fails}
 use Rattle.site_store.specs.laws.Counts.{at_most_itself, reads_and_writes_then, read_within}
 use Rattle.site_store.specs.laws.Transactions.{seen_held, other_work}
 use Rattle.faults.specs.declared.fault.Fault.{Fault}

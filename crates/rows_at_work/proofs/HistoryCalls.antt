@@ -4,29 +4,26 @@ use Rattle.std.specs.Prelude.{min, is_some, Option, Some, None, IfSome}
 use Rattle.std.specs.Option.{option_map}
 use Rattle.std.specs.declared.cmp.Ordering.TheVariants.{Less}
 use Rattle.repl_types.specs.Bytes.{bytes_cmp}
-use Rattle.repl_types.specs.declared.area.Area.{Area}
 use Rattle.repl_types.specs.declared.area.Area.TheVariants as areas
 use Rattle.keep_core.specs.Contents.{Contents, IsNextKey, IsLastKey, put_at}
 use Rattle.keep_core.specs.Kept.{Kept}
-use Rattle.repl_records.specs.Capture.{IsChangeRow, change_row_spelling}
+use Rattle.repl_records.specs.Capture.{change_row_spelling}
 use Rattle.repl_records.specs.RecordKeys.{IsChangeKey, change_key_spelling}
 use Rattle.repl_records.specs.declared.capture.ChangeRow.{ChangeRow}
 use Rattle.repl_records.specs.declared.record_keys.CdKey.{CdKey}
 use Rattle.faults.specs.declared.fault.Fault.{Fault}
-use Rattle.repl_types.specs.declared.status.DamageCause.{DamageCause}
 use Rattle.rows_in_order.specs.Rows.{IsUpTo}
 use Rattle.rows_in_order.specs.laws.Before.{not_back, empty_first}
 use Rattle.site_store.specs.declared.sites.Sites.{Sites}
-use Rattle.site_store.specs.Views.{held, work, sees, IsOpenAt}
-use Rattle.site_store.specs.Records.{after_key, Misread, Misspelt, MisspeltNext}
-use Rattle.site_store.specs.Calls.{Bounds, both, reads_of_one, writes_of_one, AtServer, Reads, Puts, Fails}
-use Rattle.site_store.specs.Damage.{Shows, Damages}
-use Rattle.site_store.specs.laws.Damage.{shows_at, misspelt_shows, misspelt_next_shows, fails_by, fails_within, shown_before}
+use Rattle.site_store.specs.Views.{work, sees, IsOpenAt}
+use Rattle.site_store.specs.Records.{after_key}
+use Rattle.site_store.specs.Calls.{reads_of_one, writes_of_one, Reads, Puts, Fails}
+use Rattle.site_store.specs.Damage.{Damages}
+use Rattle.site_store.specs.laws.Damage.{shown_before}
 use Rattle.site_store.specs.laws.Counts.{at_most_itself, reads_and_writes_then, read_within}
-use Rattle.site_store.specs.laws.Transactions.{open_below, works_start, works_seen, seen_work}
 use Rattle.rows_at_work.specs.Rules.{rules}
 use Rattle.site_store.specs.Steps.{WorksOn}
-use Rattle.rows_at_work.specs.History.{FitsKeyedChange, Prunes, PrunesUpTo, PrunesNext, PrunesAll, SetsAtKey, SetsRow, IsPruned, in_history}
+use Rattle.rows_at_work.specs.History.{FitsKeyedChange, Prunes, PrunesUpTo, PrunesNext, PrunesAll, SetsAtKey, PutsAtKey, IsPruned, in_history}
 use Rattle.site_store.specs.laws.Steps.{works_none, works_saw, works_put, works_on, works_as, works_fail}
 use Rattle.rows_at_work.proofs.HistoryRows.{rank_of, rank_rises, rank_small, prune_row, prune_past, prune_last, prune_nothing, prunes_then, prunes_up_to, sets_row}
 use Rattle.rows_at_work.proofs.Evidence.{asks_nothing}
@@ -55,7 +52,7 @@ module _ {K : Type 0} (kept : K → Kept) where
   prune_found_none s0 s1 server t after up_to open_at le read saw = works_saw kept s0 s1 server areas.Cd (in_history 1 0 server) (λ c. IsLastKey (c areas.Cd t) after) (Prunes t after (change_key_spelling up_to) 0) open_at (read_within 0 server areas.Cd server areas.Cd) read saw (λ c d is same. prune_last t after (change_key_spelling up_to) c d le is same)
 
   -- a row was put at its key
-  pub set_found : (s0 s1 s2 : Sites K) (server t : ℕ) (key : CdKey) (row : ChangeRow) (old : Option ChangeRow) → IsOpenAt (work kept s0) server → FitsKeyedChange (key, row) → Reads kept s0 s1 server areas.Cd → Puts kept s1 s2 server areas.Cd t (change_key_spelling key) (Some (change_row_spelling row)) → IfSome (sees kept s0 server) (λ c. c areas.Cd t (change_key_spelling key) ≡ option_map change_row_spelling old) → SetsRow kept s0 s2 server t (key, row) (is_some old)
+  pub set_found : (s0 s1 s2 : Sites K) (server t : ℕ) (key : CdKey) (row : ChangeRow) (old : Option ChangeRow) → IsOpenAt (work kept s0) server → FitsKeyedChange (key, row) → Reads kept s0 s1 server areas.Cd → Puts kept s1 s2 server areas.Cd t (change_key_spelling key) (Some (change_row_spelling row)) → IfSome (sees kept s0 server) (λ c. c areas.Cd t (change_key_spelling key) ≡ option_map change_row_spelling old) → PutsAtKey kept s0 s2 server t (key, row) (is_some old)
   set_found s0 s1 s2 server t key row old open_at fits read put saw = works_wrote s0 s1 s2 server t (change_key_spelling key) (Some (change_row_spelling row)) (λ c. c areas.Cd t (change_key_spelling key) ≡ option_map change_row_spelling old) (SetsAtKey t (key, row) (is_some old)) open_at read put saw (λ c d is sets. sets_row t (key, row) fits c d sets old is)
 
   -- ---- the loop

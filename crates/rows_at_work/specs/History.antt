@@ -104,5 +104,5 @@ abbrev pub AppendsRow : {K : Type 0} → (K → Kept) → Sites K → Sites K �
 AppendsRow kept old new server t row = WorksOn kept old new server (writes_of_one 1 server areas.Cd) (Appends t row)
 
 -- what setting a row does
-abbrev pub SetsRow : {K : Type 0} → (K → Kept) → Sites K → Sites K → ℕ → ℕ → KeyedChange → Bool → Type 0
-SetsRow kept old new server t row stood = WorksOn kept old new server (in_history 1 1 server) (SetsAtKey t row stood)
+abbrev pub PutsAtKey : {K : Type 0} → (K → Kept) → Sites K → Sites K → ℕ → ℕ → KeyedChange → Bool → Type 0
+PutsAtKey kept old new server t row stood = WorksOn kept old new server (in_history 1 1 server) (SetsAtKey t row stood)

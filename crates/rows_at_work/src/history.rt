@@ -11,7 +11,7 @@ ghost use Rattle.repl_records.specs.RecordKeys.{IsChangeKey, change_key_spelling
 ghost use Rattle.row_codec.specs.Storable.{IsStorable};
 ghost use Rattle.rows_in_order.specs.Rows.{is_before, IsUpTo};
 ghost use Rattle.rows_at_work.specs.Rules.{rules};
-ghost use Rattle.rows_at_work.specs.History.{FitsKeyedChange, AppendsRow, SetsRow, PrunesNext, PrunesAll};
+ghost use Rattle.rows_at_work.specs.History.{FitsKeyedChange, AppendsRow, PutsAtKey, PrunesNext, PrunesAll};
 ghost use Rattle.rows_at_work.specs.History.{in_history, change_key_count, IsPruned};
 
 use faults::Fault;
@@ -128,7 +128,7 @@ pub fn set_row<K: Keeper>(
     requires open { IsOpenAt (work K.kept sites.old) server }
     requires fits { FitsKeyedChange (key.now, row.now) }
     requires storable { IsStorable HasChangeRowSpelling change_row_spelling row.now }
-    ensures ok { IfOk result (SetsRow K.kept sites.old sites.new server table
+    ensures ok { IfOk result (PutsAtKey K.kept sites.old sites.new server table
         (key.now, row.now)) }
     ensures fault { let damage = Damages (λ s. s ≡ server) rules K.kept sites.old in
         IfErr result (Fails K.kept sites.old sites.new (in_history 1 1 server) damage) }

@@ -1,7 +1,5 @@
 use Rattle.std.proofs.Common.{◌^◌, arith, ◌≡◌, refl}
-use Rattle.std.specs.Ordering.{nat_cmp}
 use Rattle.row_codec.specs.Spelling.{b64, Is64}
-use Rattle.row_codec.specs.laws.Orders.{order64, whole_order}
 use Rattle.rows_in_order.specs.laws.ByNumber.{key_less}
 use Rattle.std.proofs.lemmas.Result.{err_from_is_err_and}
 use Rattle.repl_types.specs.declared.area.Area.TheVariants as areas
