@@ -1,6 +1,7 @@
 //! The lines of an input, fed to the log of the source.
 
-ghost use Rattle.std.specs.Prelude.{◌≡◌, ◌≤◌, ◌<◌, ◌+◌, ℕ, List, [], ◌∷◌, length, IfOk, IfSome, OnOk, Some};
+ghost use Rattle.std.specs.Prelude.{◌≡◌, ◌≤◌, ◌<◌, ◌+◌, ℕ, List, [], ◌∷◌, length, IfOk, IfSome};
+ghost use Rattle.std.specs.Prelude.{OnOk, Some};
 ghost use Rattle.keep_core.specs.Revealed.{Rises};
 ghost use Rattle.line_input.specs.Limits.{line_limit, input_limit};
 ghost use Rattle.copy_lists.specs.Feed.{is_blank as is_blank_lem, short_outcome, feed_of};
@@ -50,7 +51,8 @@ fn take_text(
 }
 
 impl Fed {
-    ghost use Rattle.std.specs.Prelude.{◌≡◌, ◌≤◌, ◌<◌, ◌+◌, ℕ, List, [], ◌∷◌, length, IfOk, OnOk, None};
+    ghost use Rattle.std.specs.Prelude.{◌≡◌, ◌≤◌, ◌<◌, ◌+◌, ℕ, List, [], ◌∷◌, length, IfOk, OnOk};
+    ghost use Rattle.std.specs.Prelude.{None};
     ghost use Rattle.line_input.specs.Limits.{line_limit};
     ghost use Rattle.copy_lists.specs.Fed.{IsFed, resumed};
 

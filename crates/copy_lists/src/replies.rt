@@ -2,7 +2,9 @@
 
 ghost use Rattle.std.specs.Prelude.{◌≡◌, ◌≤◌, ◌++◌, IfOk, OnOk, OnErr, string_bytes};
 ghost use Rattle.keep_core.specs.Revealed.{Rises, Takes, TakesPrefix};
-ghost use Rattle.copy_lists.specs.Replies.{row_line as row_line_lem, count_line as count_line_lem, refused_line as refused_line_lem, rows_lines, refusal_lines, joined_lines};
+ghost use Rattle.copy_lists.specs.Replies.{row_line as row_line_lem, count_line as count_line_lem};
+ghost use Rattle.copy_lists.specs.Replies.{refused_line as refused_line_lem, rows_lines};
+ghost use Rattle.copy_lists.specs.Replies.{refusal_lines, joined_lines};
 
 use crate::refused::{Cause, Refused};
 use keep_core::{ReadError, Sink, pieces_join, write_line};

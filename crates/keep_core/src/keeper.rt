@@ -2,7 +2,10 @@
 
 ghost use Rattle.std.specs.Prelude.{◌≡◌, IfOk, OnOk, IfErr, IfSome};
 ghost use Rattle.repl_types.specs.Sizes.{IsKeySize, IsValueSize};
-ghost use Rattle.keep_core.specs.Kept.{Kept, IsOpen, IsClosed, opened, committed, after_read, after_write, after_put, after_remove, seen, CallFails, CommitFails, Closes, Found, NextIs, WasThere, GivesValue, GivesNext};
+ghost use Rattle.keep_core.specs.Kept.{Kept, IsOpen, IsClosed, opened, committed, after_read};
+ghost use Rattle.keep_core.specs.Kept.{after_write, after_put, after_remove, seen, CallFails};
+ghost use Rattle.keep_core.specs.Kept.{CommitFails, Closes, Found, NextIs, WasThere, GivesValue};
+ghost use Rattle.keep_core.specs.Kept.{GivesNext};
 
 use repl_types::Area;
 use thiserror::Error;

@@ -1,6 +1,7 @@
 //! Sources and sinks of bytes, which move them in pieces.
 
-ghost use Rattle.std.specs.Prelude.{◌≡◌, ◌≤◌, ◌<◌, ℕ, List, [], Option, IfOk, IfSome, OnOk, OnErr, OnSome, take, length};
+ghost use Rattle.std.specs.Prelude.{◌≡◌, ◌≤◌, ◌<◌, ℕ, List, [], Option, IfOk, IfSome, OnOk, OnErr};
+ghost use Rattle.std.specs.Prelude.{OnSome, take, length};
 ghost use Rattle.keep_core.specs.Revealed.{Rises, Gives, Takes, TakesPrefix};
 
 use thiserror::Error;

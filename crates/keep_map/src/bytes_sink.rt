@@ -1,6 +1,7 @@
 //! A sink that keeps its bytes in memory.
 
-ghost use Rattle.std.specs.Prelude.{◌≡◌, ◌≤◌, ◌↔◌, ◌<◌, [], Some, IfOk, OnOk, OnErr, IsTrue, length, take};
+ghost use Rattle.std.specs.Prelude.{◌≡◌, ◌≤◌, ◌↔◌, ◌<◌, [], Some, IfOk, OnOk, OnErr, IsTrue};
+ghost use Rattle.std.specs.Prelude.{length, take};
 ghost use Rattle.keep_core.specs.Revealed.{Rises, Takes};
 ghost use Rattle.keep_map.specs.Planned.{nothing_planned, planned_anew, fails_next, after_call};
 ghost use Rattle.keep_map.specs.Streams.{sink_after};

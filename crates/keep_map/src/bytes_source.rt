@@ -1,6 +1,7 @@
 //! A source of bytes in memory.
 
-ghost use Rattle.std.specs.Prelude.{◌≡◌, ◌≢◌, ◌≤◌, ◌<◌, ◌↔◌, [], Some, IsTrue, IfOk, OnErr, length, take};
+ghost use Rattle.std.specs.Prelude.{◌≡◌, ◌≢◌, ◌≤◌, ◌<◌, ◌↔◌, [], Some, IsTrue, IfOk, OnErr, length};
+ghost use Rattle.std.specs.Prelude.{take};
 ghost use Rattle.keep_core.specs.Revealed.{Rises, Gives};
 ghost use Rattle.keep_map.specs.Planned.{nothing_planned, planned_anew, fails_next};
 ghost use Rattle.keep_map.specs.Streams.{moved_count, buffer_after, source_after};

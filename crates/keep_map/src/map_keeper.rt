@@ -103,9 +103,13 @@ impl MapKeeper {
 }
 
 impl Keeper for MapKeeper {
-    ghost use Rattle.std.specs.Prelude.{◌≡◌, ◌≢◌, ◌↔◌, IsTrue, IfOk, OnOk, IfErr, IfSome, if◌then◌else◌};
+    ghost use Rattle.std.specs.Prelude.{◌≡◌, ◌≢◌, ◌↔◌, IsTrue, IfOk, OnOk, IfErr, IfSome};
+    ghost use Rattle.std.specs.Prelude.{if◌then◌else◌};
     ghost use Rattle.repl_types.specs.Sizes.{IsKeySize, IsValueSize};
-    ghost use Rattle.keep_core.specs.Kept.{IsOpen, IsClosed, opened, closed_with, committed, after_read, after_write, after_put, after_remove, seen, CallFails, CommitFails, Closes, Found, NextIs, WasThere, GivesValue, GivesNext};
+    ghost use Rattle.keep_core.specs.Kept.{IsOpen, IsClosed, opened, closed_with, committed};
+    ghost use Rattle.keep_core.specs.Kept.{after_read, after_write, after_put, after_remove, seen};
+    ghost use Rattle.keep_core.specs.Kept.{CallFails, CommitFails, Closes, Found, NextIs, WasThere};
+    ghost use Rattle.keep_core.specs.Kept.{GivesValue, GivesNext};
     ghost use Rattle.keep_map.specs.Planned.{fails_next};
     ghost use Rattle.keep_map.specs.Keepers.{kept_of, CallIsCounted};
 

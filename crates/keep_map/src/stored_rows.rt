@@ -1,6 +1,7 @@
 //! The rows of a keeper, with the changes of its open transaction.
 
-ghost use Rattle.std.specs.Prelude.{◌≡◌, ◌<◌, ◌≤◌, length, [], false, true, Some, None, IfOk, OnOk, OnErr, if◌then◌else◌, is_some, IfSome, IfNone};
+ghost use Rattle.std.specs.Prelude.{◌≡◌, ◌<◌, ◌≤◌, length, [], false, true, Some, None, IfOk, OnOk};
+ghost use Rattle.std.specs.Prelude.{OnErr, if◌then◌else◌, is_some, IfSome, IfNone};
 ghost use Rattle.std.specs.Option.{option_map};
 ghost use Rattle.std.specs.List.{find};
 ghost use Rattle.std.specs.Map.Iter.{deref_pair};
@@ -9,7 +10,10 @@ ghost use Rattle.repl_types.specs.Bytes.{bytes_cmp};
 ghost use Rattle.repl_types.specs.Sizes.{IsKeySize, IsValueSize};
 ghost use Rattle.keep_core.specs.Contents.{nothing, put_at, IsNextKey, IsLastKey};
 ghost use Rattle.keep_core.specs.Kept.{Found, NextIs, WasThere, GivesValue, GivesNext};
-ghost use Rattle.keep_map.specs.Stored.{Place, place_of, same_place, bytes_of, row_at, seen_in, table_seen, contents_seen, contents_held, slot_cmp, entries_above, stops, is_changed, AreRows, SetsRow, changed_row, settled};
+ghost use Rattle.keep_map.specs.Stored.{Place, place_of, same_place, bytes_of, row_at, seen_in};
+ghost use Rattle.keep_map.specs.Stored.{table_seen, contents_seen, contents_held, slot_cmp};
+ghost use Rattle.keep_map.specs.Stored.{entries_above, stops, is_changed, AreRows, SetsRow};
+ghost use Rattle.keep_map.specs.Stored.{changed_row, settled};
 
 use crate::slot::Slot;
 use crate::stored_row::{StoredRow, StoredValue};

@@ -90,7 +90,9 @@ impl From<ReadError> for InputError {
 
 impl Input {
     ghost use Rattle.line_input.specs.Limits.{line_limit};
-    ghost use Rattle.line_input.specs.Input.{piece_left, left_of, total_of, budget, has_ended, NothingAfterEnd, Spends, MetFeed, InputHasCause, ReadsLine};
+    ghost use Rattle.line_input.specs.Input.{piece_left, left_of, total_of, budget, has_ended};
+    ghost use Rattle.line_input.specs.Input.{NothingAfterEnd, Spends, MetFeed, InputHasCause};
+    ghost use Rattle.line_input.specs.Input.{ReadsLine};
 
     /// An input of which nothing was read.
     pub fn new(alloc: Global) -> Result<Input, AllocError>

@@ -5,7 +5,9 @@ ghost use Rattle.std.specs.Option.{option_map};
 ghost use Rattle.std.specs.List.{before_first};
 ghost use Rattle.std.specs.Str.{bytes_eq};
 ghost use Rattle.log_text.specs.Words.{words};
-ghost use Rattle.log_text.specs.Records.{is_arrow, from_arrow, tx_of, values_of, row_of, update_of, table_change_of, change_of_words, commit_of, tx_record_of, record_of};
+ghost use Rattle.log_text.specs.Records.{is_arrow, from_arrow, tx_of, values_of, row_of, update_of};
+ghost use Rattle.log_text.specs.Records.{table_change_of, change_of_words, commit_of, tx_record_of};
+ghost use Rattle.log_text.specs.Records.{record_of};
 
 use crate::words::next_word;
 use repl_types::{Change, List, LogRecord, Name, ROW_LIMIT, Row, read_number, read_value};

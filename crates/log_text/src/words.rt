@@ -1,7 +1,9 @@
 //! The words of a line.
 
-ghost use Rattle.std.specs.Prelude.{◌≡◌, ◌<◌, ◌≤◌, ◌∷◌, [], length, take, drop, IfSome, MatchOption};
-ghost use Rattle.log_text.specs.Words.{is_end as is_end_lem, quoted_after as quoted_after_lem, words as words_lem, StartsNoBlank};
+ghost use Rattle.std.specs.Prelude.{◌≡◌, ◌<◌, ◌≤◌, ◌∷◌, [], length, take, drop, IfSome};
+ghost use Rattle.std.specs.Prelude.{MatchOption};
+ghost use Rattle.log_text.specs.Words.{is_end as is_end_lem, quoted_after as quoted_after_lem};
+ghost use Rattle.log_text.specs.Words.{words as words_lem, StartsNoBlank};
 
 /// The line from its first byte that isn't blank.
 fn skip_blanks(line: &[u8]) -> &[u8]

@@ -3,7 +3,8 @@
 ghost use Rattle.std.specs.Prelude.{◌≡◌, ◌++◌, ◌∷◌, [], codes, decimal, map, OnOk};
 ghost use Rattle.repl_types.specs.ValueText.{value_text};
 ghost use Rattle.log_text.specs.Words.{blank};
-ghost use Rattle.log_text.specs.RecordText.{spaced, line_of, head_words, change_words, origin_words, record_text};
+ghost use Rattle.log_text.specs.RecordText.{spaced, line_of, head_words, change_words};
+ghost use Rattle.log_text.specs.RecordText.{origin_words, record_text};
 
 use itoa::Buffer;
 use repl_types::{Change, LogRecord, Name, Row, SetId, write_value};

@@ -1,9 +1,12 @@
 //! Expressions.
 
 ghost use Rattle.std.specs.Prelude.{◌≡◌, ◌+◌, ◌*◌, ◌<◌};
-ghost use Rattle.repl_definitions.specs.Exprs.{expr_node_spelling, IsExprNode, HasExprNodeSpelling, expr_top, expr_nodes, expr_spelling, IsExpr, HasExprSpelling};
+ghost use Rattle.repl_definitions.specs.Exprs.{expr_node_spelling, IsExprNode, HasExprNodeSpelling};
+ghost use Rattle.repl_definitions.specs.Exprs.{expr_top, expr_nodes, expr_spelling, IsExpr};
+ghost use Rattle.repl_definitions.specs.Exprs.{HasExprSpelling};
 ghost use Rattle.repl_definitions.specs.Weights.{expr_weight};
-ghost use Rattle.repl_definitions.specs.laws.Exprs.{one_expr_node, filled_expr_node, expr_forest, expr_first, same_expr, one_expr, again_expr};
+ghost use Rattle.repl_definitions.specs.laws.Exprs.{one_expr_node, filled_expr_node, expr_forest};
+ghost use Rattle.repl_definitions.specs.laws.Exprs.{expr_first, same_expr, one_expr, again_expr};
 
 use crate::boxed::Boxed;
 use crate::nested::{Nested, Root, clone_nested, put_nested, take_nested};

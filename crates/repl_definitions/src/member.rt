@@ -1,8 +1,13 @@
 //! Members of sets, and their columns.
 
 ghost use Rattle.std.specs.Prelude.{◌≡◌, ◌∷◌, ◌++◌, OnOk};
-ghost use Rattle.repl_definitions.specs.Members.{target_kind_spelling, source_spelling, IsSource, HasSourceSpelling, target_column_spelling, IsTargetColumn, HasTargetColumnSpelling, member_spelling, IsMember, HasMemberSpelling};
-ghost use Rattle.repl_definitions.specs.laws.Members.{one_target_kind, one_source, again_source, one_target_column, again_target_column, one_member, again_member};
+ghost use Rattle.repl_definitions.specs.Members.{target_kind_spelling, source_spelling, IsSource};
+ghost use Rattle.repl_definitions.specs.Members.{HasSourceSpelling, target_column_spelling};
+ghost use Rattle.repl_definitions.specs.Members.{IsTargetColumn, HasTargetColumnSpelling};
+ghost use Rattle.repl_definitions.specs.Members.{member_spelling, IsMember, HasMemberSpelling};
+ghost use Rattle.repl_definitions.specs.laws.Members.{one_target_kind, one_source, again_source};
+ghost use Rattle.repl_definitions.specs.laws.Members.{one_target_column, again_target_column};
+ghost use Rattle.repl_definitions.specs.laws.Members.{one_member, again_member};
 ghost use Rattle.row_codec.specs.Spelling.{Any, b16, Is16};
 
 use crate::expr::Expr;

@@ -3,7 +3,8 @@
 //! A stored tree may be nested as deep as a stored value is long, so neither reading nor writing
 //! recurses on it.
 
-ghost use Rattle.std.specs.Prelude.{◌≡◌, ◌≢◌, ◌++◌, ◌∷◌, ◌+◌, [], ℕ, List, OnOk, IfOk, IfNone, IfSome, MatchOption};
+ghost use Rattle.std.specs.Prelude.{◌≡◌, ◌≢◌, ◌++◌, ◌∷◌, ◌+◌, [], ℕ, List, OnOk, IfOk, IfNone};
+ghost use Rattle.std.specs.Prelude.{IfSome, MatchOption};
 ghost use Rattle.std.specs.List.{flat_map, AllByRecursion};
 ghost use Rattle.repl_definitions.specs.declared.nested.Root.{Root};
 ghost use Rattle.repl_definitions.specs.declared.nested.Root.TheVariants.{Single, Joined};

@@ -1,9 +1,18 @@
 //! Predicates.
 
 ghost use Rattle.std.specs.Prelude.{◌≡◌, ◌+◌, ◌*◌, ◌<◌};
-ghost use Rattle.repl_definitions.specs.Predicates.{compare_op_spelling, operand_spelling, IsOperand, HasOperandSpelling, predicate_node_spelling, IsPredicateNode, HasPredicateNodeSpelling, predicate_top, predicate_nodes, predicate_spelling, IsPredicate, HasPredicateSpelling};
+ghost use Rattle.repl_definitions.specs.Predicates.{compare_op_spelling, operand_spelling};
+ghost use Rattle.repl_definitions.specs.Predicates.{IsOperand, HasOperandSpelling};
+ghost use Rattle.repl_definitions.specs.Predicates.{predicate_node_spelling, IsPredicateNode};
+ghost use Rattle.repl_definitions.specs.Predicates.{HasPredicateNodeSpelling, predicate_top};
+ghost use Rattle.repl_definitions.specs.Predicates.{predicate_nodes, predicate_spelling};
+ghost use Rattle.repl_definitions.specs.Predicates.{IsPredicate, HasPredicateSpelling};
 ghost use Rattle.repl_definitions.specs.Weights.{predicate_weight};
-ghost use Rattle.repl_definitions.specs.laws.Predicates.{one_compare_op, one_operand, again_operand, one_predicate_node, filled_predicate_node, predicate_forest, predicate_first, same_predicate, one_predicate, again_predicate};
+ghost use Rattle.repl_definitions.specs.laws.Predicates.{one_compare_op, one_operand};
+ghost use Rattle.repl_definitions.specs.laws.Predicates.{again_operand, one_predicate_node};
+ghost use Rattle.repl_definitions.specs.laws.Predicates.{filled_predicate_node, predicate_forest};
+ghost use Rattle.repl_definitions.specs.laws.Predicates.{predicate_first, same_predicate};
+ghost use Rattle.repl_definitions.specs.laws.Predicates.{one_predicate, again_predicate};
 ghost use Rattle.row_codec.specs.Spelling.{Any};
 
 use crate::boxed::Boxed;

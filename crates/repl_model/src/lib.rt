@@ -11,7 +11,8 @@
 //! whose seq is 2, and the copy of `items` at the point 2 has the row `(1, 'pen')`.
 #![tactic(auto)]
 
-ghost use Rattle.std.specs.Prelude.{◌≡◌, ◌∷◌, [], ◌++◌, ◌+◌, ◌<◌, ◌≤◌, ◌==◌, ℕ, IsTrue, List, length, map, take, codes, Option, if◌then◌else◌};
+ghost use Rattle.std.specs.Prelude.{◌≡◌, ◌∷◌, [], ◌++◌, ◌+◌, ◌<◌, ◌≤◌, ◌==◌, ℕ, IsTrue, List};
+ghost use Rattle.std.specs.Prelude.{length, map, take, codes, Option, if◌then◌else◌};
 ghost use Rattle.std.specs.List.{AllByRecursion, flat_map};
 ghost use Rattle.std.specs.FinMap.{empty, insert};
 ghost use Rattle.repl_types.specs.declared.record.Change.{Change};
@@ -28,7 +29,8 @@ ghost use Rattle.repl_model.specs.SourceAt.{unplaced, after_units, source_at};
 ghost use Rattle.repl_model.specs.ChangeRows.{change_rows, changes_between, after_change_rows};
 ghost use Rattle.repl_model.specs.Applicable.{is_applicable};
 ghost use Rattle.repl_model.specs.Copies.{copy_at, KeepsWholeRows, LeavesKeys, is_key_fixed};
-ghost use Rattle.repl_model.specs.Worked.{items, item_key, item, plain_log, mixed_log, as_they_come, taken_apart, change_row};
+ghost use Rattle.repl_model.specs.Worked.{items, item_key, item, plain_log, mixed_log};
+ghost use Rattle.repl_model.specs.Worked.{as_they_come, taken_apart, change_row};
 
 /// The empty log has no units, nothing in flight, no commit and no rows.
 pub fn empty_log()

@@ -1,12 +1,20 @@
 //! What holds of the spellings of records. The functions do nothing: their contracts say it.
 
 ghost use Rattle.std.specs.Prelude.{◌≤◌, length};
-ghost use Rattle.repl_records.specs.Capture.{change_row_spelling, IsCapture, IsChangeRow, HasChangeRowSpelling};
-ghost use Rattle.repl_records.specs.FirstStates.{first_head, first_capture, first_decided, first_number, first_read_only, first_replica};
+ghost use Rattle.repl_records.specs.Capture.{change_row_spelling, IsCapture, IsChangeRow};
+ghost use Rattle.repl_records.specs.Capture.{HasChangeRowSpelling};
+ghost use Rattle.repl_records.specs.FirstStates.{first_head, first_capture, first_decided};
+ghost use Rattle.repl_records.specs.FirstStates.{first_number, first_read_only, first_replica};
 ghost use Rattle.repl_records.specs.Prune.{IsDecided};
 ghost use Rattle.repl_records.specs.SetState.{IsLastNumber, IsState};
-ghost use Rattle.repl_records.specs.SourceSide.{source_row_spelling, IsHead, IsSourceRow, HasSourceRowSpelling};
-ghost use Rattle.repl_records.specs.TargetSide.{copy_spelling, IsCopy, HasCopySpelling, point_spelling, IsPoint, HasPointSpelling, aggregate_spelling, IsAggregate, HasAggregateSpelling, history_spelling, IsHistory, HasHistorySpelling, latest_spelling, IsLatest, HasLatestSpelling};
+ghost use Rattle.repl_records.specs.SourceSide.{source_row_spelling, IsHead, IsSourceRow};
+ghost use Rattle.repl_records.specs.SourceSide.{HasSourceRowSpelling};
+ghost use Rattle.repl_records.specs.TargetSide.{copy_spelling, IsCopy, HasCopySpelling};
+ghost use Rattle.repl_records.specs.TargetSide.{point_spelling, IsPoint, HasPointSpelling};
+ghost use Rattle.repl_records.specs.TargetSide.{aggregate_spelling, IsAggregate};
+ghost use Rattle.repl_records.specs.TargetSide.{HasAggregateSpelling, history_spelling, IsHistory};
+ghost use Rattle.repl_records.specs.TargetSide.{HasHistorySpelling, latest_spelling, IsLatest};
+ghost use Rattle.repl_records.specs.TargetSide.{HasLatestSpelling};
 ghost use Rattle.repl_records.specs.declared.capture.ChangeRow.{ChangeRow};
 ghost use Rattle.repl_records.specs.declared.source_side.SourceRow.{SourceRow};
 ghost use Rattle.repl_records.specs.declared.target_side.AggregateRow.{AggregateRow};

@@ -4,12 +4,12 @@
 //! It stands on `row_codec`, which says what a kind of record is and spells its parts; `site_store`
 //! and `rows_at_work`, which work on stored records, stand on it. A kind of record is one type, one
 //! spelling and one law, in one file each: `src/X.rt`, `specs/X.antt` and `specs/laws/X.antt`. Its
-//! fields are the values of its line of the table of areas (`docs/STORAGE.md`), in their order. What
-//! a missing record stands for is in `specs/FirstStates.antt`.
+//! fields are the values of its line of the table of areas (`docs/STORAGE.md`), in their order.
+//! What a missing record stands for is in `specs/FirstStates.antt`.
 //!
-//! For example, `Head { last: 259, commit: 258, time: 100 }` is kept in the table 0 of the area Head
-//! under the key `00`, as `0000000000000103 0000000000000102 0000000000000064`, two hexadecimal
-//! digits a byte.
+//! For example, `Head { last: 259, commit: 258, time: 100 }` is kept in the table 0 of the area
+//! Head under the key `00`, as `0000000000000103 0000000000000102 0000000000000064`, two
+//! hexadecimal digits a byte.
 #![tactic(auto)]
 
 mod capture;

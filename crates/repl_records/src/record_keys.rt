@@ -1,7 +1,18 @@
 //! Keys of records.
 
-ghost use Rattle.repl_records.specs.RecordKeys.{single_spelling, single_cmp, in_flight_key_spelling, IsInFlightKey, in_flight_key_cmp, change_key_spelling, IsChangeKey, change_key_cmp, unit_key_spelling, IsUnitKey, unit_key_cmp, member_key_spelling, IsMemberKey, member_key_cmp};
-ghost use Rattle.repl_records.specs.laws.RecordKeys.{one_single, order_single, key_single, one_in_flight_key, order_in_flight_key, key_in_flight_key, one_change_key, order_change_key, key_change_key, one_unit_key, order_unit_key, key_unit_key, one_member_key, order_member_key, key_member_key};
+ghost use Rattle.repl_records.specs.RecordKeys.{single_spelling, single_cmp};
+ghost use Rattle.repl_records.specs.RecordKeys.{in_flight_key_spelling, IsInFlightKey};
+ghost use Rattle.repl_records.specs.RecordKeys.{in_flight_key_cmp, change_key_spelling};
+ghost use Rattle.repl_records.specs.RecordKeys.{IsChangeKey, change_key_cmp, unit_key_spelling};
+ghost use Rattle.repl_records.specs.RecordKeys.{IsUnitKey, unit_key_cmp, member_key_spelling};
+ghost use Rattle.repl_records.specs.RecordKeys.{IsMemberKey, member_key_cmp};
+ghost use Rattle.repl_records.specs.laws.RecordKeys.{one_single, order_single, key_single};
+ghost use Rattle.repl_records.specs.laws.RecordKeys.{one_in_flight_key, order_in_flight_key};
+ghost use Rattle.repl_records.specs.laws.RecordKeys.{key_in_flight_key, one_change_key};
+ghost use Rattle.repl_records.specs.laws.RecordKeys.{order_change_key, key_change_key};
+ghost use Rattle.repl_records.specs.laws.RecordKeys.{one_unit_key, order_unit_key, key_unit_key};
+ghost use Rattle.repl_records.specs.laws.RecordKeys.{one_member_key, order_member_key};
+ghost use Rattle.repl_records.specs.laws.RecordKeys.{key_member_key};
 ghost use Rattle.row_codec.specs.Spelling.{Any};
 
 use repl_types::Sequence;

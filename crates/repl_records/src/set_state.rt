@@ -1,8 +1,10 @@
 //! How far sets are at their targets.
 
 ghost use Rattle.std.specs.Prelude.{◌≡◌, ◌++◌, ◌↔◌, IsTrue, IfOk};
-ghost use Rattle.repl_records.specs.SetState.{HasNumbers, IsState, ZeroIfAbsent, state_spelling, IsLastNumber, last_number_spelling};
-ghost use Rattle.repl_records.specs.laws.SetState.{one_state, small_state, one_last_number, small_last_number};
+ghost use Rattle.repl_records.specs.SetState.{HasNumbers, IsState, ZeroIfAbsent, state_spelling};
+ghost use Rattle.repl_records.specs.SetState.{IsLastNumber, last_number_spelling};
+ghost use Rattle.repl_records.specs.laws.SetState.{one_state, small_state, one_last_number};
+ghost use Rattle.repl_records.specs.laws.SetState.{small_last_number};
 ghost use Rattle.repl_types.specs.declared.area.Area.TheVariants as areas;
 ghost use Rattle.row_codec.specs.Spelling.{Any};
 ghost use Rattle.row_codec.specs.Takes.{NoPrefix};
@@ -119,8 +121,8 @@ fn is_zero_if_absent(state: &SetState) -> bool
     }
 }
 
-/// A state of a set from the start of the bytes, with any numbers in the place of absent points, and
-/// the bytes after it.
+/// A state of a set from the start of the bytes, with any numbers in the place of absent points,
+/// and the bytes after it.
 #[tactic(auto, using(crate::specs::laws::SetState::only_read_only, crate::specs::laws::SetState::only_replica))]
 fn take_state(alloc: Global, bytes: &[u8]) -> Result<(SetState, &[u8]), TakeError>
     ensures ok { IfOk result (λ part. HasNumbers part.0

@@ -1,7 +1,11 @@
 //! Records of a source: its tables, its changes in flight, and the end of its log.
 
-ghost use Rattle.repl_records.specs.SourceSide.{IsSourceRow, HasSourceRowSpelling, source_row_spelling, in_flight_spelling, IsHead, head_spelling};
-ghost use Rattle.repl_records.specs.laws.SourceSide.{one_source_row, again_source_row, one_in_flight, small_in_flight, one_head, small_head};
+ghost use Rattle.repl_records.specs.SourceSide.{IsSourceRow, HasSourceRowSpelling};
+ghost use Rattle.repl_records.specs.SourceSide.{source_row_spelling, in_flight_spelling, IsHead};
+ghost use Rattle.repl_records.specs.SourceSide.{head_spelling};
+ghost use Rattle.repl_records.specs.laws.SourceSide.{one_source_row, again_source_row};
+ghost use Rattle.repl_records.specs.laws.SourceSide.{one_in_flight, small_in_flight, one_head};
+ghost use Rattle.repl_records.specs.laws.SourceSide.{small_head};
 ghost use Rattle.repl_types.specs.declared.area.Area.TheVariants as areas;
 ghost use Rattle.row_codec.specs.Spelling.{Any};
 ghost use Rattle.row_codec.specs.Storable.{IsStorable};

@@ -1,9 +1,13 @@
 //! The change rows of changes, and what change rows do to the rows of a table.
 
 ghost use Rattle.std.specs.Prelude.{◌≡◌, ◌∷◌, [], ◌++◌, if◌then◌else◌, IfOk, OnOk};
-ghost use Rattle.repl_model.specs.ChangeRows.{no_befores as no_befores_lem, shows_nothing as shows_nothing_lem};
-ghost use Rattle.repl_model.specs.ChangeRows.{insert_row as insert_row_lem, delete_row as delete_row_lem, update_row as update_row_lem};
-ghost use Rattle.repl_model.specs.ChangeRows.{change_rows as change_rows_lem, rows_of_placed, after_change_row, after_change_rows};
+ghost use Rattle.repl_model.specs.ChangeRows.{no_befores as no_befores_lem};
+ghost use Rattle.repl_model.specs.ChangeRows.{shows_nothing as shows_nothing_lem};
+ghost use Rattle.repl_model.specs.ChangeRows.{insert_row as insert_row_lem};
+ghost use Rattle.repl_model.specs.ChangeRows.{delete_row as delete_row_lem};
+ghost use Rattle.repl_model.specs.ChangeRows.{update_row as update_row_lem};
+ghost use Rattle.repl_model.specs.ChangeRows.{change_rows as change_rows_lem, rows_of_placed};
+ghost use Rattle.repl_model.specs.ChangeRows.{after_change_row, after_change_rows};
 
 use crate::changes::{images, key_of, same_values, table_of};
 use crate::rows::Rows;
@@ -182,8 +186,8 @@ pub fn change_rows_of_unit(
     Ok(())
 }
 
-/// Does to the rows of a table what a change row says, whose after-images are a whole row. If memory
-/// runs out, the rows are unspecified.
+/// Does to the rows of a table what a change row says, whose after-images are a whole row. If
+/// memory runs out, the rows are unspecified.
 pub fn apply_change_row(
     alloc: Global,
     def: &TableDef,

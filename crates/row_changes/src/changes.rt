@@ -1,13 +1,19 @@
 //! Changes: which fit their table, which apply, and what they do to its rows.
 
-ghost use Rattle.std.specs.Prelude.{◌≡◌, ◌≤◌, ◌&&◌, ◌||◌, IsTrue, IfOk, if◌then◌else◌, nat_le, sum_by, is_none};
+ghost use Rattle.std.specs.Prelude.{◌≡◌, ◌≤◌, ◌&&◌, ◌||◌, IsTrue, IfOk, if◌then◌else◌, nat_le};
+ghost use Rattle.std.specs.Prelude.{sum_by, is_none};
 ghost use Rattle.std.specs.List.{list_all, zip};
 ghost use Rattle.std.specs.FinMap.{get, insert, remove};
 ghost use Rattle.repl_model.specs.Tables.{key_of as key_of_lem, same_values as same_values_lem};
-ghost use Rattle.repl_model.specs.Tables.{table_of as table_of_lem, is_row, holds as holds_lem, after_change, applies, after_changes, all_apply};
+ghost use Rattle.repl_model.specs.Tables.{table_of as table_of_lem, is_row, holds as holds_lem};
+ghost use Rattle.repl_model.specs.Tables.{after_change, applies, after_changes, all_apply};
 ghost use Rattle.repl_types.specs.Sizes.{key_limit};
-ghost use Rattle.repl_types.specs.Value.{images as images_lem, spelled_len as spelled_len_lem, spelled_limit};
-ghost use Rattle.repl_model.specs.Applicable.{fits_column as fits_column_lem, fits_columns as fits_columns_lem, fits as fits_lem, change_fits as change_fits_lem, is_change_applicable as is_change_applicable_lem};
+ghost use Rattle.repl_types.specs.Value.{images as images_lem, spelled_len as spelled_len_lem};
+ghost use Rattle.repl_types.specs.Value.{spelled_limit};
+ghost use Rattle.repl_model.specs.Applicable.{fits_column as fits_column_lem};
+ghost use Rattle.repl_model.specs.Applicable.{fits_columns as fits_columns_lem, fits as fits_lem};
+ghost use Rattle.repl_model.specs.Applicable.{change_fits as change_fits_lem};
+ghost use Rattle.repl_model.specs.Applicable.{is_change_applicable as is_change_applicable_lem};
 ghost use Rattle.repl_model.specs.SourceAt.{unplaced};
 
 use crate::rows::Rows;

@@ -26,8 +26,8 @@ pub trait Part: Sized + Drop {
         ensures ok { OnOk result (out.new.items ≡ out.old.items ++ spelling self.now) }
         ensures fits { OnOk result (fits self.now) };
 
-    /// The value whose spelling the bytes begin with, and the bytes after it. `Spelling` is returned
-    /// only if they begin with no value's.
+    /// The value whose spelling the bytes begin with, and the bytes after it. `Spelling` is
+    /// returned only if they begin with no value's.
     fn take_part(alloc: Global, bytes: &[u8]) -> Result<(Self, &[u8]), TakeError>
         ensures ok { IfOk result (λ part. fits part.0
             × (bytes.now ≡ spelling part.0 ++ part.1.now)) }

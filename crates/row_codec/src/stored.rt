@@ -49,7 +49,8 @@ pub trait Stored: Part {
         self.put_part(out)
     }
 
-    /// The record whose spelling the bytes are. `Spelling` is returned only if they are no record's.
+    /// The record whose spelling the bytes are. `Spelling` is returned only if they are no
+    /// record's.
     final fn take(alloc: Global, bytes: &[u8]) -> Result<Self, TakeError>
         ensures ok { IfOk result (λ value. Self.fits value × (bytes.now ≡ Self.spelling value)) }
         ensures spelling { result ≡ Err TakeError.Spelling

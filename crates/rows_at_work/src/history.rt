@@ -11,7 +11,8 @@ ghost use Rattle.repl_records.specs.RecordKeys.{IsChangeKey, change_key_spelling
 ghost use Rattle.row_codec.specs.Storable.{IsStorable};
 ghost use Rattle.rows_in_order.specs.Rows.{is_before, IsUpTo};
 ghost use Rattle.rows_at_work.specs.Rules.{rules};
-ghost use Rattle.rows_at_work.specs.History.{FitsKeyedChange, AppendsRow, PutsAtKey, PrunesNext, PrunesAll};
+ghost use Rattle.rows_at_work.specs.History.{FitsKeyedChange, AppendsRow, PutsAtKey, PrunesNext};
+ghost use Rattle.rows_at_work.specs.History.{PrunesAll};
 ghost use Rattle.rows_at_work.specs.History.{in_history, change_key_count, IsPruned};
 
 use faults::Fault;

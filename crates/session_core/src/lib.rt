@@ -7,11 +7,12 @@
 //! program promises; `docs/MODEL.md` says its definitions in words.
 //!
 //! For example, at the word `copy` the input lines `insert 1 items 7 'pen'` and `commit 1 ann 100`
-//! give the output lines `row 7 'pen'` and `ok rows 1`, and the status `Ok`. At the words `copy` and
-//! `x` the status is `Usage`, and nothing is read or written.
+//! give the output lines `row 7 'pen'` and `ok rows 1`, and the status `Ok`. At the words `copy`
+//! and `x` the status is `Usage`, and nothing is read or written.
 #![tactic(auto)]
 
-ghost use Rattle.std.specs.Prelude.{◌≡◌, ◌≤◌, ◌<◌, ◌↔◌, [], length, map, string_bytes, IsTrue, IfSome, Some, false};
+ghost use Rattle.std.specs.Prelude.{◌≡◌, ◌≤◌, ◌<◌, ◌↔◌, [], length, map, string_bytes, IsTrue};
+ghost use Rattle.std.specs.Prelude.{IfSome, Some, false};
 ghost use Rattle.keep_core.specs.Revealed.{Rises, Takes, TakesPrefix};
 ghost use Rattle.copy_lists.specs.Feed.{feed_of};
 ghost use Rattle.line_input.specs.Limits.{input_limit};

@@ -6,8 +6,12 @@ ghost use Rattle.std.specs.Prelude.{◌≡◌, OnOk, IfOk, IfErr, IfSome};
 ghost use Rattle.std.specs.Option.{option_copied};
 ghost use Rattle.repl_types.specs.Sizes.{IsKeySize, IsValueSize};
 ghost use Rattle.repl_types.specs.declared.area.Area.TheVariants.{Spill};
-ghost use Rattle.keep_core.specs.Kept.{Kept, IsOpen, IsClosed, opened, committed, after_read, after_write, after_put, after_remove, seen, WasThere, NextIs, GivesNext};
-ghost use Rattle.site_store.specs.Records.{RowIs, IsRecord, after_key, NextRowIs, Follows, NoDamage, Misread, Misspelt, MisspeltNext, fault_from, Halts, MayHalt};
+ghost use Rattle.keep_core.specs.Kept.{Kept, IsOpen, IsClosed, opened, committed, after_read};
+ghost use Rattle.keep_core.specs.Kept.{after_write, after_put, after_remove, seen, WasThere};
+ghost use Rattle.keep_core.specs.Kept.{NextIs, GivesNext};
+ghost use Rattle.site_store.specs.Records.{RowIs, IsRecord, after_key, NextRowIs, Follows};
+ghost use Rattle.site_store.specs.Records.{NoDamage, Misread, Misspelt, MisspeltNext, fault_from};
+ghost use Rattle.site_store.specs.Records.{Halts, MayHalt};
 
 use faults::Fault;
 use keep_core::{KeepError, Keeper};

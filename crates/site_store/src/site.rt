@@ -2,7 +2,9 @@
 
 ghost use Rattle.std.specs.Prelude.{◌≡◌, OnOk, IfOk, IfErr, OnErr, IfSome};
 ghost use Rattle.std.specs.Option.{option_copied};
-ghost use Rattle.keep_core.specs.Kept.{IsOpen, IsClosed, opened, committed, after_read, after_write, after_put, after_remove, seen, WasThere, Closes};
+ghost use Rattle.keep_core.specs.Kept.{IsOpen, IsClosed, opened, committed, after_read};
+ghost use Rattle.keep_core.specs.Kept.{after_write, after_put, after_remove, seen, WasThere};
+ghost use Rattle.keep_core.specs.Kept.{Closes};
 
 use crate::records::{begin_at, commit_at, get_record, next_record, put_record, remove_record};
 use faults::Fault;
@@ -19,7 +21,9 @@ pub struct Site<K> {
 }
 
 impl<K: Keeper> Site<K> {
-    ghost use Rattle.site_store.specs.Records.{RowIs, IsRecord, after_key, NextRowIs, Follows, NoDamage, Misread, Misspelt, MisspeltNext, Halts, MayHalt};
+    ghost use Rattle.site_store.specs.Records.{RowIs, IsRecord, after_key, NextRowIs, Follows};
+    ghost use Rattle.site_store.specs.Records.{NoDamage, Misread, Misspelt, MisspeltNext, Halts};
+    ghost use Rattle.site_store.specs.Records.{MayHalt};
     ghost use Rattle.site_store.specs.Servers.{site_name, site_keeper, state};
 
     /// It takes no memory.

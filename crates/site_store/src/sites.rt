@@ -1,8 +1,11 @@
 //! All servers, each at its number.
 
-ghost use Rattle.std.specs.Prelude.{◌≡◌, ◌<◌, ◌≤◌, ℕ, ◌^◌, ◌↔◌, IsTrue, [], slice_index_or, length, IfOk, IfErr, MatchOption, take};
+ghost use Rattle.std.specs.Prelude.{◌≡◌, ◌<◌, ◌≤◌, ℕ, ◌^◌, ◌↔◌, IsTrue, [], slice_index_or, length};
+ghost use Rattle.std.specs.Prelude.{IfOk, IfErr, MatchOption, take};
 ghost use Rattle.repl_types.specs.declared.area.Area.{Area};
-ghost use Rattle.site_store.specs.Servers.{names_of, held_of, work_of, faults_of, reads_of, writes_of, AllClosed, AreApart, AreServers, IsPlace, HasNone};
+ghost use Rattle.site_store.specs.Servers.{names_of, held_of, work_of, faults_of, reads_of};
+ghost use Rattle.site_store.specs.Servers.{writes_of, AllClosed, AreApart, AreServers, IsPlace};
+ghost use Rattle.site_store.specs.Servers.{HasNone};
 
 use crate::site::Site;
 use keep_core::Keeper;

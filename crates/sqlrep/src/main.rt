@@ -8,7 +8,8 @@
 //! `row 1 'pen'` and `ok rows 1`, and exits with 0.
 #![tactic(auto)]
 
-ghost use Rattle.std.specs.Prelude.{◌≡◌, ◌≢◌, ◌⊎◌, drop, map, string_bytes, true, false, IfErr, IsOk, IsTrue};
+ghost use Rattle.std.specs.Prelude.{◌≡◌, ◌≢◌, ◌⊎◌, drop, map, string_bytes, true, false, IfErr};
+ghost use Rattle.std.specs.Prelude.{IsOk, IsTrue};
 ghost use Rattle.session_core.specs.Session.{is_copy, is_of_server};
 ghost use Rattle.sqlrep.specs.Asked.{asks_text, asks_nothing};
 

@@ -4,7 +4,8 @@ ghost use Rattle.std.specs.Prelude.{◌≡◌, ◌≢◌, ◌<◌, length, OnOk,
 ghost use Rattle.site_store.specs.Servers.{AllClosed};
 ghost use Rattle.site_store.specs.Views.{names, held, work};
 ghost use Rattle.run_core.specs.Runs.{Went, Stopped};
-ghost use Rattle.two_areas.specs.World.{World, Stands, copied_line as copied_line_lem, step_talk, talk};
+ghost use Rattle.two_areas.specs.World.{World, Stands, copied_line as copied_line_lem, step_talk};
+ghost use Rattle.two_areas.specs.World.{talk};
 
 use crate::step::copy_numbers;
 use faults::{Fault, ShowError};

@@ -14,9 +14,11 @@ use std::alloc::Global;
 /// Calls at one server. After a fault no transaction is open at any server, and each server holds
 /// what it held; but after a fault of a keeper at a commit the commit may have taken place.
 impl<K: Keeper> Sites<K> {
-    ghost use Rattle.site_store.specs.Records.{RowIs, IsRecord, after_key, NextRowIs, Follows, NoDamage, Misread, Misspelt, MisspeltNext};
+    ghost use Rattle.site_store.specs.Records.{RowIs, IsRecord, after_key, NextRowIs, Follows};
+    ghost use Rattle.site_store.specs.Records.{NoDamage, Misread, Misspelt, MisspeltNext};
     ghost use Rattle.site_store.specs.Views.{names, work, sees, IsOpenAt, IsClosedAt};
-    ghost use Rattle.site_store.specs.Calls.{no_access, reads_of_one, writes_of_one, AtServer, Reads, Begins, Puts, Commits, Fails, InDoubt};
+    ghost use Rattle.site_store.specs.Calls.{no_access, reads_of_one, writes_of_one, AtServer};
+    ghost use Rattle.site_store.specs.Calls.{Reads, Begins, Puts, Commits, Fails, InDoubt};
 
     /// Opens a transaction at the server, which sees what is held there.
     pub fn begin(&mut self, server: u32) -> Result<(), Fault>

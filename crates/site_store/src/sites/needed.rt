@@ -29,9 +29,11 @@ fn spell_row<R: Stored>(alloc: Global, row: &R) -> Result<List<u8>, AllocError>
 impl<K: Keeper> Sites<K> {
     ghost use Rattle.repl_types.specs.declared.status.DamageCause.TheVariants.{Absent, Unfit};
     ghost use Rattle.faults.specs.declared.fault.Fault.TheVariants.{Damaged};
-    ghost use Rattle.site_store.specs.Records.{RowIs, IsRecord, StateIs, Misread, Misspelt, MissesOrMisreads, IsMissing};
+    ghost use Rattle.site_store.specs.Records.{RowIs, IsRecord, StateIs, Misread, Misspelt};
+    ghost use Rattle.site_store.specs.Records.{MissesOrMisreads, IsMissing};
     ghost use Rattle.site_store.specs.Views.{names, sees};
-    ghost use Rattle.site_store.specs.Calls.{no_access, reads_of_one, AtServer, Reads, ClosesAll, Fails, IsMemoryOr};
+    ghost use Rattle.site_store.specs.Calls.{no_access, reads_of_one, AtServer, Reads, ClosesAll};
+    ghost use Rattle.site_store.specs.Calls.{Fails, IsMemoryOr};
 
     /// The record at the key, or this first state if there is none.
     pub fn get_state<R: Stored>(
