@@ -93,7 +93,8 @@ pub(crate) trait Nested: Sized + Drop {
     ghost forest: { (tree : Self) → IsForest 1 (nodes tree) };
 
     /// The first node of a tree is the node at its top.
-    ghost first: { (tree : Self) → (rest : List (Root Self.Leaf Self.Joint)) × (nodes tree ≡ top tree ∷ rest) };
+    ghost first: { (tree : Self)
+        → (rest : List (Root Self.Leaf Self.Joint)) × (nodes tree ≡ top tree ∷ rest) };
 
     /// Trees of equal nodes are equal.
     ghost same: { (x y : Self) → nodes x ≡ nodes y → x ≡ y };

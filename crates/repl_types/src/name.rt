@@ -1,7 +1,8 @@
 //! Names of servers, tables, columns, sets and users.
 
 ghost use Rattle.std.specs.Prelude.{◌≡◌, IfOk, IsTrue};
-ghost use Rattle.repl_types.specs.Name.{is_name, is_name as is_name_lem, is_name_byte as is_name_byte_lem, name_of};
+ghost use Rattle.repl_types.specs.Name.{is_name, is_name as is_name_lem};
+ghost use Rattle.repl_types.specs.Name.{is_name_byte as is_name_byte_lem, name_of};
 
 use crate::sizes::NAME_LIMIT;
 use crate::text::Text;

@@ -2,8 +2,10 @@
 
 ghost use Rattle.std.specs.Prelude.{◌≡◌, ◌++◌, MatchOption, OnOk, IfOk};
 ghost use Rattle.std.specs.Option.{option_map, option_and_then};
-ghost use Rattle.repl_types.specs.Numbers.{is_numeral as is_numeral_lem, is_integer as is_integer_lem, number_of, integer_of};
-ghost use Rattle.repl_types.specs.ValueText.{escaped_byte, value_text, value_of, unescaped, text_at_end, IsNextByte, text_value};
+ghost use Rattle.repl_types.specs.Numbers.{is_numeral as is_numeral_lem};
+ghost use Rattle.repl_types.specs.Numbers.{is_integer as is_integer_lem, number_of, integer_of};
+ghost use Rattle.repl_types.specs.ValueText.{escaped_byte, value_text, value_of, unescaped};
+ghost use Rattle.repl_types.specs.ValueText.{text_at_end, IsNextByte, text_value};
 
 use crate::sizes::TEXT_LIMIT;
 use crate::text::Text;

@@ -9,8 +9,10 @@ ghost use Rattle.repl_types.specs.Value.{Values, value_cmp, key_cmp, images, spe
 ghost use Rattle.repl_types.specs.declared.value.Value.{Value};
 ghost use Rattle.repl_types.specs.declared.value.Value.TheVariants.{Null, Int, Text};
 ghost use Rattle.repl_types.specs.declared.record.LogRecord.{LogRecord};
-ghost use Rattle.row_codec.specs.LogRecords.{IsLogRecord, HasLogSpelling, HasShortRows, log_spelling};
-ghost use Rattle.row_codec.specs.Spelling.{IsCounted, IsKey, IsRow, b16, b32, b64, value_spelling, row_spelling, key_spelling};
+ghost use Rattle.row_codec.specs.LogRecords.{IsLogRecord, HasLogSpelling, HasShortRows};
+ghost use Rattle.row_codec.specs.LogRecords.{log_spelling};
+ghost use Rattle.row_codec.specs.Spelling.{IsCounted, IsKey, IsRow, b16, b32, b64, value_spelling};
+ghost use Rattle.row_codec.specs.Spelling.{row_spelling, key_spelling};
 ghost use Rattle.row_codec.specs.Storable.{IsStorable};
 
 /// Byte order of spelled keys is the order of keys: column by column, NULL first, then the integers

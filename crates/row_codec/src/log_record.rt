@@ -2,8 +2,10 @@
 
 ghost use Rattle.repl_types.specs.declared.area.Area.TheVariants as areas;
 ghost use Rattle.std.specs.Prelude.{◌≡◌, ◌∷◌, ◌++◌, IfOk, OnOk};
-ghost use Rattle.row_codec.specs.LogRecords.{change_spelling, IsChange, HasChangeSpelling, log_spelling, IsLogRecord, HasLogSpelling};
-ghost use Rattle.row_codec.specs.Spelling.{Is32, IsCounted, IsName, IsRow, b32, short_text, row_spelling};
+ghost use Rattle.row_codec.specs.LogRecords.{change_spelling, IsChange, HasChangeSpelling};
+ghost use Rattle.row_codec.specs.LogRecords.{log_spelling, IsLogRecord, HasLogSpelling};
+ghost use Rattle.row_codec.specs.Spelling.{Is32, IsCounted, IsName, IsRow, b32, short_text};
+ghost use Rattle.row_codec.specs.Spelling.{row_spelling};
 ghost use Rattle.row_codec.specs.Storable.{IsStorable};
 ghost use Rattle.row_codec.specs.Takes.{NoPrefix};
 ghost use Rattle.row_codec.specs.laws.Again.{log_again};

@@ -2,9 +2,13 @@
 
 ghost use Rattle.std.specs.Prelude.{◌≡◌, ◌++◌, OnOk};
 ghost use Rattle.row_codec.specs.Spelling.{Any, b16, Is16, list_spelling, ListFits};
-ghost use Rattle.row_codec.specs.Definitions.{kind_spelling, column_spelling, IsColumn, table_spelling, IsTable, HasTableSpelling, registration_spelling, IsRegistration, HasRegistrationSpelling};
+ghost use Rattle.row_codec.specs.Definitions.{kind_spelling, column_spelling, IsColumn};
+ghost use Rattle.row_codec.specs.Definitions.{table_spelling, IsTable, HasTableSpelling};
+ghost use Rattle.row_codec.specs.Definitions.{registration_spelling, IsRegistration};
+ghost use Rattle.row_codec.specs.Definitions.{HasRegistrationSpelling};
 ghost use Rattle.row_codec.specs.laws.Again.{table_again, registration_again};
-ghost use Rattle.row_codec.specs.laws.Definitions.{one_places, one_kind, one_column, one_table, one_registration};
+ghost use Rattle.row_codec.specs.laws.Definitions.{one_places, one_kind, one_column, one_table};
+ghost use Rattle.row_codec.specs.laws.Definitions.{one_registration};
 
 use crate::part::Part;
 use crate::parts::{take_four, take_six, take_three};

@@ -2,7 +2,8 @@
 
 ghost use Rattle.std.specs.Prelude.{◌≡◌, ◌≢◌, ◌++◌, ◌∷◌, ℕ, List, [], length, OnOk, IfOk, IfSome};
 ghost use Rattle.repl_types.specs.ValueText.{IsValue};
-ghost use Rattle.row_codec.specs.Spelling.{Any, marked_byte, zeros_marked, shifted, value_spelling, IsText};
+ghost use Rattle.row_codec.specs.Spelling.{Any, marked_byte, zeros_marked, shifted, value_spelling};
+ghost use Rattle.row_codec.specs.Spelling.{IsText};
 ghost use Rattle.row_codec.specs.laws.Values.{one_value};
 
 use crate::part::Part;

@@ -75,7 +75,8 @@ impl Part for CopiedRow {
 
     ghost spelling = { λ x. b64 x.value };
 
-    ghost one = { one_by Is64 b64 (λ x. Is64 x.value) (λ x. x.value) (λ x y e. ap (λ n. record { value = n }) e) (λ x fits. fits) one64 };
+    ghost one = { one_by Is64 b64 (λ x. Is64 x.value) (λ x. x.value)
+        (λ x y e. ap (λ n. record { value = n }) e) (λ x fits. fits) one64 };
 
     ghost again = { λ _ _. tt };
 

@@ -1,5 +1,5 @@
 -- What a call leaves at all servers, at Ok and at a fault.
-use Rattle.std.specs.Prelude.{◌≡◌, ◌⊎◌, ◌&&◌, ◌==◌, if◌then◌else◌, ℕ, ◌+◌, ◌-◌, ◌^◌, ◌<◌, ◌≤◌, List, Option, Some, None, slice_index_or, slice_set}
+use Rattle.std.specs.Prelude.{◌≡◌, ◌⊎◌, ◌&&◌, ◌==◌, if◌then◌else◌, ℕ, ◌+◌, ◌<◌, ◌≤◌, List, Option, Some, None, slice_index_or, slice_set}
 use Rattle.repl_types.specs.Area.{same_area}
 use Rattle.repl_types.specs.declared.area.Area.{Area}
 use Rattle.repl_types.specs.declared.status.DamageCause.{DamageCause}
@@ -7,7 +7,7 @@ use Rattle.repl_types.specs.declared.status.DamageCause.TheVariants as causes
 use Rattle.faults.specs.declared.fault.Fault.{Fault}
 use Rattle.faults.specs.declared.fault.Fault.TheVariants as faults
 use Rattle.keep_core.specs.Kept.{Kept}
-use Rattle.keep_core.specs.Revealed.{Rises}
+use Rattle.keep_core.specs.Revealed.{count_max, Rises}
 use Rattle.site_store.specs.Servers.{AllClosed}
 use Rattle.site_store.specs.Views.{names, held, work, fault_counts, reads_in, writes_in, sees}
 use Rattle.site_store.specs.Works.{Works, Sets}
@@ -21,7 +21,7 @@ NoneFell old new = (s : ℕ) → slice_index_or old s 0 ≤ slice_index_or new s
 
 -- no count fell, unless it has reached its maximum
 abbrev pub NoneBack : List ℕ → List ℕ → Type 0
-NoneBack old new = (s : ℕ) → slice_index_or new s 0 < 2 ^ 64 - 1 → slice_index_or old s 0 ≤ slice_index_or new s 0
+NoneBack old new = (s : ℕ) → slice_index_or new s 0 < count_max → slice_index_or old s 0 ≤ slice_index_or new s 0
 
 -- how often at most each area of each server is read, and written
 pub record Bounds : Type 0 where
