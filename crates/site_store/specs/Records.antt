@@ -1,8 +1,7 @@
 -- What one keeper gives as records, and why a call of it failed.
-use Rattle.std.specs.Prelude.{◌≡◌, ◌⊎◌, ℕ, ◌≤◌, false, List, [], Option, Some, None, IfSome}
+use Rattle.std.specs.Prelude.{◌≡◌, ◌⊎◌, ℕ, ◌≤◌, List, [], Option, Some, None, IfSome}
 use Rattle.std.specs.Option.{option_map}
 use Rattle.std.specs.declared.cmp.Ordering.TheVariants.{Less}
-use Rattle.repl_types.specs.Area.{same_area}
 use Rattle.repl_types.specs.Bytes.{bytes_cmp}
 use Rattle.repl_types.specs.Sizes.{IsKeySize, IsValueSize}
 use Rattle.repl_types.specs.declared.area.Area.{Area}
@@ -118,9 +117,3 @@ pub record MayHalt (server : ℕ) (old new : Kept) (e : Fault) : Type 0 where
 abbrev pub fault_from : ℕ → KeepError → Fault
 fault_from server keep.Memory = faults.Memory
 fault_from server keep.Failed = faults.Keeper server
-
--- ---- areas
-
--- the one area isn't the other
-abbrev pub Other : Area → Area → Type 0
-Other a b = same_area a b ≡ false

@@ -19,7 +19,7 @@ use Rattle.site_store.specs.Works.{Sets}
 use Rattle.site_store.specs.Calls.{reads_of_one, writes_of_one, Reads, Puts, Fails}
 use Rattle.site_store.specs.Damage.{AddsOnlySpelt, Damages}
 use Rattle.site_store.specs.laws.Counts.{at_most_itself, reads_and_writes_then, read_within}
-use Rattle.site_store.specs.laws.Transactions.{seen_held, other_work}
+use Rattle.site_store.specs.laws.Transactions.{seen_held}
 use Rattle.site_store.specs.laws.Steps.{works_none, works_read, works_put, works_on, works_fail}
 use Rattle.site_store.specs.laws.Numbers.{numbers_in_order}
 use Rattle.site_store.specs.laws.Damage.{adds_nothing, adds_put, adds_then, shown_before}
@@ -161,7 +161,3 @@ module _ {K : Type 0} (kept : K → Kept) where
   -- the next number can't be copied
   pub copies_fail : (s0 s1 s2 : Sites K) (source target from mid i most : ℕ) (e : Fault) → IsOpenAt (work kept s0) target → i + 1 ≤ most → CopiesOn kept s0 s1 source target from mid i → Fails kept s1 s2 (in_loop 1 source target) (Damages (OneOf source target) rules kept s1) e → Fails kept s0 s2 (in_loop most source target) (Damages (OneOf source target) rules kept s0) e
   copies_fail s0 s1 s2 source target from mid i most e open_at le first f = works_fail kept (OneOf source target) rules s0 s1 s2 target (in_loop i source target) (in_loop 1 source target) (in_loop most source target) (Copies (held kept s0) source from mid) e open_at (reads_and_writes_then i i 1 1 most most source areas.Log target areas.Target le le) (λ c d p. shown_before rules asks_nothing c d p.adds) first.works f
-
-  -- inside the transaction the source's is closed still
-  pub copies_closed : (s0 s1 : Sites K) (source target from mid i : ℕ) → source ≢ target → IsClosedAt (work kept s0) source → CopiesOn kept s0 s1 source target from mid i → IsClosedAt (work kept s1) source
-  copies_closed s0 s1 source target from mid i ne closed first = other_work (work kept s0) (work kept s1) target source (Copies (held kept s0) source from mid) first.works.works ne ∙ closed

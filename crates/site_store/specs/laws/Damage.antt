@@ -200,10 +200,6 @@ adds_then rules c d e first second a t key value h = elim (second a t key value 
   | inr old ↦ first a t key value old
 ]
 
--- damage that was shown before one change, and before another before it, was shown before both
-pub shown_then : (rules : Rules) (c d e : Contents) → ShownBefore rules c d → ShownBefore rules d e → ShownBefore rules c e
-shown_then rules c d e first second a cause h = first a cause (second a cause h)
-
 -- ---- a fault by itself
 
 module _ {K : Type 0} (kept : K → Kept) (s0 s1 : Sites K) where
