@@ -37,7 +37,7 @@ fn change_rows_of_units(
 }
 
 /// The copy that the change rows of the units make.
-fn copied(alloc: Global, def: &TableDef, units: &[Unit]) -> Result<Rows, AllocError>
+fn copy_of_units(alloc: Global, def: &TableDef, units: &[Unit]) -> Result<Rows, AllocError>
     ensures { IfOk result (λ copy. copy ≡ after_change_rows def.now
         (flat_map (change_rows items_registration_lem) units.now) empty) }
 {
@@ -72,7 +72,7 @@ pub fn run_copy<I: Source, O: Sink>(
     up_to_last_commit();
     copy_by_change_rows();
     let fed = feed(alloc, input)?;
-    let copy = copied(alloc, &fed.source.table, fed.source.units.as_slice())?;
+    let copy = copy_of_units(alloc, &fed.source.table, fed.source.units.as_slice())?;
     write_copy(alloc, output, &copy, fed.refused)?;
     Ok(fed.refused)
 }

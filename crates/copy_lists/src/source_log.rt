@@ -36,7 +36,7 @@ fn may_go_on(in_flight: Option<u32>, tx: u32) -> bool
 }
 
 /// A change with its position.
-fn placed(pos: u64, change: &Change) -> Result<Placed, AllocError>
+fn place_change(pos: u64, change: &Change) -> Result<Placed, AllocError>
     ensures { IfOk result (λ placed. placed ≡ record { pos = pos; change = change.now }) }
 {
     Ok(Placed {
@@ -125,7 +125,7 @@ impl SourceLog {
         }
         let pos = self.records.len() as u64 + 1;
         one_more_record();
-        self.changes.push(placed(pos, &change)?)?;
+        self.changes.push(place_change(pos, &change)?)?;
         self.records.push(LogRecord::Change { tx, change })?;
         self.in_flight = Some(tx);
         Ok(None)

@@ -6,7 +6,7 @@ ghost use Rattle.std.specs.Option.{option_map, option_to_list};
 ghost use Rattle.line_input.specs.Limits.{input_limit};
 ghost use Rattle.line_input.specs.Pieces.{piece_size};
 
-use crate::line_end::{LINE_LIMIT, ended, last};
+use crate::line_end::{LINE_LIMIT, end_line, last};
 use keep_core::{ReadError, Source};
 use std::alloc::{AllocError, AllocFailed, Global};
 
@@ -209,7 +209,7 @@ impl Input {
         let mut long = false;
         while let Some(byte) = self.next_byte(source)? {
             if byte == b'\n' {
-                return Ok(ended(line, long));
+                return Ok(end_line(line, long));
             }
             if line.len() <= LINE_LIMIT {
                 line.push(byte)?;

@@ -20,7 +20,7 @@ fn strip(line: &mut Vec<u8>)
 }
 
 /// Ends a line at its line feed. `long` says that it has more bytes than were kept.
-pub fn ended(line: &mut Vec<u8>, long: bool) -> Next
+pub fn end_line(line: &mut Vec<u8>, long: bool) -> Next
     ensures ends { (bytes : List ℕ) → IsKept bytes line.old.items long
         → EndsAs result line.new.items bytes }
     ensures short { result ≡ Next.Line → length line.new.items ≤ line_limit }

@@ -40,7 +40,7 @@ impl Drop for Expr {
                 | Expr::Concat(left, right) => {
                     let mut place = left;
                     let first = place.replace(Expr::Column(0));
-                    self = first.turned(place, right);
+                    self = first.rotate(place, right);
                 }
             }
         }
@@ -50,7 +50,7 @@ impl Drop for Expr {
 impl Expr {
     /// A step of dropping an expression: `self` was at its left, in `place`, and `right` at its
     /// right. What is left to drop weighs less.
-    fn turned(self, mut place: Boxed<Expr>, right: Boxed<Expr>) -> Expr
+    fn rotate(self, mut place: Boxed<Expr>, right: Boxed<Expr>) -> Expr
         requires { place ≡ Expr.Column 0 }
         ensures { expr_weight result < 1 + 2 * expr_weight self + expr_weight right }
     {
@@ -189,7 +189,7 @@ impl Nested for Expr {
     }
 
     #[tactic(auto, using(crate::specs::laws::Exprs::expr_views))]
-    fn joined(&self) -> Option<(ExprJoint, &Expr, &Expr)> {
+    fn branches(&self) -> Option<(ExprJoint, &Expr, &Expr)> {
         match self {
             Expr::Column(_) | Expr::Int(_) => None,
             Expr::Text(_) => None,

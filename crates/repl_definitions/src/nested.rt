@@ -64,7 +64,7 @@ pub(crate) trait Nested: Sized + Drop {
             (λ pair. nodes self.now ≡ top self.now ∷ nodes pair.0.now ++ nodes pair.1.now)) };
 
     /// What joins the two trees below the top, and these trees; None for a leaf.
-    fn joined(&self) -> Option<(Self::Joint, &Self, &Self)>
+    fn branches(&self) -> Option<(Self::Joint, &Self, &Self)>
         ensures { MatchOption result
             (IsLeaf (top self.now))
             (λ parts.
@@ -188,7 +188,7 @@ pub(crate) fn clone_nested<T: Nested>(alloc: Global, tree: &T) -> Result<T, Allo
     waiting.push(tree)?;
     let mut pending = Vec::new(alloc);
     while let Some(next) = waiting.pop() {
-        if let Some((joint, left, right)) = next.joined() {
+        if let Some((joint, left, right)) = next.branches() {
             waiting.push(right)?;
             waiting.push(left)?;
             pending.push(Pending { joint, left: None })?;

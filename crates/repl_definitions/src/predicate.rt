@@ -49,7 +49,7 @@ impl Drop for Predicate {
                 Predicate::And(left, right) | Predicate::Or(left, right) => {
                     let mut place = left;
                     let first = place.replace(Predicate::IsNull(0));
-                    self = first.turned(place, right);
+                    self = first.rotate(place, right);
                 }
             }
         }
@@ -59,7 +59,7 @@ impl Drop for Predicate {
 impl Predicate {
     /// A step of dropping a predicate: `self` was at its left, in `place`, and `right` at its
     /// right. What is left to drop weighs less.
-    fn turned(self, mut place: Boxed<Predicate>, right: Boxed<Predicate>) -> Predicate
+    fn rotate(self, mut place: Boxed<Predicate>, right: Boxed<Predicate>) -> Predicate
         requires { place ≡ Predicate.IsNull 0 }
         ensures { predicate_weight result < 1 + 2 * predicate_weight self + predicate_weight right }
     {
@@ -295,7 +295,7 @@ impl Nested for Predicate {
     }
 
     #[tactic(auto, using(crate::specs::laws::Predicates::predicate_views))]
-    fn joined(&self) -> Option<(PredicateJoint, &Predicate, &Predicate)> {
+    fn branches(&self) -> Option<(PredicateJoint, &Predicate, &Predicate)> {
         match self {
             Predicate::Compare {
                 left: _,

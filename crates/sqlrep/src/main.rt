@@ -53,7 +53,7 @@ fn after_name(words: &[String]) -> &[String]
 }
 
 /// The status of a run that only prints a text.
-fn printed(answer: Result<(), ReadError>) -> Status
+fn print_status(answer: Result<(), ReadError>) -> Status
     ensures ok { IsOk answer → result ≡ Status.Ok }
     ensures memory { answer ≡ Err ReadError.Memory → result ≡ Status.Memory }
     ensures failed { answer ≡ Err ReadError.Failed → result ≡ Status.OutputFault }
@@ -76,7 +76,10 @@ fn run_help(rt: &HostRuntime, words: &[String]) -> Status
     ensures never { is_of_server result ≡ false }
 {
     match asked_text(rt.alloc(), words) {
-        Ok(Some(text)) => printed(write_line(&mut Writes::new(io::writer(rt)), text.as_bytes())),
+        Ok(Some(text)) => print_status(write_line(
+            &mut Writes::new(io::writer(rt)),
+            text.as_bytes(),
+        )),
         Ok(None) => Status::Usage,
         Err(_) => Status::Memory,
     }

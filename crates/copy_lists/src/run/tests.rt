@@ -1,6 +1,6 @@
 //! A copy that is made of change rows.
 
-use super::{change_rows_of_units, copied};
+use super::{change_rows_of_units, copy_of_units};
 use crate::items::{items_registration, items_table};
 use log_text::read_record;
 use repl_types::{List, LogRecord, Name, Op, Placed, Unit, UnitHead};
@@ -57,7 +57,7 @@ fn the_copy_is_made_of_a_change_row_for_each_change(rt: HostRuntime) -> Result<(
     let units = vec![in alloc; unit]?;
     let ops = ops_of(alloc, units.as_slice())?;
     assert_eq!(rt; ops.as_slice(), [Op::I, Op::I, Op::U, Op::D].as_slice());
-    let copy = copied(alloc, &table, units.as_slice())?;
+    let copy = copy_of_units(alloc, &table, units.as_slice())?;
     assert_eq!(rt; copy.len(), 1);
     Ok(())
 }

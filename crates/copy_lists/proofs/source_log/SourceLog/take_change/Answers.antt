@@ -23,7 +23,7 @@ returns-clause-taken c e = (
       (may_go_on_by_log c.args.self.now c.args.tx c.requires (sym c.may_go_on.ensures ∙ c.if-not-may_go_on.false))
       (ap (λ (def : TableDef). is_change_applicable def c.args.change) (sym c.requires.table) ∙ sym c.in_ok-is_change_applicable.ensures ∙ c.if-not-branch.false)
       refl c.in_ok-push-2.ensures.items refl
-      (c.in_ok-push.ensures.items ∙ ap (λ (placed : Placed). c.args.self.now.changes ++ placed ∷ []) c.in_ok-placed.ensures ∙ ap (λ (n : ℕ). c.args.self.now.changes ++ record { pos = n + 1; change = c.args.change } ∷ []) c.len.ensures.len)
+      (c.in_ok-push.ensures.items ∙ ap (λ (placed : Placed). c.args.self.now.changes ++ placed ∷ []) c.in_ok-place_change.ensures ∙ ap (λ (n : ℕ). c.args.self.now.changes ++ record { pos = n + 1; change = c.args.change } ∷ []) c.len.ensures.len)
       refl refl refl,
   c.in_ok-push-2.ensures.items,
 )

@@ -8,8 +8,8 @@ pub returns-then-byte-eq10-clause-line : goal.returns-then-byte-eq10-clause-line
 returns-then-byte-eq10-clause-line g c =
     let read = c.loop-byte.invariant.line in
     let next = rw (c.in-Some.is, c.if-byte-eq10.true) at c.in_ok-byte.ensures.left in
-    read_to_feed c.ended.result c.ended.new.line.items (left_of c.args.self.now (g.I.Source.left c.args.source.now)) (left_of c.loop-byte.self (g.I.Source.left c.loop-byte.source)) (left_of c.next_byte.new.self (g.I.Source.left c.next_byte.new.source))
-    read.so_far read.plain read.parts next (c.ended.ensures.ends read.so_far read.kept)
+    read_to_feed c.end_line.result c.end_line.new.line.items (left_of c.args.self.now (g.I.Source.left c.args.source.now)) (left_of c.loop-byte.self (g.I.Source.left c.loop-byte.source)) (left_of c.next_byte.new.self (g.I.Source.left c.next_byte.new.source))
+    read.so_far read.plain read.parts next (c.end_line.ensures.ends read.so_far read.kept)
 
 pub loop-byte-preserved-in-Continue-branch-3 : goal.loop-byte-preserved-in-Continue-branch-3
 loop-byte-preserved-in-Continue-branch-3 g c =
@@ -64,7 +64,7 @@ returns-then-byte-eq10-clause-meets_end g c = λ _.
       bytes = read.so_far;
       parts = parts-pushed (left_of c.args.self.now (g.I.Source.left c.args.source.now)) (left_of c.loop-byte.self (g.I.Source.left c.loop-byte.source)) (left_of c.next_byte.new.self (g.I.Source.left c.next_byte.new.source)) read.so_far 10 read.parts next;
       spent = omega (arith, read.spent);
-      holds = omega (arith, c.ended.ensures.shorter, kept_over read.so_far c.loop-byte.line.items c.loop-byte.long read.kept);
+      holds = omega (arith, c.end_line.ensures.shorter, kept_over read.so_far c.loop-byte.line.items c.loop-byte.long read.kept);
     }
 
 pub returns-then-byte-eq10-clause-cause : goal.returns-then-byte-eq10-clause-cause

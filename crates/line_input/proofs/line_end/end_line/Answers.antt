@@ -1,8 +1,8 @@
 use Rattle.std.proofs.Common.{ap, ◌∙◌, arith, length}
 use Rattle.std.specs.Str.Lines.{strip_carriage_return}
 use Rattle.line_input.proofs.LineBytes.{kept_all, kept_more, stripped_len}
-use Rattle.line_input.proofs.line_end.ended.Goals as goal
-use Rattle.line_input.proofs.line_end.ended.Goals.{then-long-via-then-long, then-long-via-else-long+then-len-gt-LINE_LIMIT}
+use Rattle.line_input.proofs.line_end.end_line.Goals as goal
+use Rattle.line_input.proofs.line_end.end_line.Goals.{then-long-via-then-long, then-long-via-else-long+then-len-gt-LINE_LIMIT}
 
 pub returns-then-long-clause-ends : goal.returns-then-long-clause-ends
 returns-then-long-clause-ends c = λ bytes kept. elim c.then-long.branch [
