@@ -1,4 +1,4 @@
--- A line that is fed, and the feed that further lines come to.
+-- A line that is fed, and the feed after further lines.
 use Rattle.std.proofs.Common.{◌≡◌, ℕ, ◌+◌, ◌<◌, ◌≤◌, Bool, true, cond, List, [], ◌∷◌, length, Option, Some, None, refl, sym, ap, subst, ◌∙◌, arith}
 use Rattle.std.specs.Prelude.{is_some, not, IfSome}
 use Rattle.std.specs.Option.{option_map}
@@ -15,15 +15,15 @@ use Rattle.copy_lists.specs.Feed.{Outcome, skipped, taken, refused, short_outcom
 use Rattle.copy_lists.specs.declared.feed.Fed.{Fed}
 use Rattle.line_input.specs.declared.input.Input.{Input}
 use Rattle.line_input.specs.declared.input.Next.TheVariants.{End}
-use Rattle.line_input.specs.Input.{kept, left_of, total_of, ReadsLine}
-use Rattle.copy_lists.specs.Fed.{resumed, Leaves, ComesTo}
+use Rattle.line_input.specs.Input.{piece_left, left_of, total_of, ReadsLine}
+use Rattle.copy_lists.specs.Fed.{resumed, Leaves, LeadsToFeed}
 
--- no refusal yet
-pub none_of : (refusal : Option Refused) (absent : Bool) → is_some refusal ≡ not absent → absent ≡ true → refusal ≡ None
-none_of None absent e t = refl
-none_of (Some r) absent e t = absurd (true≢false (e ∙ ap not t))
+-- if no refusal is present, it is None
+pub no_refusal : (refusal : Option Refused) (absent : Bool) → is_some refusal ≡ not absent → absent ≡ true → refusal ≡ None
+no_refusal None absent e t = refl
+no_refusal (Some r) absent e t = absurd (true≢false (e ∙ ap not t))
 
--- a line over the limit is refused
+-- feeding a line over the limit refuses it
 pub long_fed : (log : List LogRecord) (refusal : Option Refused) (number : ℕ) (line : List ℕ) (more : List (List ℕ)) → refusal ≡ None → line_limit < length line
     → resumed log (Some (record { line = number; cause = LineTooLong })) (number + 1) more ≡ resumed log refusal number (line ∷ more)
 unfolding outcome
@@ -31,7 +31,7 @@ long_fed log refusal number line more none h =
     sym (ap (λ (r : Option Refused). resumed log r number (line ∷ more)) none
     ∙ ap (λ (b : Bool). after_outcome (cond b (refused LineTooLong) (short_outcome log line)) number log (λ longer. feed_from (number + 1) longer more)) (lt-ltb line_limit (length line) h))
 
--- a line within the limit, by what it comes to
+-- feeding a line within the limit, by its outcome
 outcome_fed : (before now : SourceLog) (number : ℕ) (more : List (List ℕ)) (o : Outcome) (cause : Option Cause) → Leaves o cause before now
     → resumed now.records (option_map (λ (c : Cause). record { line = number; cause = c }) cause) (number + 1) more ≡ after_outcome o number before.records (λ longer. feed_from (number + 1) longer more)
 outcome_fed before now number more skipped cause (e, same) =
@@ -44,6 +44,7 @@ outcome_fed before now number more (refused why) cause (e, keeps) =
     ap (λ (c : Option Cause). resumed now.records (option_map (λ (c : Cause). record { line = number; cause = c }) c) (number + 1) more) e
     ∙ ap (λ (log : List LogRecord). resumed log (Some (record { line = number; cause = why })) (number + 1) more) keeps.records
 
+-- feeding a line within the limit takes the first of the further lines
 pub line_fed : (before now : SourceLog) (refusal : Option Refused) (number : ℕ) (line : List ℕ) (more : List (List ℕ)) (cause : Option Cause) → refusal ≡ None → length line ≤ line_limit
     → Leaves (short_outcome before.records line) cause before now
     → resumed now.records (option_map (λ (c : Cause). record { line = number; cause = c }) cause) (number + 1) more ≡ resumed before.records refusal number (line ∷ more)
@@ -56,13 +57,13 @@ line_fed before now refusal number line more cause none h leaves =
 -- ---- the end of the input
 
 -- at the end the source has nothing left
-pub end_left : (first before later : Option (List ℕ)) (fed : Fed) (number : ℕ) (line : List ℕ) (input : Input) → ComesTo first before fed number → ReadsLine End line before (left_of input later) → IfSome first (λ _. later ≡ Some [])
-end_left None before later fed number line input comes reads = tt
-end_left (Some bytes) None later fed number line input comes reads = absurd comes
-end_left (Some bytes) (Some b) None fed number line input comes reads = absurd reads
-end_left (Some bytes) (Some b) (Some rest) fed number line input comes reads = ap Some (nil_from_length rest (omega (arith, sym (length-append (kept input) rest) ∙ ap length reads.1)))
+pub end_left : (first before later : Option (List ℕ)) (fed : Fed) (number : ℕ) (line : List ℕ) (input : Input) → LeadsToFeed first before fed number → ReadsLine End line before (left_of input later) → IfSome first (λ _. later ≡ Some [])
+end_left None before later fed number line input leads reads = tt
+end_left (Some bytes) None later fed number line input leads reads = absurd leads
+end_left (Some bytes) (Some b) None fed number line input leads reads = absurd reads
+end_left (Some bytes) (Some b) (Some rest) fed number line input leads reads = ap Some (nil_from_length rest (omega (arith, sym (length-append (piece_left input) rest) ∙ ap length reads.1)))
 
--- so it had no more bytes than were taken
+-- at the end the input had no more bytes than an input may have
 pub end_fits : (first later : Option (List ℕ)) (input : Input) → IfSome first (λ _. later ≡ Some []) → total_of input later ≡ option_map (λ bytes. length bytes) first → input.taken ≤ input_limit → IfSome first (λ bytes. length bytes ≤ input_limit)
 end_fits None later input e total h = tt
 end_fits (Some bytes) later input e total h = subst (λ (n : ℕ). n ≤ input_limit) (same_Some (input.taken + 0) (length bytes) (sym (ap (total_of input) e) ∙ total)) (omega (arith, h))

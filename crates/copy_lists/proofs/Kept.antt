@@ -1,4 +1,4 @@
--- What is kept beside a log stays true as records are taken.
+-- What is kept beside a log follows from it as records are taken.
 use Rattle.std.proofs.Common.{◌≡◌, ℕ, ◌+◌, ◌<◌, ◌≤◌, Bool, true, false, cond, List, [], ◌∷◌, ◌++◌, length, Option, Some, None, refl, sym, ap, subst, ◌∙◌}
 use Rattle.std.specs.Prelude.{not, ◌&&◌, ◌==◌, nat_le, IsTrue}
 use Rattle.std.specs.FinMap.{empty}
@@ -19,65 +19,66 @@ use Rattle.repl_model.specs.Applicable.{is_change_applicable, is_applicable}
 use Rattle.repl_model.specs.Copies.{LeavesKeys}
 use Rattle.copy_lists.specs.declared.refused.Cause.TheVariants.{BadLog, NotApplicable}
 use Rattle.copy_lists.specs.declared.source_log.SourceLog.{SourceLog}
-use Rattle.copy_lists.specs.Items.{items}
+use Rattle.copy_lists.specs.Items.{items_def}
 use Rattle.copy_lists.specs.Feed.{left_open, open_tx, may_go_on, is_taken_form, record_cause}
 use Rattle.copy_lists.specs.SourceLog.{IsKeptLog, Grows}
 
--- the last record tells which transaction is open
+-- the last record decides which transaction is open
 pub open_tx-push : (log : List LogRecord) (r : LogRecord) → open_tx (log ++ r ∷ []) ≡ left_open r
 open_tx-push log r = fold-append (λ (before : Option ℕ) (r : LogRecord). left_open r) None log (r ∷ [])
 
 -- ---- why a record isn't taken
 
-cause_from : (log : List LogRecord) (r : LogRecord) (form fit : Bool) → is_taken_form log r ≡ form → is_applicable items log r ≡ fit
+-- the cause of a record, by its form and whether it fits
+cause_from : (log : List LogRecord) (r : LogRecord) (form fit : Bool) → is_taken_form log r ≡ form → is_applicable items_def log r ≡ fit
     → record_cause log r ≡ cond (not form) (Some BadLog) (cond fit None (Some NotApplicable))
 cause_from log r form fit e f =
-    ap (λ (b : Bool). cond (not b) (Some BadLog) (cond (is_applicable items log r) None (Some NotApplicable))) e
+    ap (λ (b : Bool). cond (not b) (Some BadLog) (cond (is_applicable items_def log r) None (Some NotApplicable))) e
     ∙ ap (λ (b : Bool). cond (not form) (Some BadLog) (cond b None (Some NotApplicable))) f
 
--- a change record of the transaction that may go on
-pub cause_of_change : (log : List LogRecord) (tx : ℕ) (change : Change) (fit : Bool) → may_go_on (open_tx log) tx ≡ true → is_change_applicable items change ≡ fit
+-- the cause of a change record of the transaction that may go on
+pub cause_of_change : (log : List LogRecord) (tx : ℕ) (change : Change) (fit : Bool) → may_go_on (open_tx log) tx ≡ true → is_change_applicable items_def change ≡ fit
     → record_cause log (records.Change tx change) ≡ cond fit None (Some NotApplicable)
 unfolding is_applicable
 cause_of_change log tx change fit mine e = cause_from log (records.Change tx change) true fit mine e
 
--- a commit record of the transaction that may go on
+-- the cause of a commit record of the transaction that may go on
 pub cause_of_commit : (log : List LogRecord) (tx time : ℕ) (authid : List ℕ) (origin : Option SetId) (fit : Bool) → may_go_on (open_tx log) tx ≡ true
-    → (nat_le (last_time (units log)) time && all_apply items (unplaced (open_changes tx log)) (source_at items log (last_commit log))) ≡ fit
+    → (nat_le (last_time (units log)) time && all_apply items_def (unplaced (open_changes tx log)) (source_at items_def log (last_commit log))) ≡ fit
     → record_cause log (records.Commit tx time authid origin) ≡ cond fit None (Some NotApplicable)
 unfolding is_applicable
 cause_of_commit log tx time authid origin fit mine e = cause_from log (records.Commit tx time authid origin) true fit mine e
 
 -- the transaction that is kept as in flight may go on by the log
-pub going : (source : SourceLog) (tx : ℕ) → IsKeptLog source → may_go_on source.in_flight tx ≡ true → may_go_on (open_tx source.records) tx ≡ true
-going source tx kept e = ap (λ (o : Option ℕ). may_go_on o tx) (sym kept.open_one) ∙ e
+pub may_go_on_by_log : (source : SourceLog) (tx : ℕ) → IsKeptLog source → may_go_on source.in_flight tx ≡ true → may_go_on (open_tx source.records) tx ≡ true
+may_go_on_by_log source tx kept e = ap (λ (o : Option ℕ). may_go_on o tx) (sym kept.open_one) ∙ e
 
 -- whether a commit fits, by its time and its changes
 time_and : (late : Bool) (source : SourceLog) (tx time : ℕ) → nat_le (last_time (units source.records)) time ≡ late
-    → (nat_le (last_time (units source.records)) time && all_apply items (unplaced (open_changes tx source.records)) (source_at items source.records (last_commit source.records)))
-    ≡ (late && all_apply items (unplaced (open_changes tx source.records)) (source_at items source.records (last_commit source.records)))
-time_and late source tx time e = ap (λ (b : Bool). b && all_apply items (unplaced (open_changes tx source.records)) (source_at items source.records (last_commit source.records))) e
+    → (nat_le (last_time (units source.records)) time && all_apply items_def (unplaced (open_changes tx source.records)) (source_at items_def source.records (last_commit source.records)))
+    ≡ (late && all_apply items_def (unplaced (open_changes tx source.records)) (source_at items_def source.records (last_commit source.records)))
+time_and late source tx time e = ap (λ (b : Bool). b && all_apply items_def (unplaced (open_changes tx source.records)) (source_at items_def source.records (last_commit source.records))) e
 
--- an older commit doesn't
+-- a commit older than the last doesn't fit
 pub commit_late : (source : SourceLog) (tx time : ℕ) → IsKeptLog source → time < source.time
-    → (nat_le (last_time (units source.records)) time && all_apply items (unplaced (open_changes tx source.records)) (source_at items source.records (last_commit source.records))) ≡ false
+    → (nat_le (last_time (units source.records)) time && all_apply items_def (unplaced (open_changes tx source.records)) (source_at items_def source.records (last_commit source.records))) ≡ false
 commit_late source tx time kept h = time_and false source tx time (lt-leb (last_time (units source.records)) time (subst (λ (last : ℕ). time < last) kept.last h))
 
--- one that isn't older does where its changes apply
+-- a commit that isn't older fits if and only if its changes apply
 pub commit_fits : (source : SourceLog) (tx time : ℕ) (fit : Bool) → IsKeptLog source → may_go_on source.in_flight tx ≡ true → source.time ≤ time → fit ≡ all_apply source.table (unplaced source.changes) source.rows
-    → (nat_le (last_time (units source.records)) time && all_apply items (unplaced (open_changes tx source.records)) (source_at items source.records (last_commit source.records))) ≡ fit
+    → (nat_le (last_time (units source.records)) time && all_apply items_def (unplaced (open_changes tx source.records)) (source_at items_def source.records (last_commit source.records))) ≡ fit
 commit_fits source tx time fit kept mine h e =
     time_and true source tx time (le-leb (last_time (units source.records)) time (subst (λ (last : ℕ). last ≤ time) kept.last h))
-    ∙ ap (λ (changes : List Placed). all_apply items (unplaced changes) (source_at items source.records (last_commit source.records))) (kept.mine tx (going source tx kept mine))
-    ∙ ap (all_apply items (unplaced source.changes)) (sym kept.committed)
+    ∙ ap (λ (changes : List Placed). all_apply items_def (unplaced changes) (source_at items_def source.records (last_commit source.records))) (kept.mine tx (may_go_on_by_log source tx kept mine))
+    ∙ ap (all_apply items_def (unplaced source.changes)) (sym kept.committed)
     ∙ ap (λ (def : TableDef). all_apply def (unplaced source.changes) source.rows) (sym kept.table)
     ∙ sym e
 
 -- ---- what is kept
 
--- of an empty log
+-- what is kept beside an empty log
 pub kept_empty : units [] ≡ [] → ((tx : ℕ) → open_changes tx [] ≡ []) → ((def : TableDef) (point : ℕ) → source_at def [] point ≡ empty)
-    → (source : SourceLog) → source.table ≡ items → source.records ≡ [] → source.in_flight ≡ None → source.changes ≡ [] → source.units ≡ [] → source.rows ≡ empty → source.time ≡ 0 → IsKeptLog source
+    → (source : SourceLog) → source.table ≡ items_def → source.records ≡ [] → source.in_flight ≡ None → source.changes ≡ [] → source.units ≡ [] → source.rows ≡ empty → source.time ≡ 0 → IsKeptLog source
 kept_empty no_units nothing_open no_rows source t r f c u w z = record {
   table = t;
   open_one = f ∙ ap open_tx (sym r);
@@ -85,12 +86,12 @@ kept_empty no_units nothing_open no_rows source t r f c u w z = record {
   others = λ tx e. absurd (true≢false (ap (λ (log : List LogRecord). may_go_on (open_tx log) tx) (sym r) ∙ e));
   closed = λ _. c;
   made = u ∙ sym (ap units r ∙ no_units);
-  committed = w ∙ sym (ap (λ (log : List LogRecord). source_at items log (last_commit log)) r ∙ no_rows items (last_commit []));
+  committed = w ∙ sym (ap (λ (log : List LogRecord). source_at items_def log (last_commit log)) r ∙ no_rows items_def (last_commit []));
   last = z ∙ sym (ap (λ (log : List LogRecord). last_time (units log)) r ∙ ap last_time no_units);
-  keys = subst (LeavesKeys items) (sym r) tt;
+  keys = subst (LeavesKeys items_def) (sym r) tt;
 }
 
--- a transaction that isn't the one that goes on has nothing in flight
+-- a transaction other than the one that may go on has nothing in flight
 rest_empty : (source : SourceLog) (tx t : ℕ) → IsKeptLog source → may_go_on (open_tx source.records) tx ≡ true → (tx == t) ≡ false → open_changes t source.records ≡ []
 rest_empty source tx t kept h n = go (open_tx source.records) refl h
   where
@@ -98,7 +99,7 @@ rest_empty source tx t kept h n = go (open_tx source.records) refl h
     go None e h = kept.mine t (subst (λ (o : Option ℕ). IsTrue (may_go_on o t)) (sym e) refl) ∙ kept.closed e
     go (Some o) e h = kept.others t (ap (λ (x : Option ℕ). may_go_on x t) e ∙ ap (λ (x : ℕ). x == t) (eqb-true o tx h) ∙ n)
 
--- a change record of the transaction that goes on comes to its changes
+-- a change record of the transaction that may go on adds to its changes
 mine_change : Grows → (source : SourceLog) (tx t : ℕ) (change : Change) → IsKeptLog source → may_go_on (open_tx source.records) tx ≡ true → (tx == t) ≡ true
     → open_changes t (source.records ++ records.Change tx change ∷ []) ≡ source.changes ++ record { pos = length source.records + 1; change = change } ∷ []
 mine_change grows source tx t change kept h e =
@@ -106,7 +107,7 @@ mine_change grows source tx t change kept h e =
     ∙ ap (λ (b : Bool). cond b (open_changes t source.records ++ record { pos = length source.records + 1; change = change } ∷ []) (open_changes t source.records)) e
     ∙ ap (λ (changes : List Placed). changes ++ record { pos = length source.records + 1; change = change } ∷ []) (kept.mine t (subst (λ (x : ℕ). may_go_on (open_tx source.records) x ≡ true) (eqb-true tx t e) h))
 
--- and to no others
+-- it adds to the changes of no other transaction
 others_change : Grows → (source : SourceLog) (tx t : ℕ) (change : Change) → IsKeptLog source → may_go_on (open_tx source.records) tx ≡ true → (tx == t) ≡ false
     → open_changes t (source.records ++ records.Change tx change ∷ []) ≡ []
 others_change grows source tx t change kept h e =
@@ -114,7 +115,7 @@ others_change grows source tx t change kept h e =
     ∙ ap (λ (b : Bool). cond b (open_changes t source.records ++ record { pos = length source.records + 1; change = change } ∷ []) (open_changes t source.records)) e
     ∙ rest_empty source tx t kept h e
 
--- after a commit record of the transaction that goes on nothing is in flight
+-- after a commit record of the transaction that may go on, nothing is in flight
 none_after_commit : Grows → (source : SourceLog) (tx t time : ℕ) (authid : List ℕ) (origin : Option SetId) → IsKeptLog source → may_go_on (open_tx source.records) tx ≡ true
     → open_changes t (source.records ++ records.Commit tx time authid origin ∷ []) ≡ []
 none_after_commit grows source tx t time authid origin kept h = grows.in_flight_commit t tx time authid origin source.records ∙ go (tx == t) refl
@@ -123,8 +124,8 @@ none_after_commit grows source tx t time authid origin kept h = grows.in_flight_
     go true e = refl
     go false e = rest_empty source tx t kept h e
 
--- after a change record
-pub kept_change : Grows → (source now : SourceLog) (tx : ℕ) (change : Change) → IsKeptLog source → may_go_on (open_tx source.records) tx ≡ true → is_change_applicable items change ≡ true
+-- what is kept after a change record
+pub kept_change : Grows → (source now : SourceLog) (tx : ℕ) (change : Change) → IsKeptLog source → may_go_on (open_tx source.records) tx ≡ true → is_change_applicable items_def change ≡ true
     → now.table ≡ source.table → now.records ≡ source.records ++ records.Change tx change ∷ [] → now.in_flight ≡ Some tx
     → now.changes ≡ source.changes ++ record { pos = length source.records + 1; change = change } ∷ []
     → now.units ≡ source.units → now.rows ≡ source.rows → now.time ≡ source.time → IsKeptLog now
@@ -138,17 +139,17 @@ kept_change grows source now tx change kept h fit t r f c u w z =
       others = λ x e. ap (open_changes x) r ∙ others_change grows source tx x change kept h (ap (λ (o : Option ℕ). may_go_on o x) (sym opened) ∙ e);
       closed = λ e. absurd (none-some tx (sym e ∙ opened));
       made = u ∙ kept.made ∙ sym (ap units r ∙ grows.units_change tx change source.records);
-      committed = w ∙ kept.committed ∙ sym (ap (λ (log : List LogRecord). source_at items log (last_commit log)) r ∙ grows.source_change items tx change source.records);
+      committed = w ∙ kept.committed ∙ sym (ap (λ (log : List LogRecord). source_at items_def log (last_commit log)) r ∙ grows.source_change items_def tx change source.records);
       last = z ∙ kept.last ∙ sym (ap (λ (log : List LogRecord). last_time (units log)) r ∙ ap last_time (grows.units_change tx change source.records));
-      keys = subst (LeavesKeys items) (sym r) (grows.keys items source.records (records.Change tx change) refl kept.keys fit);
+      keys = subst (LeavesKeys items_def) (sym r) (grows.keys items_def source.records (records.Change tx change) refl kept.keys fit);
     }
 
--- after a commit record
+-- what is kept after a commit record
 pub kept_commit : Grows → (source now : SourceLog) (tx time : ℕ) (authid : List ℕ) (origin : Option SetId) → IsKeptLog source → may_go_on (open_tx source.records) tx ≡ true
-    → (nat_le (last_time (units source.records)) time && all_apply items (unplaced (open_changes tx source.records)) (source_at items source.records (last_commit source.records))) ≡ true
+    → (nat_le (last_time (units source.records)) time && all_apply items_def (unplaced (open_changes tx source.records)) (source_at items_def source.records (last_commit source.records))) ≡ true
     → now.table ≡ source.table → now.records ≡ source.records ++ records.Commit tx time authid origin ∷ [] → now.in_flight ≡ None → now.changes ≡ []
     → now.units ≡ source.units ++ unit_of (length source.records + 1) time authid origin source.changes ∷ []
-    → now.rows ≡ after_changes items (unplaced source.changes) source.rows → now.time ≡ time → IsKeptLog now
+    → now.rows ≡ after_changes items_def (unplaced source.changes) source.rows → now.time ≡ time → IsKeptLog now
 unfolding is_applicable
 kept_commit grows source now tx time authid origin kept h fit t r f c u w z =
     record {
@@ -162,9 +163,9 @@ kept_commit grows source now tx time authid origin kept h fit t r f c u w z =
           ∙ ap (λ (changes : List Placed). units source.records ++ unit_of (length source.records + 1) time authid origin changes ∷ []) (sym (kept.mine tx h))
           ∙ sym (ap units r ∙ grows.units_commit tx time authid origin source.records);
       committed = w
-          ∙ ap (after_changes items (unplaced source.changes)) kept.committed
-          ∙ ap (λ (changes : List Placed). after_changes items (unplaced changes) (source_at items source.records (last_commit source.records))) (sym (kept.mine tx h))
-          ∙ sym (ap (λ (log : List LogRecord). source_at items log (last_commit log)) r ∙ grows.source_commit items tx time authid origin source.records);
+          ∙ ap (after_changes items_def (unplaced source.changes)) kept.committed
+          ∙ ap (λ (changes : List Placed). after_changes items_def (unplaced changes) (source_at items_def source.records (last_commit source.records))) (sym (kept.mine tx h))
+          ∙ sym (ap (λ (log : List LogRecord). source_at items_def log (last_commit log)) r ∙ grows.source_commit items_def tx time authid origin source.records);
       last = z ∙ sym (ap (λ (log : List LogRecord). last_time (units log)) r ∙ grows.last_time_commit tx time authid origin source.records);
-      keys = subst (LeavesKeys items) (sym r) (grows.keys items source.records (records.Commit tx time authid origin) refl kept.keys fit);
+      keys = subst (LeavesKeys items_def) (sym r) (grows.keys items_def source.records (records.Commit tx time authid origin) refl kept.keys fit);
     }

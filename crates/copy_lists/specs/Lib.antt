@@ -1,4 +1,5 @@
 pub mod Items
+pub mod Registration
 pub mod Feed
 pub mod SourceLog
 pub mod Fed

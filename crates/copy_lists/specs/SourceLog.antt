@@ -1,4 +1,4 @@
--- What a source keeps of its log.
+-- What is kept beside the log of a source.
 use Rattle.std.specs.Prelude.{◌≡◌, ℕ, ◌+◌, ◌==◌, false, IsTrue, if◌then◌else◌, List, [], ◌∷◌, ◌++◌, length, Option, None}
 use Rattle.repl_types.specs.declared.record.Change.{Change}
 use Rattle.repl_types.specs.declared.record.SetId.{SetId}
@@ -11,24 +11,24 @@ use Rattle.repl_model.specs.SourceAt.{unplaced, source_at}
 use Rattle.repl_model.specs.Applicable.{is_applicable}
 use Rattle.repl_model.specs.Copies.{LeavesKeys, is_key_fixed}
 use Rattle.copy_lists.specs.declared.source_log.SourceLog.{SourceLog}
-use Rattle.copy_lists.specs.Items.{items}
+use Rattle.copy_lists.specs.Items.{items_def}
 use Rattle.copy_lists.specs.Feed.{open_tx, may_go_on}
 
--- all that is kept beside the records is what the records say
+-- all that is kept beside the records follows from them
 pub record IsKeptLog (source : SourceLog) : Type 0 where
-  pub table : source.table ≡ items
+  pub table : source.table ≡ items_def
   pub open_one : source.in_flight ≡ open_tx source.records
-  -- the transaction in flight, or the next one, has these changes
+  -- the transaction in flight, or the next one if none is, has these changes
   pub mine : (tx : ℕ) → IsTrue (may_go_on (open_tx source.records) tx) → open_changes tx source.records ≡ source.changes
-  -- and no other has any
+  -- no other transaction has any
   pub others : (tx : ℕ) → may_go_on (open_tx source.records) tx ≡ false → open_changes tx source.records ≡ []
   pub closed : open_tx source.records ≡ None → source.changes ≡ []
   pub made : source.units ≡ units source.records
-  pub committed : source.rows ≡ source_at items source.records (last_commit source.records)
+  pub committed : source.rows ≡ source_at items_def source.records (last_commit source.records)
   pub last : source.time ≡ last_time (units source.records)
-  pub keys : LeavesKeys items source.records
+  pub keys : LeavesKeys items_def source.records
 
--- what one more record does to a log, by the model's laws
+-- what one more record does to a log, by the laws of the model
 pub record Grows : Type 0 where
   pub in_flight_change : (tx t : ℕ) (change : Change) (log : List LogRecord) → open_changes tx (log ++ records.Change t change ∷ []) ≡ (if t == tx then open_changes tx log ++ record { pos = length log + 1; change = change } ∷ [] else open_changes tx log)
   pub in_flight_commit : (tx t time : ℕ) (authid : List ℕ) (origin : Option SetId) (log : List LogRecord) → open_changes tx (log ++ records.Commit t time authid origin ∷ []) ≡ (if t == tx then [] else open_changes tx log)
@@ -39,13 +39,13 @@ pub record Grows : Type 0 where
   pub source_commit : (def : TableDef) (tx time : ℕ) (authid : List ℕ) (origin : Option SetId) (log : List LogRecord) → source_at def (log ++ records.Commit tx time authid origin ∷ []) (last_commit (log ++ records.Commit tx time authid origin ∷ [])) ≡ after_changes def (unplaced (open_changes tx log)) (source_at def log (last_commit log))
   pub keys : (def : TableDef) (log : List LogRecord) (r : LogRecord) → IsTrue (is_key_fixed def) → LeavesKeys def log → IsTrue (is_applicable def log r) → LeavesKeys def (log ++ r ∷ [])
 
--- the units that are kept are those of the records, and these leave the keys
-pub record TellsUnits (source : SourceLog) : Type 0 where
-  pub table : source.table ≡ items
+-- the units kept are those of the records, and the records leave the keys
+pub record KeepsUnits (source : SourceLog) : Type 0 where
+  pub table : source.table ≡ items_def
   pub made : source.units ≡ units source.records
-  pub keys : LeavesKeys items source.records
+  pub keys : LeavesKeys items_def source.records
 
--- the same records and units
+-- the table, the records and the units stay
 pub record KeepsRecords (before now : SourceLog) : Type 0 where
   pub table : now.table ≡ before.table
   pub records : now.records ≡ before.records

@@ -1,4 +1,4 @@
-//! What ends a run at once.
+//! The causes that end a run at once.
 
 use keep_core::ReadError;
 use line_input::InputError;
@@ -39,7 +39,6 @@ impl From<InputError> for Early {
     }
 }
 
-/// What a call of the output failed by.
 impl From<ReadError> for Early {
     ghost use Rattle.std.specs.Prelude.{◌≡◌};
     ghost use Rattle.copy_lists.specs.Early.{early_output};

@@ -1,7 +1,8 @@
 //! The lines of an input, fed to the log of the source.
 
-ghost use Rattle.std.specs.Prelude.{◌≡◌, ◌≤◌, ◌<◌, ◌+◌, ℕ, List, [], ◌∷◌, length, IfOk, IfSome, OnOk, Some};
-ghost use Rattle.keep_core.specs.Told.{Rises};
+ghost use Rattle.std.specs.Prelude.{◌≡◌, ◌≤◌, ◌<◌, ◌+◌, ℕ, List, [], ◌∷◌, length, IfOk, IfSome};
+ghost use Rattle.std.specs.Prelude.{OnOk, Some};
+ghost use Rattle.keep_core.specs.Revealed.{Rises};
 ghost use Rattle.line_input.specs.Limits.{line_limit, input_limit};
 ghost use Rattle.copy_lists.specs.Feed.{is_blank as is_blank_lem, short_outcome, feed_of};
 ghost use Rattle.copy_lists.specs.Fed.{feed_kept, IsFed, Leaves};
@@ -22,15 +23,14 @@ pub struct Fed {
     pub refused: Option<Refused>,
 }
 
-/// Whether a line says nothing.
+/// Whether a line consists of blanks, or is empty.
 fn is_blank(line: &[u8]) -> bool
     ensures { result ≡ is_blank_lem line.now }
 {
     line.iter().all(|byte| *byte == b' ')
 }
 
-/// Takes the record of a line where it may be taken, and answers why where it may not. A blank line
-/// is skipped.
+/// Takes the record of a line if it may be taken, else answers why it may not. Skips a blank line.
 fn take_text(
     alloc: Global,
     source: &mut SourceLog,
@@ -51,11 +51,12 @@ fn take_text(
 }
 
 impl Fed {
-    ghost use Rattle.std.specs.Prelude.{◌≡◌, ◌≤◌, ◌<◌, ◌+◌, ℕ, List, [], ◌∷◌, length, IfOk, OnOk, None};
+    ghost use Rattle.std.specs.Prelude.{◌≡◌, ◌≤◌, ◌<◌, ◌+◌, ℕ, List, [], ◌∷◌, length, IfOk, OnOk};
+    ghost use Rattle.std.specs.Prelude.{None};
     ghost use Rattle.line_input.specs.Limits.{line_limit};
     ghost use Rattle.copy_lists.specs.Fed.{IsFed, resumed};
 
-    /// No line was fed yet.
+    /// An empty log, with no line fed.
     fn new(alloc: Global) -> Result<Fed, AllocError>
         ensures fed { IfOk result (λ fed. IsFed fed) }
         ensures records { IfOk result (λ fed. fed.source.records ≡ []) }
@@ -106,7 +107,7 @@ impl Fed {
     }
 }
 
-/// Reads the input to its end and feeds its lines. Those after a refused line aren't taken.
+/// Reads the input to its end and feeds its lines. It takes no line after a refused one.
 pub fn feed<I: Source>(alloc: Global, source: &mut I) -> Result<Fed, InputError>
     ensures feed { IfOk result (λ fed. IfSome (I.left source.old) (λ bytes. feed_kept fed
         ≡ feed_of bytes)) }

@@ -1,7 +1,8 @@
 //! The table that is copied, and its registration.
 
 ghost use Rattle.std.specs.Prelude.{◌≡◌, IfOk, IsTrue};
-ghost use Rattle.copy_lists.specs.Items.{items, items_registration as items_registration_lem};
+ghost use Rattle.copy_lists.specs.Items.{items_def};
+ghost use Rattle.copy_lists.specs.Registration.{items_registration as items_registration_lem};
 ghost use Rattle.repl_types.specs.Name.{is_name};
 
 use repl_types::{ColumnDef, Kind, List, Name, Registration, TableDef};
@@ -14,9 +15,9 @@ fn name(alloc: Global, text: &str) -> Result<Name, AllocError>
     Ok(Name::read(alloc, text.as_bytes())?.unwrap())
 }
 
-/// A table of items: a number, which is the key and fixed, and a text, which may be NULL.
+/// The table of items: a number, which is the key and fixed, and a text, which may be NULL.
 pub fn items_table(alloc: Global) -> Result<TableDef, AllocError>
-    ensures { IfOk result (λ def. def ≡ items) }
+    ensures { IfOk result (λ def. def ≡ items_def) }
 {
     let id = ColumnDef {
         name: name(alloc, "id")?,
@@ -36,7 +37,7 @@ pub fn items_table(alloc: Global) -> Result<TableDef, AllocError>
     })
 }
 
-/// All columns of the items, captured as they come.
+/// The registration of all columns of the items, with the values after each change.
 pub fn items_registration(alloc: Global) -> Result<Registration, AllocError>
     ensures { IfOk result (λ reg. reg ≡ items_registration_lem) }
 {

@@ -1,8 +1,10 @@
 //! The lines that a run writes.
 
 ghost use Rattle.std.specs.Prelude.{◌≡◌, ◌≤◌, ◌++◌, IfOk, OnOk, OnErr, string_bytes};
-ghost use Rattle.keep_core.specs.Told.{Rises, Takes, TakesFront};
-ghost use Rattle.copy_lists.specs.Replies.{row_line as row_line_lem, count_line as count_line_lem, refused_line as refused_line_lem, rows_lines, refusal_lines, joined};
+ghost use Rattle.keep_core.specs.Revealed.{Rises, Takes, TakesPrefix};
+ghost use Rattle.copy_lists.specs.Replies.{row_line as row_line_lem, count_line as count_line_lem};
+ghost use Rattle.copy_lists.specs.Replies.{refused_line as refused_line_lem, rows_lines};
+ghost use Rattle.copy_lists.specs.Replies.{refusal_lines, joined_lines};
 
 use crate::refused::{Cause, Refused};
 use keep_core::{ReadError, Sink, pieces_join, write_line};
@@ -23,14 +25,14 @@ fn row_line(alloc: Global, row: &Row) -> Result<Vec<u8>, AllocError>
     Ok(line)
 }
 
-/// The line that says how many rows there were.
+/// The line that says how many rows there are.
 fn count_line(alloc: Global, count: usize) -> Result<String, AllocError>
     ensures { IfOk result (λ line. string_bytes line ≡ count_line_lem count) }
 {
     format!(in alloc; "ok rows {count}\n")
 }
 
-/// The line of a refused line.
+/// The line that reports a refused line.
 fn refused_line(alloc: Global, refused: Refused) -> Result<String, AllocError>
     ensures { IfOk result (λ line. string_bytes line ≡ refused_line_lem refused) }
 {
@@ -42,11 +44,11 @@ fn refused_line(alloc: Global, refused: Refused) -> Result<String, AllocError>
     }
 }
 
-/// Writes the line of a row. After an error a front of it was taken.
+/// Writes the line of a row. After an error a prefix of it was taken.
 fn write_row<O: Sink>(alloc: Global, output: &mut O, row: &Row) -> Result<(), ReadError>
     ensures ok { OnOk result (Takes (O.taken output.old) (O.taken output.new)
         (row_line_lem row.now)) }
-    ensures err { OnErr result (TakesFront (O.taken output.old) (O.taken output.new)
+    ensures err { OnErr result (TakesPrefix (O.taken output.old) (O.taken output.new)
         (row_line_lem row.now)) }
     ensures cause { result ≡ Err ReadError.Failed
         → Rises (O.faults output.old) (O.faults output.new) }
@@ -56,11 +58,11 @@ fn write_row<O: Sink>(alloc: Global, output: &mut O, row: &Row) -> Result<(), Re
     write_line(output, &line)
 }
 
-/// Writes the line of a count. After an error a front of it was taken.
+/// Writes the line of a count. After an error a prefix of it was taken.
 fn write_count<O: Sink>(alloc: Global, output: &mut O, count: usize) -> Result<(), ReadError>
     ensures ok { OnOk result (Takes (O.taken output.old) (O.taken output.new)
         (count_line_lem count)) }
-    ensures err { OnErr result (TakesFront (O.taken output.old) (O.taken output.new)
+    ensures err { OnErr result (TakesPrefix (O.taken output.old) (O.taken output.new)
         (count_line_lem count)) }
     ensures cause { result ≡ Err ReadError.Failed
         → Rises (O.faults output.old) (O.faults output.new) }
@@ -71,12 +73,12 @@ fn write_count<O: Sink>(alloc: Global, output: &mut O, count: usize) -> Result<(
 }
 
 /// Writes a line for each row, in the order of the keys, and then their count. After an error a
-/// front of these lines was taken.
+/// prefix of all of this was taken.
 fn write_rows<O: Sink>(alloc: Global, output: &mut O, rows: &Rows) -> Result<(), ReadError>
     ensures ok { OnOk result (Takes (O.taken output.old) (O.taken output.new)
-        (joined (rows_lines rows.now))) }
-    ensures err { OnErr result (TakesFront (O.taken output.old) (O.taken output.new)
-        (joined (rows_lines rows.now))) }
+        (joined_lines (rows_lines rows.now))) }
+    ensures err { OnErr result (TakesPrefix (O.taken output.old) (O.taken output.new)
+        (joined_lines (rows_lines rows.now))) }
     ensures cause { result ≡ Err ReadError.Failed
         → Rises (O.faults output.old) (O.faults output.new) }
     ensures counts { O.faults output.old ≤ O.faults output.new }
@@ -88,11 +90,11 @@ fn write_rows<O: Sink>(alloc: Global, output: &mut O, rows: &Rows) -> Result<(),
     write_count(alloc, output, rows.len())
 }
 
-/// Writes the line of a refused line. After an error a front of it was taken.
+/// Writes the line that reports a refused line. After an error a prefix of it was taken.
 fn write_refused<O: Sink>(alloc: Global, output: &mut O, refused: Refused) -> Result<(), ReadError>
     ensures ok { OnOk result (Takes (O.taken output.old) (O.taken output.new)
         (refused_line_lem refused)) }
-    ensures err { OnErr result (TakesFront (O.taken output.old) (O.taken output.new)
+    ensures err { OnErr result (TakesPrefix (O.taken output.old) (O.taken output.new)
         (refused_line_lem refused)) }
     ensures cause { result ≡ Err ReadError.Failed
         → Rises (O.faults output.old) (O.faults output.new) }
@@ -103,8 +105,8 @@ fn write_refused<O: Sink>(alloc: Global, output: &mut O, refused: Refused) -> Re
     write_line(output, line.as_bytes())
 }
 
-/// Writes the lines of the rows, and the line of the refused line, where there is one. After an
-/// error a front of these lines was taken.
+/// Writes the lines of the rows, and then the line that reports a refused line, if there is one.
+/// After an error a prefix of all of this was taken.
 pub fn write_copy<O: Sink>(
     alloc: Global,
     output: &mut O,
@@ -112,9 +114,9 @@ pub fn write_copy<O: Sink>(
     refused: Option<Refused>,
 ) -> Result<(), ReadError>
     ensures ok { OnOk result (Takes (O.taken output.old) (O.taken output.new)
-        (joined (rows_lines rows.now ++ refusal_lines refused))) }
-    ensures err { OnErr result (TakesFront (O.taken output.old) (O.taken output.new)
-        (joined (rows_lines rows.now ++ refusal_lines refused))) }
+        (joined_lines (rows_lines rows.now ++ refusal_lines refused))) }
+    ensures err { OnErr result (TakesPrefix (O.taken output.old) (O.taken output.new)
+        (joined_lines (rows_lines rows.now ++ refusal_lines refused))) }
     ensures cause { result ≡ Err ReadError.Failed
         → Rises (O.faults output.old) (O.faults output.new) }
     ensures counts { O.faults output.old ≤ O.faults output.new }

@@ -1,13 +1,13 @@
-//! The copy of the items, from the input to the output.
+//! The whole run of `copy`, from the input to the output.
 
 ghost use Rattle.std.specs.Prelude.{◌≡◌, ◌≤◌, ◌<◌, [], length, IfSome, IfOk, OnOk, OnErr, Some};
-ghost use Rattle.keep_core.specs.Told.{Rises, Takes, TakesFront};
+ghost use Rattle.keep_core.specs.Revealed.{Rises, Takes, TakesPrefix};
 ghost use Rattle.std.specs.FinMap.{empty};
 ghost use Rattle.std.specs.List.{flat_map};
 ghost use Rattle.repl_model.specs.ChangeRows.{change_rows, after_change_rows};
 ghost use Rattle.copy_lists.specs.Feed.{feed_of};
 ghost use Rattle.line_input.specs.Limits.{input_limit};
-ghost use Rattle.copy_lists.specs.Items.{items_registration as items_registration_lem};
+ghost use Rattle.copy_lists.specs.Registration.{items_registration as items_registration_lem};
 ghost use Rattle.copy_lists.specs.Replies.{text_of};
 
 use crate::early::Early;
@@ -21,7 +21,7 @@ use repl_types::{CdRow, List, Registration, TableDef, Unit};
 use row_changes::{Rows, apply_change_rows, change_rows_of_unit};
 use std::alloc::{AllocError, Global};
 
-/// The change rows of these units, one after another.
+/// The change rows of the units, one unit after another.
 fn change_rows_of_units(
     alloc: Global,
     reg: &Registration,
@@ -36,8 +36,8 @@ fn change_rows_of_units(
     Ok(rows)
 }
 
-/// The copy that the change rows of these units make.
-fn copied(alloc: Global, def: &TableDef, units: &[Unit]) -> Result<Rows, AllocError>
+/// The copy that the change rows of the units make.
+fn copy_of_units(alloc: Global, def: &TableDef, units: &[Unit]) -> Result<Rows, AllocError>
     ensures { IfOk result (λ copy. copy ≡ after_change_rows def.now
         (flat_map (change_rows items_registration_lem) units.now) empty) }
 {
@@ -47,8 +47,8 @@ fn copied(alloc: Global, def: &TableDef, units: &[Unit]) -> Result<Rows, AllocEr
     Ok(copy)
 }
 
-/// Feeds the input to the log, and writes the copy and the line that was refused. Answers that
-/// line.
+/// Feeds the input to a log, and writes the copy and then a line for the refused line, if there is
+/// one. Answers the refused line.
 pub fn run_copy<I: Source, O: Sink>(
     alloc: Global,
     input: &mut I,
@@ -60,8 +60,8 @@ pub fn run_copy<I: Source, O: Sink>(
     ensures written { OnOk result (IfSome (I.left input.old)
         (λ bytes. Takes (O.taken output.old) (O.taken output.new) (text_of bytes))) }
     ensures fits { OnOk result (IfSome (I.left input.old) (λ bytes. length bytes ≤ input_limit)) }
-    ensures front { OnErr result (IfSome (I.left input.old)
-        (λ bytes. TakesFront (O.taken output.old) (O.taken output.new) (text_of bytes))) }
+    ensures prefix { OnErr result (IfSome (I.left input.old)
+        (λ bytes. TakesPrefix (O.taken output.old) (O.taken output.new) (text_of bytes))) }
     ensures too_long { result ≡ Err Early.InputTooLong
         → IfSome (I.left input.old) (λ bytes. input_limit < length bytes) }
     ensures input_fault { result ≡ Err Early.InputFailed
@@ -72,7 +72,7 @@ pub fn run_copy<I: Source, O: Sink>(
     up_to_last_commit();
     copy_by_change_rows();
     let fed = feed(alloc, input)?;
-    let copy = copied(alloc, &fed.source.table, fed.source.units.as_slice())?;
+    let copy = copy_of_units(alloc, &fed.source.table, fed.source.units.as_slice())?;
     write_copy(alloc, output, &copy, fed.refused)?;
     Ok(fed.refused)
 }

@@ -1,4 +1,4 @@
-//! The log of the source, and what is committed.
+//! The log of the source, with its units and its committed rows.
 
 ghost use Rattle.std.specs.Prelude.{◌≡◌, IfOk};
 ghost use Rattle.repl_model.specs.Units.{unit_of};
@@ -12,8 +12,8 @@ use row_changes::{Rows, apply_changes, is_change_applicable};
 use std::alloc::{AllocError, Global};
 use std::mem;
 
-/// The log of a source with one table, and beside it what the log says: the transaction in flight
-/// with its changes, the units, and the committed rows with the time of the last commit.
+/// The log of a source with one table, and beside it what follows from the log: the transaction in
+/// flight with its changes, the units, and the committed rows with the time of the last commit.
 #[derive(Debug, Drop)]
 pub struct SourceLog {
     pub table: TableDef,
@@ -25,6 +25,7 @@ pub struct SourceLog {
     pub time: u64,
 }
 
+/// Whether a record of this transaction may be taken: no transaction is in flight, or this one is.
 fn may_go_on(in_flight: Option<u32>, tx: u32) -> bool
     ensures { result ≡ may_go_on_lem in_flight tx }
 {
@@ -35,7 +36,7 @@ fn may_go_on(in_flight: Option<u32>, tx: u32) -> bool
 }
 
 /// A change with its position.
-fn placed(pos: u64, change: &Change) -> Result<Placed, AllocError>
+fn place_change(pos: u64, change: &Change) -> Result<Placed, AllocError>
     ensures { IfOk result (λ placed. placed ≡ record { pos = pos; change = change.now }) }
 {
     Ok(Placed {
@@ -44,7 +45,7 @@ fn placed(pos: u64, change: &Change) -> Result<Placed, AllocError>
     })
 }
 
-/// The unit that a commit at a position makes of these changes.
+/// The unit of a commit at a position, with these changes.
 fn made_unit(
     pos: u64,
     time: u64,
@@ -79,13 +80,13 @@ fn one_more_record()
 impl SourceLog {
     ghost use Rattle.std.specs.Prelude.{◌≡◌, ◌++◌, ◌∷◌, [], IfOk, IfSome, Ok, Some, None};
     ghost use Rattle.repl_types.specs.declared.record.LogRecord.TheVariants as records;
-    ghost use Rattle.copy_lists.specs.Items.{items};
+    ghost use Rattle.copy_lists.specs.Items.{items_def};
     ghost use Rattle.copy_lists.specs.Feed.{record_cause};
     ghost use Rattle.copy_lists.specs.SourceLog.{IsKeptLog, KeepsRecords};
 
     /// An empty log.
     pub fn new(alloc: Global, table: TableDef) -> SourceLog
-        requires { table ≡ items }
+        requires { table ≡ items_def }
         ensures kept { IsKeptLog result }
         ensures records { result.records ≡ [] }
     {
@@ -101,8 +102,8 @@ impl SourceLog {
         }
     }
 
-    /// Takes a change record where it may be taken, and answers why where it may not. The log then
-    /// stays.
+    /// Takes a change record if it may be taken, else answers why it may not, and the log stays as
+    /// it was.
     fn take_change(
         &mut self,
         alloc: Global,
@@ -124,14 +125,14 @@ impl SourceLog {
         }
         let pos = self.records.len() as u64 + 1;
         one_more_record();
-        self.changes.push(placed(pos, &change)?)?;
+        self.changes.push(place_change(pos, &change)?)?;
         self.records.push(LogRecord::Change { tx, change })?;
         self.in_flight = Some(tx);
         Ok(None)
     }
 
-    /// Takes a commit record where it may be taken, and answers why where it may not. The records
-    /// and units then stay, and the rows may be anything.
+    /// Takes a commit record if it may be taken, else answers why it may not. The records and units
+    /// then stay, and the rows are unspecified: no row is read after a refusal.
     fn take_commit(
         &mut self,
         alloc: Global,
@@ -173,8 +174,8 @@ impl SourceLog {
         Ok(None)
     }
 
-    /// Takes a record where it may be taken, and answers why where it may not. The records and
-    /// units then stay, and nothing more can be taken. If memory runs out, the log is unspecified.
+    /// Takes a record if it may be taken, else answers why it may not. The records and units then
+    /// stay, and nothing more can be taken. If memory runs out, the log is unspecified.
     pub fn take(&mut self, alloc: Global, entry: LogRecord) -> Result<Option<Cause>, AllocError>
         requires { IsKeptLog self.old }
         ensures cause { IfOk result (λ cause. cause ≡ record_cause self.old.records entry) }

@@ -5,8 +5,8 @@ use std::alloc::{AllocError, AllocFailed};
 use thiserror::Error;
 
 /// Why a call failed. Servers are named by their place, counted from 0. After a fault no
-/// transaction is open, and each server holds what its last commit left, or a failed commit that
-/// took place.
+/// transaction is open, and each server holds what its last commit left, or what a commit left that
+/// failed but took place.
 #[derive(Clone, Debug, Drop, PartialEq, Eq, Error)]
 pub enum Fault {
     #[error("out of memory")]

@@ -1,11 +1,12 @@
-//! Input and output in pieces.
+//! Sources and sinks of bytes, which move them in pieces.
 
-ghost use Rattle.std.specs.Prelude.{◌≡◌, ◌≤◌, ◌<◌, ℕ, List, [], Option, IfOk, IfSome, OnOk, OnErr, OnSome, take, length};
-ghost use Rattle.keep_core.specs.Told.{Rises, Gives, Takes, TakesFront};
+ghost use Rattle.std.specs.Prelude.{◌≡◌, ◌≤◌, ◌<◌, ℕ, List, [], Option, IfOk, IfSome, OnOk, OnErr};
+ghost use Rattle.std.specs.Prelude.{OnSome, take, length};
+ghost use Rattle.keep_core.specs.Revealed.{Rises, Gives, Takes, TakesPrefix};
 
 use thiserror::Error;
 
-/// Why no bytes came, or went.
+/// Why a read or a write fails.
 #[derive(Clone, Copy, Debug, PartialEq, Eq, Error)]
 pub enum ReadError {
     #[error("out of memory")]
@@ -14,16 +15,16 @@ pub enum ReadError {
     Failed,
 }
 
-/// Where bytes come from. Whether a source tells the bytes that are left never changes.
+/// A source of bytes. It reveals the bytes that are left always or never.
 pub trait Source {
-    /// The bytes that are left, where the source tells.
+    /// The bytes that are left, if the source reveals them.
     ghost left: { Self → Option (List ℕ) };
 
-    /// How often a read has failed: the count never falls.
+    /// How often a read has failed. The count never falls.
     ghost faults: { Self → ℕ };
 
-    /// Moves bytes to the front of the buffer and answers how many; for a buffer that isn't empty,
-    /// 0 is the end of the input. After an error no byte has come.
+    /// Moves bytes to the beginning of the buffer and answers how many. If the buffer isn't empty,
+    /// 0 means the end of the input. After an error no byte was moved out of the source.
     fn read(&mut self, buffer: &mut [u8]) -> Result<usize, ReadError>
         ensures within { IfOk result (λ count. count ≤ length buffer.new) }
         ensures ok { IfOk result (λ count. Gives (left self.old) (left self.new)
@@ -35,16 +36,16 @@ pub trait Source {
         ensures counts { faults self.old ≤ faults self.new };
 }
 
-/// Where bytes go. Whether a sink tells the bytes that it took never changes.
+/// A sink of bytes. It reveals the bytes that it took always or never.
 pub trait Sink {
-    /// The bytes that were taken, where the sink tells.
+    /// The bytes that the sink took, if it reveals them.
     ghost taken: { Self → Option (List ℕ) };
 
-    /// How often a write has failed: the count never falls.
+    /// How often a write has failed. The count never falls.
     ghost faults: { Self → ℕ };
 
-    /// Takes bytes from the front of the piece and answers how many: of a piece that isn't empty at
-    /// least one. After an error no byte was taken.
+    /// Takes bytes from the beginning of the piece and answers how many. If the piece isn't empty,
+    /// it takes at least one. After an error it took none.
     fn write(&mut self, piece: &[u8]) -> Result<usize, ReadError>
         ensures within { IfOk result (λ count. count ≤ length piece.now) }
         ensures moves { IfOk result (λ count. 0 < length piece.now → 0 < count) }
@@ -55,11 +56,11 @@ pub trait Sink {
         ensures counts { faults self.old ≤ faults self.new };
 }
 
-/// Hands a line over, in one piece and again with what the sink left, until it is whole. After an
-/// error a front of the line was taken, and not all of it.
+/// Writes a line: hands the sink the whole line, then what it left of it, until all is taken. After
+/// an error the sink took a prefix of the line, and not all of it.
 pub fn write_line<O: Sink>(output: &mut O, line: &[u8]) -> Result<(), ReadError>
     ensures ok { OnOk result (Takes (O.taken output.old) (O.taken output.new) line.now) }
-    ensures err { OnErr result (TakesFront (O.taken output.old) (O.taken output.new) line.now) }
+    ensures err { OnErr result (TakesPrefix (O.taken output.old) (O.taken output.new) line.now) }
     ensures short { OnErr result (OnSome (O.taken output.old)
         (¬ Takes (O.taken output.old) (O.taken output.new) line.now)) }
     ensures cause { result ≡ Err ReadError.Failed

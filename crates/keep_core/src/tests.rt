@@ -53,7 +53,7 @@ fn a_line_arrives_whole(rt: HostRuntime) {
 }
 
 #[test]
-fn a_front_arrives_before_a_failure(rt: HostRuntime) {
+fn a_prefix_arrives_before_a_failure(rt: HostRuntime) {
     let mut output = failing_at(rt.alloc(), 2);
     assert_eq!(rt; write_line(&mut output, b"done\n"), Err(ReadError::Failed));
     assert_eq!(rt; output.bytes.as_slice(), b"d".as_slice());

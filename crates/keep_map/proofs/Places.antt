@@ -1,73 +1,65 @@
--- The order of places, and what a change of a map makes of the rows at them.
+-- The order of places, and the rows at places after a change of a map.
 use Rattle.std.proofs.Common.{◌≡◌, ℕ, Bool, true, false, cond, List, refl, sym, ap, subst, ◌∙◌}
 use Rattle.std.specs.Prelude.{Option, Some, IsSome}
 use Rattle.std.specs.BTreeMap.{BTreeMap, UpdatesBy, is_at}
 use Rattle.std.specs.Map.{lookup, IsKeyTest, AreApart, KeepsOthers}
-use Rattle.std.specs.Ordering.{is_eq, nat_cmp, ordering_then, eq_by_cmp}
-use Rattle.std.specs.Cmp.{IsTotalOrder, nat_cmp_total, on_total, then_total, eq_by_cmp_equiv}
+use Rattle.std.specs.Ordering.{nat_cmp, ordering_then, eq_by_cmp}
+use Rattle.std.specs.Cmp.{IsTotalOrder, nat_cmp_total, on_total, then_total, eq_by_cmp_equiv, Equal-is}
 use Rattle.std.specs.Cmp.Lexicographic.{nat_list_cmp_total}
-use Rattle.std.specs.declared.cmp.Ordering.{Ordering}
-use Rattle.std.specs.declared.cmp.Ordering.TheVariants.{Less, Equal, Greater}
 use Rattle.std.proofs.lemmas.Map.Lookups.{exact_unsigned, exact_bytes, exact_pairs}
 use Rattle.repl_types.specs.Bytes.{bytes_cmp}
 use Rattle.keep_map.specs.declared.slot.Slot.{Slot}
-use Rattle.keep_map.specs.declared.row.Row.{Row}
-use Rattle.keep_map.specs.Stored.{Place, place_cmp, same_place, place_of, slot_cmp, row_at, Sets}
+use Rattle.keep_map.specs.declared.stored_row.StoredRow.{StoredRow}
+use Rattle.keep_map.specs.Stored.{Place, place_cmp, same_place, place_of, slot_cmp, row_at, SetsRow}
 
 -- places have a total order
 pub places_total : IsTotalOrder place_cmp
 places_total = then_total (on_total (λ (x : Place). x.0) nat_cmp_total) (then_total (on_total (λ (x : Place). x.1) nat_cmp_total) (on_total (λ (x : Place). x.2) nat_list_cmp_total))
 
--- an order that isn't told apart is `Equal`
-is_equal : (r : Ordering) → is_eq r ≡ true → r ≡ Equal
-is_equal Equal e = refl
-is_equal Less e = absurd cc
-is_equal Greater e = absurd cc
-
--- places that are one are equal
+-- places that are the same are equal
 pub place_is : (x y : Place) → same_place x y ≡ true → x ≡ y
-place_is x y e = let turned : ℕ × (ℕ × List ℕ) → Place = λ p. (p.0, p.1.0, p.1.1) in ap turned (exact_pairs nat_cmp (λ (p q : ℕ × List ℕ). ordering_then (nat_cmp p.0 q.0) (bytes_cmp p.1 q.1)) exact_unsigned (exact_pairs nat_cmp bytes_cmp exact_unsigned exact_bytes) (x.0, (x.1, x.2)) (y.0, (y.1, y.2)) (is_equal (place_cmp x y) e))
+place_is x y e = let turned : ℕ × (ℕ × List ℕ) → Place = λ p. (p.0, p.1.0, p.1.1) in ap turned (exact_pairs nat_cmp (λ (p q : ℕ × List ℕ). ordering_then (nat_cmp p.0 q.0) (bytes_cmp p.1 q.1)) exact_unsigned (exact_pairs nat_cmp bytes_cmp exact_unsigned exact_bytes) (x.0, (x.1, x.2)) (y.0, (y.1, y.2)) ((Equal-is (place_cmp x y)).0 e))
 
--- the rows that a change of the map leaves alone
-others : (test : Slot → Bool) (m n : BTreeMap Slot Row) → KeepsOthers (eq_by_cmp slot_cmp) test m.entries n.entries → (other : Slot → Bool) → IsKeyTest (eq_by_cmp slot_cmp) other → AreApart test other → lookup other n.entries ≡ lookup other m.entries
+-- a change of the map leaves the rows at other places as they were
+other_rows : (test : Slot → Bool) (m n : BTreeMap Slot StoredRow) → KeepsOthers (eq_by_cmp slot_cmp) test m.entries n.entries → (other : Slot → Bool) → IsKeyTest (eq_by_cmp slot_cmp) other → AreApart test other → lookup other n.entries ≡ lookup other m.entries
 unfolding KeepsOthers
-others test m n h = h
+other_rows test m n h = h
 
-module _ (m n : BTreeMap Slot Row) (s : Slot) (w : Option Row) (h : UpdatesBy slot_cmp (slot_cmp s) m n w) where
-  -- a row at another place stays
+module _ (m n : BTreeMap Slot StoredRow) (s : Slot) (w : Option StoredRow) (h : UpdatesBy slot_cmp (slot_cmp s) m n w) where
+  -- a row at another place stays as it was
   at_other : (p : Place) → same_place (place_of s) p ≡ false → row_at n p ≡ row_at m p
   at_other p apart =
       let eq = eq_by_cmp_equiv places_total in
-      others (is_at (slot_cmp s)) m n h.3 (λ k. same_place p (place_of k)) (λ k q. eq.congr p (place_of k) (place_of q)) (λ k yes. eq.symm p (place_of k) ∙ sym (eq.congr (place_of s) (place_of k) p yes) ∙ apart)
+      other_rows (is_at (slot_cmp s)) m n h.3 (λ k. same_place p (place_of k)) (λ k q. eq.congr p (place_of k) (place_of q)) (λ k yes. eq.symm p (place_of k) ∙ sym (eq.congr (place_of s) (place_of k) p yes) ∙ apart)
 
   -- a change of the map at a slot sets the row at its place
-  pub written : Sets (place_of s) w m n
-  written p = at (same_place (place_of s) p) refl
+  pub row_is_set : SetsRow (place_of s) w m n
+  row_is_set p = at (same_place (place_of s) p) refl
     where
       at : (b : Bool) → same_place (place_of s) p ≡ b → row_at n p ≡ cond b w (row_at m p)
       at false e = at_other p e
       at true e = ap (λ (q : Place). row_at n q) (sym (place_is (place_of s) p e)) ∙ h.1
 
 -- setting a row as it is changes nothing
-kept : (m : BTreeMap Slot Row) (at : Place) (w : Option Row) → w ≡ row_at m at → (p : Place) → cond (same_place at p) w (row_at m p) ≡ row_at m p
-kept m at w is p = by_cases (same_place at p) refl
+row_kept : (m : BTreeMap Slot StoredRow) (at : Place) (w : Option StoredRow) → w ≡ row_at m at → (p : Place) → cond (same_place at p) w (row_at m p) ≡ row_at m p
+row_kept m at w is p = by_cases (same_place at p) refl
   where
     by_cases : (b : Bool) → same_place at p ≡ b → cond b w (row_at m p) ≡ row_at m p
     by_cases false e = refl
     by_cases true e = is ∙ ap (λ (q : Place). row_at m q) (place_is at p e)
 
--- a map that stays sets each row as it was
-pub stays : (m n : BTreeMap Slot Row) (at : Place) (w : Option Row) → w ≡ row_at m at → n.entries ≡ m.entries → Sets at w m n
-stays m n at w is same p = ap (λ es. lookup (λ (s : Slot). same_place p (place_of s)) es) same ∙ sym (kept m at w is p)
+-- a map that stays as it was sets a row to what it was
+pub sets_unchanged : (m n : BTreeMap Slot StoredRow) (at : Place) (w : Option StoredRow) → w ≡ row_at m at → n.entries ≡ m.entries → SetsRow at w m n
+sets_unchanged m n at w is same p = ap (λ es. lookup (λ (s : Slot). same_place p (place_of s)) es) same ∙ sym (row_kept m at w is p)
 
--- of two rows that are set at one place the second stands
-pub sets_again : (m n o : BTreeMap Slot Row) (at : Place) (v w : Option Row) → Sets at v m n → Sets at w n o → Sets at w m o
-sets_again m n o at v w first second p = second p ∙ ap (λ (r : Option Row). cond (same_place at p) w r) (first p) ∙ by_cases (same_place at p)
+-- of two rows that are set at one place, the second remains
+pub sets_again : (m n o : BTreeMap Slot StoredRow) (at : Place) (v w : Option StoredRow) → SetsRow at v m n → SetsRow at w n o → SetsRow at w m o
+sets_again m n o at v w first second p = second p ∙ ap (λ (r : Option StoredRow). cond (same_place at p) w r) (first p) ∙ by_cases (same_place at p)
   where
     by_cases : (b : Bool) → cond b w (cond b v (row_at m p)) ≡ cond b w (row_at m p)
     by_cases false = refl
     by_cases true = refl
 
--- what is written through a row that was found
-pub written_through : (m n : BTreeMap Slot Row) (s : Slot) (old new : Row) → Some old ≡ row_at m (place_of s) → (IsSome (row_at m (place_of s)) → UpdatesBy slot_cmp (slot_cmp s) m n (Some new)) → Sets (place_of s) (Some new) m n
-written_through m n s old new found h = written m n s (Some new) (h (subst (λ (r : Option Row). IsSome r) found refl))
+-- a change through a reference to a row that was found sets that row
+pub written_through : (m n : BTreeMap Slot StoredRow) (s : Slot) (old new : StoredRow) → Some old ≡ row_at m (place_of s) → (IsSome (row_at m (place_of s)) → UpdatesBy slot_cmp (slot_cmp s) m n (Some new)) → SetsRow (place_of s) (Some new) m n
+written_through m n s old new found h = row_is_set m n s (Some new) (h (subst (λ (r : Option StoredRow). IsSome r) found refl))

@@ -1,23 +1,23 @@
--- What clauses see of a keeper in memory.
+-- What a clause sees of a keeper in memory.
 use Rattle.std.specs.Prelude.{◌≡◌, ℕ, if◌then◌else◌, [], Some, None, slice_index}
 use Rattle.repl_types.specs.declared.area.Area.{Area}
 use Rattle.keep_core.specs.Contents.{nothing}
 use Rattle.repl_types.specs.Area.{area_number}
 use Rattle.keep_core.specs.Kept.{Kept}
-use Rattle.keep_map.specs.declared.counts.Counts.{Counts}
+use Rattle.keep_map.specs.declared.area_counts.AreaCounts.{AreaCounts}
 use Rattle.keep_map.specs.declared.map_keeper.MapKeeper.{MapKeeper}
 use Rattle.keep_map.specs.Planned.{after_call}
-use Rattle.keep_map.specs.Stored.{seen_of, held_of}
+use Rattle.keep_map.specs.Stored.{contents_seen, contents_held}
 
--- the count of each area
-abbrev pub count_of : Counts → Area → ℕ
+-- the count of an area
+abbrev pub count_of : AreaCounts → Area → ℕ
 count_of c a = slice_index c.each (area_number a)
 
--- a keeper in memory tells what it holds and what its open transaction sees
+-- a keeper in memory reveals what it holds and what its open transaction sees
 abbrev pub kept_of : MapKeeper → Kept
 kept_of m = record {
-  held = Some (held_of m.rows.map);
-  open_work = if m.is_open then Some (Some (seen_of m.rows.map)) else None;
+  held = Some (contents_held m.rows.map);
+  open_work = if m.is_open then Some (Some (contents_seen m.rows.map)) else None;
   faults = m.plan.faults;
   reads = count_of m.reads;
   writes = count_of m.writes;
@@ -27,8 +27,8 @@ kept_of m = record {
 abbrev pub kept_empty : Kept
 kept_empty = record { held = Some nothing; open_work = None; faults = 0; reads = λ _. 0; writes = λ _. 0 }
 
--- one more call was counted, and what else was asked of the keeper stays
-pub record IsCounted (old new : MapKeeper) : Type 0 where
+-- one more call was counted, and the rest of what was planned stays
+pub record CallIsCounted (old new : MapKeeper) : Type 0 where
   pub plan : new.plan ≡ after_call old.plan
   pub unplanned : old.plan.failing ≡ [] → new.plan.faults ≡ old.plan.faults
   pub doubt : new.doubt_takes ≡ old.doubt_takes

@@ -1,7 +1,8 @@
 //! A sink that keeps its bytes in memory.
 
-ghost use Rattle.std.specs.Prelude.{◌≡◌, ◌≤◌, ◌↔◌, ◌<◌, [], Some, IfOk, OnOk, OnErr, IsTrue, length, take};
-ghost use Rattle.keep_core.specs.Told.{Rises, Takes};
+ghost use Rattle.std.specs.Prelude.{◌≡◌, ◌≤◌, ◌↔◌, ◌<◌, [], Some, IfOk, OnOk, OnErr, IsTrue};
+ghost use Rattle.std.specs.Prelude.{length, take};
+ghost use Rattle.keep_core.specs.Revealed.{Rises, Takes};
 ghost use Rattle.keep_map.specs.Planned.{nothing_planned, planned_anew, fails_next, after_call};
 ghost use Rattle.keep_map.specs.Streams.{sink_after};
 
@@ -27,7 +28,7 @@ impl Model for BytesSink {
 }
 
 impl BytesSink {
-    /// No byte was taken, and no write fails. It takes no memory.
+    /// A sink that took no byte, and of which no write is to fail. This allocates nothing.
     pub fn new(alloc: Global) -> BytesSink
         ensures { result ≡ record { taken = []; plan = nothing_planned } }
     {
@@ -37,7 +38,8 @@ impl BytesSink {
         }
     }
 
-    /// The calls of `write` from now on fail at these numbers, counted from 1. It takes no memory.
+    /// Plans which of the next calls of `write` fail, by their numbers from 1. This allocates
+    /// nothing.
     pub fn fail_at(&mut self, calls: List<u64>)
         ensures { self.new ≡ record self.old { plan = planned_anew self.old.plan calls } }
     {
@@ -57,7 +59,7 @@ impl Sink for BytesSink {
 
     ghost faults = { λ s. s.plan.faults };
 
-    /// Takes the whole piece, but where the plan names the call, or memory is out. A call that
+    /// Takes the whole piece, unless the plan names the call or memory runs out. A call that
     /// answers `Memory` isn't counted.
     fn write(&mut self, piece: &[u8]) -> Result<usize, ReadError>
         ensures planned { (result ≡ Err ReadError.Failed) ↔ IsTrue (fails_next self.old.plan) }

@@ -1,7 +1,8 @@
-//! A source of bytes that stand in memory.
+//! A source of bytes in memory.
 
-ghost use Rattle.std.specs.Prelude.{◌≡◌, ◌≢◌, ◌≤◌, ◌<◌, ◌↔◌, [], Some, IsTrue, IfOk, OnErr, length, take};
-ghost use Rattle.keep_core.specs.Told.{Rises, Gives};
+ghost use Rattle.std.specs.Prelude.{◌≡◌, ◌≢◌, ◌≤◌, ◌<◌, ◌↔◌, [], Some, IsTrue, IfOk, OnErr, length};
+ghost use Rattle.std.specs.Prelude.{take};
+ghost use Rattle.keep_core.specs.Revealed.{Rises, Gives};
 ghost use Rattle.keep_map.specs.Planned.{nothing_planned, planned_anew, fails_next};
 ghost use Rattle.keep_map.specs.Streams.{moved_count, buffer_after, source_after};
 
@@ -30,7 +31,7 @@ impl Model for BytesSource {
 }
 
 impl BytesSource {
-    /// All of the bytes are left, and no read fails. It takes no memory.
+    /// A source of which all these bytes are left, and no read is to fail. This allocates nothing.
     pub fn new(bytes: Bytes) -> BytesSource
         ensures { result ≡ record { left = bytes; plan = nothing_planned } }
     {
@@ -43,7 +44,8 @@ impl BytesSource {
         }
     }
 
-    /// The calls of `read` from now on fail at these numbers, counted from 1. It takes no memory.
+    /// Plans which of the next calls of `read` fail, by their numbers from 1. This allocates
+    /// nothing.
     pub fn fail_at(&mut self, calls: List<u64>)
         ensures { self.new ≡ record self.old { plan = planned_anew self.old.plan calls } }
     {
@@ -56,7 +58,7 @@ impl Source for BytesSource {
 
     ghost faults = { λ s. s.plan.faults };
 
-    /// As many bytes as fit the buffer and are left, but where the plan names the call.
+    /// Gives as many bytes as are left and fit the buffer, unless the plan names the call.
     fn read(&mut self, buffer: &mut [u8]) -> Result<usize, ReadError>
         ensures planned { (result ≡ Err ReadError.Failed) ↔ IsTrue (fails_next self.old.plan) }
         ensures count { IfOk result (λ count. count ≡ moved_count self.old (length buffer.old)) }

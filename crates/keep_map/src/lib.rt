@@ -1,23 +1,27 @@
-//! What the program takes from the outside, made of memory: bytes to read, bytes that were written,
-//! and a keeper of contents.
+//! Sources, sinks and keepers in memory, for tests: each call that a plan names fails, so a test
+//! sees what each failure leaves.
 //!
-//! It stands on `keep_core`, whose traits it meets, and on `repl_types`, whose lists and areas it
-//! takes. What is made of memory tells all that it holds, and fails at the calls that a plan names:
-//! so a test sees what each failure leaves.
+//! Below it are `keep_core`, whose traits it implements, and `repl_types`, whose lists and areas it
+//! takes. Above it, the tests of `site_store` and of `sqlrep` use it; no contract above names it.
+//! Its types reveal all that they hold.
 //!
-//! A `MapKeeper` holds its rows in one map, which a transaction changes in place. A row that was
-//! changed has the value from before with it until the transaction ends. So beginning one costs
-//! nothing, ending it costs what it changed, and only its changes take memory.
+//! A `MapKeeper` holds its rows in one map, which a transaction changes in place. A changed row
+//! also keeps its value from before, until the transaction ends. So `begin` takes constant time,
+//! the end of a transaction takes time by the rows that it changed, and only changes take memory.
+//!
+//! For example, after `keeper.fail_at` with the list 3, the calls `begin` and `put` succeed, and
+//! `commit` answers `Err(Failed)`: the put is gone, unless `keeper.doubt_new(true)` was called
+//! before.
 #![tactic(auto)]
 
+mod area_counts;
 mod bytes_sink;
 mod bytes_source;
-mod counts;
 mod map_keeper;
 mod plan;
-mod row;
-mod rows;
 mod slot;
+mod stored_row;
+mod stored_rows;
 #[cfg(test)]
 mod tests;
 

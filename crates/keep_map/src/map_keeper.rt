@@ -3,9 +3,9 @@
 ghost use Rattle.std.specs.Prelude.{◌≡◌, ◌≤◌, false, []};
 ghost use Rattle.keep_map.specs.Planned.{fails_next, after_call};
 
-use crate::counts::Counts;
+use crate::area_counts::AreaCounts;
 use crate::plan::Plan;
-use crate::rows::Rows;
+use crate::stored_rows::StoredRows;
 use keep_core::{KeepError, Keeper};
 use repl_types::{Area, List};
 use std::alloc::Global;
@@ -13,30 +13,31 @@ use std::alloc::Global;
 #[cfg(test)]
 mod tests;
 
-/// Contents in memory, with a plan of the calls that fail, and a count of the reads and of the
+/// Contents in memory, with a plan of the calls that fail, and counts of the reads and of the
 /// writes of each area. Every call but `rollback` counts for the plan, whatever it answers.
 ///
-/// `begin`, `commit` and `rollback` take no memory. Where the others find none they answer
-/// `Memory`.
+/// `begin`, `commit` and `rollback` allocate nothing. The other calls answer `Memory` if memory
+/// runs out.
 #[derive(Debug, Drop)]
 pub struct MapKeeper {
     alloc: Global,
-    rows: Rows,
+    rows: StoredRows,
     is_open: bool,
     plan: Plan,
     doubt_takes: bool,
-    reads: Counts,
-    writes: Counts,
+    reads: AreaCounts,
+    writes: AreaCounts,
     ghost idle: { is_open ≡ false → rows.touched.items ≡ [] },
 }
 
 impl MapKeeper {
     ghost use Rattle.std.specs.Prelude.{◌≡◌, false, IsTrue, if◌then◌else◌};
-    ghost use Rattle.keep_core.specs.Kept.{IsOpen, closed, committed};
+    ghost use Rattle.keep_core.specs.Kept.{IsOpen, closed_with, committed};
     ghost use Rattle.keep_map.specs.Planned.{nothing_planned, planned_anew};
     ghost use Rattle.keep_map.specs.Keepers.{kept_of, kept_empty};
 
-    /// Nothing is held, no transaction is open and no call fails. It takes no memory.
+    /// A keeper that holds nothing, with no transaction open and no call to fail. This allocates
+    /// nothing.
     pub fn new(alloc: Global) -> MapKeeper
         ensures kept { kept_of result ≡ kept_empty }
         ensures plan { result.plan ≡ nothing_planned }
@@ -44,17 +45,17 @@ impl MapKeeper {
     {
         MapKeeper {
             alloc,
-            rows: Rows::new(alloc),
+            rows: StoredRows::new(alloc),
             is_open: false,
             plan: Plan::new(alloc),
             doubt_takes: false,
-            reads: Counts::new(),
-            writes: Counts::new(),
+            reads: AreaCounts::new(),
+            writes: AreaCounts::new(),
         }
     }
 
-    /// The calls of `begin`, `get`, `next`, `put`, `remove` and `commit` from now on fail at these
-    /// numbers, counted from 1. It takes no memory.
+    /// Plans which of the next calls of `begin`, `get`, `next`, `put`, `remove` and `commit` fail,
+    /// by their numbers from 1. This allocates nothing.
     pub fn fail_at(&mut self, calls: List<u64>)
         ensures kept { kept_of self.new ≡ kept_of self.old }
         ensures plan { self.new.plan ≡ planned_anew self.old.plan calls }
@@ -63,7 +64,8 @@ impl MapKeeper {
         self.plan.fail_at(calls);
     }
 
-    /// Whether a commit that fails from now on takes place all the same. At first none does.
+    /// Says whether a commit that fails from now on takes place nevertheless. Until this is called,
+    /// none does.
     pub fn doubt_new(&mut self, taken: bool)
         ensures kept { kept_of self.new ≡ kept_of self.old }
         ensures plan { self.new.plan ≡ self.old.plan }
@@ -86,11 +88,10 @@ impl MapKeeper {
         self.writes.get(area)
     }
 
-    /// No transaction is open. What is held is what it saw where it is kept, else what was held
-    /// before.
+    /// Ends the transaction. If it is kept, the keeper holds what it saw, else what it held before.
     fn close(&mut self, keep: bool)
         requires { IsTrue keep → IsOpen (kept_of self.old) }
-        ensures kept { kept_of self.new ≡ closed
+        ensures kept { kept_of self.new ≡ closed_with
             (if keep then committed (kept_of self.old) else kept_of self.old)
             (kept_of self.old).faults }
         ensures plan { self.new.plan ≡ self.old.plan }
@@ -102,24 +103,28 @@ impl MapKeeper {
 }
 
 impl Keeper for MapKeeper {
-    ghost use Rattle.std.specs.Prelude.{◌≡◌, ◌≢◌, ◌↔◌, IsTrue, IfOk, OnOk, IfErr, IfSome, if◌then◌else◌};
+    ghost use Rattle.std.specs.Prelude.{◌≡◌, ◌≢◌, ◌↔◌, IsTrue, IfOk, OnOk, IfErr, IfSome};
+    ghost use Rattle.std.specs.Prelude.{if◌then◌else◌};
     ghost use Rattle.repl_types.specs.Sizes.{IsKeySize, IsValueSize};
-    ghost use Rattle.keep_core.specs.Kept.{IsOpen, IsClosed, opened, closed, committed, after_read, after_write, after_put, after_remove, seen, Refuses, InDoubt, Closes, Found, NextIs, WasThere, GivesValue, GivesNext};
+    ghost use Rattle.keep_core.specs.Kept.{IsOpen, IsClosed, opened, closed_with, committed};
+    ghost use Rattle.keep_core.specs.Kept.{after_read, after_write, after_put, after_remove, seen};
+    ghost use Rattle.keep_core.specs.Kept.{CallFails, CommitFails, Closes, Found, NextIs, WasThere};
+    ghost use Rattle.keep_core.specs.Kept.{GivesValue, GivesNext};
     ghost use Rattle.keep_map.specs.Planned.{fails_next};
-    ghost use Rattle.keep_map.specs.Keepers.{kept_of, IsCounted};
+    ghost use Rattle.keep_map.specs.Keepers.{kept_of, CallIsCounted};
 
     ghost kept = { kept_of };
 
-    /// It takes no memory.
+    /// This allocates nothing.
     fn begin(&mut self) -> Result<(), KeepError>
         requires { IsClosed (kept_of self.old) }
         ensures planned { (result ≡ Err KeepError.Failed) ↔ IsTrue (fails_next self.old.plan) }
         ensures memory { result ≢ Err KeepError.Memory }
-        ensures counted { IsCounted self.old self.new }
+        ensures counted { CallIsCounted self.old self.new }
 
         // What every keeper ensures.
         ensures ok { OnOk result (kept_of self.new ≡ opened (kept_of self.old)) }
-        ensures err { IfErr result (Refuses (kept_of self.old) (kept_of self.new)) }
+        ensures err { IfErr result (CallFails (kept_of self.old) (kept_of self.new)) }
     {
         if call_fails(&mut self.plan) {
             return Err(KeepError::Failed);
@@ -136,14 +141,14 @@ impl Keeper for MapKeeper {
         out: &mut Vec<u8>,
     ) -> Result<bool, KeepError>
         ensures planned { (result ≡ Err KeepError.Failed) ↔ IsTrue (fails_next self.old.plan) }
-        ensures counted { IsCounted self.old self.new }
+        ensures counted { CallIsCounted self.old self.new }
 
         // What every keeper ensures.
         ensures ok { OnOk result (kept_of self.new ≡ after_read (kept_of self.old) area) }
         ensures found { IfOk result (λ found. IfSome (seen (kept_of self.old))
             (Found area table key.now found out.new.items)) }
         ensures gives { IfOk result (λ found. GivesValue found out.new.items) }
-        ensures err { IfErr result (Refuses (after_read (kept_of self.old) area)
+        ensures err { IfErr result (CallFails (after_read (kept_of self.old) area)
             (kept_of self.new)) }
     {
         self.reads.bump(area);
@@ -169,7 +174,7 @@ impl Keeper for MapKeeper {
         out: &mut Vec<u8>,
     ) -> Result<bool, KeepError>
         ensures planned { (result ≡ Err KeepError.Failed) ↔ IsTrue (fails_next self.old.plan) }
-        ensures counted { IsCounted self.old self.new }
+        ensures counted { CallIsCounted self.old self.new }
 
         // What every keeper ensures.
         ensures ok { OnOk result (kept_of self.new ≡ after_read (kept_of self.old) area) }
@@ -177,7 +182,7 @@ impl Keeper for MapKeeper {
             (NextIs area table after.now found key.new.items out.new.items)) }
         ensures gives { IfOk result (λ found. GivesNext after.now found key.new.items
             out.new.items) }
-        ensures err { IfErr result (Refuses (after_read (kept_of self.old) area)
+        ensures err { IfErr result (CallFails (after_read (kept_of self.old) area)
             (kept_of self.new)) }
     {
         self.reads.bump(area);
@@ -199,12 +204,12 @@ impl Keeper for MapKeeper {
         requires key { IsKeySize key.now }
         requires value { IsValueSize value.now }
         ensures planned { (result ≡ Err KeepError.Failed) ↔ IsTrue (fails_next self.old.plan) }
-        ensures counted { IsCounted self.old self.new }
+        ensures counted { CallIsCounted self.old self.new }
 
         // What every keeper ensures.
         ensures ok { OnOk result (kept_of self.new
             ≡ after_put (kept_of self.old) area table key.now value.now) }
-        ensures err { IfErr result (Refuses (after_write (kept_of self.old) area)
+        ensures err { IfErr result (CallFails (after_write (kept_of self.old) area)
             (kept_of self.new)) }
     {
         self.writes.bump(area);
@@ -224,14 +229,14 @@ impl Keeper for MapKeeper {
     fn remove(&mut self, area: Area, table: u32, key: &[u8]) -> Result<bool, KeepError>
         requires { IsOpen (kept_of self.old) }
         ensures planned { (result ≡ Err KeepError.Failed) ↔ IsTrue (fails_next self.old.plan) }
-        ensures counted { IsCounted self.old self.new }
+        ensures counted { CallIsCounted self.old self.new }
 
         // What every keeper ensures.
         ensures ok { OnOk result (kept_of self.new
             ≡ after_remove (kept_of self.old) area table key.now) }
         ensures found { IfOk result (λ found. IfSome (seen (kept_of self.old))
             (WasThere area table key.now found)) }
-        ensures err { IfErr result (Refuses (after_write (kept_of self.old) area)
+        ensures err { IfErr result (CallFails (after_write (kept_of self.old) area)
             (kept_of self.new)) }
     {
         self.writes.bump(area);
@@ -248,21 +253,21 @@ impl Keeper for MapKeeper {
         }
     }
 
-    /// It takes no memory, and its time goes by what the transaction changed. Where it fails it
-    /// takes place all the same if `doubt_new` last said so.
+    /// This allocates nothing and takes time by the rows that the transaction changed. If it fails,
+    /// it takes place nevertheless if `doubt_new` last said so.
     fn commit(&mut self) -> Result<(), KeepError>
         requires { IsOpen (kept_of self.old) }
         ensures planned { (result ≡ Err KeepError.Failed) ↔ IsTrue (fails_next self.old.plan) }
         ensures memory { result ≢ Err KeepError.Memory }
-        ensures counted { IsCounted self.old self.new }
+        ensures counted { CallIsCounted self.old self.new }
         ensures doubt { result ≡ Err KeepError.Failed
             → kept_of self.new
-            ≡ closed (if self.old.doubt_takes then committed
+            ≡ closed_with (if self.old.doubt_takes then committed
             (kept_of self.old) else kept_of self.old) (kept_of self.new).faults }
 
         // What every keeper ensures.
         ensures ok { OnOk result (kept_of self.new ≡ committed (kept_of self.old)) }
-        ensures err { IfErr result (InDoubt (kept_of self.old) (kept_of self.new)) }
+        ensures err { IfErr result (CommitFails (kept_of self.old) (kept_of self.new)) }
     {
         if call_fails(&mut self.plan) {
             self.close(self.doubt_takes);
@@ -272,9 +277,10 @@ impl Keeper for MapKeeper {
         Ok(())
     }
 
-    /// It takes no memory, and its time goes by what the transaction changed. It never fails.
+    /// This allocates nothing and takes time by the rows that the transaction changed. It never
+    /// fails.
     fn rollback(&mut self)
-        ensures kept { kept_of self.new ≡ closed (kept_of self.old) (kept_of self.old).faults }
+        ensures kept { kept_of self.new ≡ closed_with (kept_of self.old) (kept_of self.old).faults }
         ensures plan { self.new.plan ≡ self.old.plan }
         ensures doubt { self.new.doubt_takes ≡ self.old.doubt_takes }
 
@@ -285,7 +291,7 @@ impl Keeper for MapKeeper {
     }
 }
 
-/// Counts the call that is next, and tells whether it is to fail.
+/// Counts the next call as made, and answers whether it is to fail.
 fn call_fails(plan: &mut Plan) -> bool
     ensures fails { result ≡ fails_next plan.old }
     ensures counted { plan.new ≡ after_call plan.old }

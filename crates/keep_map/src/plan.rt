@@ -1,4 +1,4 @@
-//! Which calls fail.
+//! The plan of the calls that are to fail.
 
 ghost use Rattle.std.specs.Prelude.{◌≡◌, ◌≤◌};
 ghost use Rattle.keep_map.specs.Planned.{nothing_planned, planned_anew, fails_next, after_call};
@@ -7,8 +7,8 @@ use repl_types::List;
 use std::alloc::Global;
 use std::marker::Model;
 
-/// The calls that are to fail, by their numbers, and the counts of those that were made and of
-/// those that failed. A count that stands at the last `u64` stays there.
+/// The numbers of the calls that are to fail, how many calls were made since this was planned, and
+/// how many ever failed. The counts saturate.
 #[derive(Debug, Drop)]
 pub struct Plan {
     failing: List<u64>,
@@ -25,7 +25,7 @@ impl Model for Plan {
 }
 
 impl Plan {
-    /// No call fails. It takes no memory.
+    /// A plan by which no call fails. This allocates nothing.
     pub fn new(alloc: Global) -> Self
         ensures { result ≡ nothing_planned }
     {
@@ -36,7 +36,7 @@ impl Plan {
         }
     }
 
-    /// The calls from now on fail at these numbers, counted from 1. It takes no memory.
+    /// Plans which of the next calls fail, by their numbers from 1. This allocates nothing.
     pub fn fail_at(&mut self, calls: List<u64>)
         ensures { self.new ≡ planned_anew self.old calls }
     {
@@ -52,7 +52,7 @@ impl Plan {
         self.failing.as_slice().contains(&next)
     }
 
-    /// Counts the call that was next, also as a fault where it is to fail.
+    /// Counts the next call as made, and also as a fault if it is to fail.
     pub fn count(&mut self)
         ensures call { self.new ≡ after_call self.old }
         ensures counts { self.old.faults ≤ self.new.faults }

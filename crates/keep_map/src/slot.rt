@@ -1,4 +1,4 @@
-//! Where a row stands.
+//! The place of a row.
 
 ghost use Rattle.std.specs.Prelude.{◌≡◌, IfOk};
 ghost use Rattle.repl_types.specs.Area.{area_number};

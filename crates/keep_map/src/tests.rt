@@ -1,4 +1,4 @@
-//! Streams that give, take and fail as they are asked to.
+//! Streams that give, take and fail as planned.
 
 use crate::{BytesSink, BytesSource};
 use keep_core::{ReadError, Sink, Source};

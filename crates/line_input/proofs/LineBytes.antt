@@ -1,4 +1,4 @@
--- The bytes of a line as they come.
+-- The bytes of a line as they are read.
 use Rattle.std.proofs.Common.{◌≡◌, ◌≢◌, ℕ, ◌+◌, ◌-◌, ◌<◌, ◌≤◌, List, [], ◌∷◌, ◌++◌, length, take, get_or, Bool, true, false, cond, Option, Some, None, refl, sym, ap, subst, ◌∙◌, inl, inr, append_assoc, arith}
 use Rattle.std.specs.Prelude.{◌==◌}
 use Rattle.std.specs.Option.{option_map, IfSome}
@@ -10,15 +10,15 @@ use Rattle.std.proofs.lemmas.Bool.{lt-ltb, le-ltb, ltb-true, ltb-false, cases_Bo
 use Rattle.std.proofs.lemmas.Bool.Decides.{nat_tests}
 use Rattle.line_input.specs.declared.input.Next.{Next}
 use Rattle.line_input.specs.declared.input.Next.TheVariants.{End, Line, LongLine}
-use Rattle.line_input.specs.Input.{IsKept, EndsAs, EndsInputAs, NextIs, ReadsLine}
+use Rattle.line_input.specs.Input.{IsKept, EndsAs, EndsInputAs, NextLineIs, ReadsLine}
 use Rattle.line_input.specs.Limits.{line_limit}
 
 -- no byte is a line feed
 abbrev pub IsPlain : List ℕ → Type 0
 IsPlain bytes = AllByRecursion (λ b. b ≢ 10) bytes
 
--- from the bytes that were left there came those of a line, of which this is kept; `most` is how many could
--- come, and `still` how many still can
+-- the bytes of a line were read from the bytes left, and this much of them was kept; `most` is how many
+-- bytes could be given before, and `still` how many still can
 pub record ReadSoFar (before now : Option (List ℕ)) (most still : ℕ) (line : List ℕ) (long : Bool) : Type 0 where
   pub so_far : List ℕ
   pub parts : before ≡ option_map (λ rest. so_far ++ rest) now
@@ -46,7 +46,7 @@ split-last (b ∷ bytes) plain =
     ap (λ (test : Bool). cond test ([] ∷ slice_split is_feed bytes) (onto_first b (slice_split is_feed bytes))) (not_feed b plain.0)
     ∙ ap (onto_first b) (split-last bytes plain.1)
 
--- there is a part at least, so the first one ends at a line feed
+-- after the first part there is another, so the first ends at a line feed
 feed_then : (line : List ℕ) (rest : List ℕ) → lines_of_parts (line ∷ slice_split is_feed rest) ≡ strip_carriage_return line ∷ lines_of_parts (slice_split is_feed rest)
 feed_then line rest = by (slice_split is_feed rest) (omega (arith, length-slice_split is_feed rest))
   where
@@ -54,11 +54,11 @@ feed_then line rest = by (slice_split is_feed rest) (omega (arith, length-slice_
     by [] some = absurd (omega arith)
     by (p ∷ ps) some = refl
 
--- a line that ends at a line feed, and the lines after it
+-- bytes that begin with a line and a line feed have that line and then the lines of the rest
 pub lines-feed : (bytes rest : List ℕ) → IsPlain bytes → lines (bytes ++ 10 ∷ rest) ≡ strip_carriage_return bytes ∷ lines rest
 lines-feed bytes rest plain = ap lines_of_parts (split-plain bytes rest plain) ∙ feed_then bytes rest
 
--- a last line with no line feed
+-- bytes with no line feed are one line
 pub lines-last : (bytes : List ℕ) → IsPlain bytes → 0 < length bytes → lines bytes ≡ bytes ∷ []
 lines-last [] plain some = absurd (omega arith)
 lines-last (b ∷ bytes) plain some =
@@ -70,38 +70,38 @@ lines-last (b ∷ bytes) plain some =
 -- one more byte below the limit is kept
 pub kept-pushed : (bytes line : List ℕ) (long : Bool) (b : ℕ) → IsKept bytes line long → length line ≤ line_limit → IsKept (bytes ++ b ∷ []) (line ++ b ∷ []) long
 kept-pushed bytes line long b kept few =
-    let short : length bytes ≤ line_limit = omega (arith, ap length kept.front, length-take (line_limit + 1) bytes) in
+    let short : length bytes ≤ line_limit = omega (arith, ap length kept.prefix, length-take (line_limit + 1) bytes) in
     let all : take (line_limit + 1) bytes ≡ bytes = take_all (line_limit + 1) bytes (omega arith) in
     let longer : length (bytes ++ b ∷ []) ≡ length bytes + 1 = omega (arith, length-append bytes (b ∷ [])) in
     record {
-      front = ap (λ (front : List ℕ). front ++ b ∷ []) (kept.front ∙ all) ∙ sym (take_all (line_limit + 1) (bytes ++ b ∷ []) (omega arith));
+      prefix = ap (λ (line : List ℕ). line ++ b ∷ []) (kept.prefix ∙ all) ∙ sym (take_all (line_limit + 1) (bytes ++ b ∷ []) (omega arith));
       more = kept.more ∙ le-ltb (line_limit + 1) (length bytes) (omega arith) ∙ sym (le-ltb (line_limit + 1) (length (bytes ++ b ∷ [])) (omega arith));
     }
 
--- one more byte over the limit isn't
+-- one more byte over the limit isn't kept
 pub kept-passed : (bytes line : List ℕ) (long : Bool) (b : ℕ) → IsKept bytes line long → line_limit < length line → IsKept (bytes ++ b ∷ []) line true
 kept-passed bytes line long b kept many =
-    let enough : line_limit + 1 ≤ length bytes = omega (arith, ap length kept.front, length-take (line_limit + 1) bytes) in
+    let enough : line_limit + 1 ≤ length bytes = omega (arith, ap length kept.prefix, length-take (line_limit + 1) bytes) in
     record {
-      front = kept.front ∙ sym (take-append-le (line_limit + 1) bytes (b ∷ []) enough);
+      prefix = kept.prefix ∙ sym (take-append-le (line_limit + 1) bytes (b ∷ []) enough);
       more = sym (lt-ltb (line_limit + 1) (length (bytes ++ b ∷ [])) (omega (arith, length-append bytes (b ∷ []))));
     }
 
--- no more bytes than are kept
+-- if there are no more bytes than are kept, all are kept
 pub kept_all : (bytes line : List ℕ) (long : Bool) → IsKept bytes line long → long ≡ false → line ≡ bytes
 kept_all bytes line long kept short =
     let few : length bytes ≤ line_limit + 1 = ltb-false (line_limit + 1) (length bytes) (sym kept.more ∙ short) in
-    kept.front ∙ take_all (line_limit + 1) bytes few
+    kept.prefix ∙ take_all (line_limit + 1) bytes few
 
--- more bytes than are kept
+-- if there are more bytes than are kept, they are over the limit and one byte
 pub kept_more : (bytes line : List ℕ) (long : Bool) → IsKept bytes line long → long ≡ true → line_limit + 1 < length bytes
 kept_more bytes line long kept more = ltb-true (line_limit + 1) (length bytes) (sym kept.more ∙ more)
 
--- there are no fewer bytes than are kept
+-- at most as many bytes are kept as there are
 pub kept_over : (bytes line : List ℕ) (long : Bool) → IsKept bytes line long → length line ≤ length bytes
-kept_over bytes line long kept = omega (arith, ap length kept.front, length-take (line_limit + 1) bytes)
+kept_over bytes line long kept = omega (arith, ap length kept.prefix, length-take (line_limit + 1) bytes)
 
--- dropping a carriage return drops no more than a byte
+-- removing a carriage return removes at most one byte
 pub stripped_len : (bytes : List ℕ) → length bytes ≤ length (strip_carriage_return bytes) + 1
 stripped_len bytes = elim (cases_Bool (get_or bytes (length bytes - 1) 0 == 13)) [
   | inl ends ↦ rw ends (omega (arith, length-take (length bytes - 1) bytes))
@@ -117,10 +117,10 @@ pub parts-pushed : (before now after : Option (List ℕ)) (bytes : List ℕ) (b 
 parts-pushed before now None bytes b parts next = parts ∙ ap (option_map (λ rest. bytes ++ rest)) next
 parts-pushed before now (Some rest) bytes b parts next = parts ∙ ap (option_map (λ rest. bytes ++ rest)) next ∙ ap (λ (all : List ℕ). Some all) (sym (append_assoc bytes (b ∷ []) rest))
 
--- one more byte of the line came
-pub read_more : {before now after : Option (List ℕ)} {most still fewer : ℕ} {line : List ℕ} {long : Bool} (read : ReadSoFar before now most still line long) (b : ℕ) (line' : List ℕ) (long' : Bool)
+-- one more byte of the line was read
+pub line_read_more : {before now after : Option (List ℕ)} {most still fewer : ℕ} {line : List ℕ} {long : Bool} (read : ReadSoFar before now most still line long) (b : ℕ) (line' : List ℕ) (long' : Bool)
     → now ≡ option_map (λ rest. b ∷ rest) after → fewer + 1 ≤ still → b ≢ 10 → IsKept (read.so_far ++ b ∷ []) line' long' → ReadSoFar before after most fewer line' long'
-read_more {before} {now} {after} read b line' long' next fewer ne kept = record {
+line_read_more {before} {now} {after} read b line' long' next fewer ne kept = record {
   so_far = read.so_far ++ b ∷ [];
   parts = parts-pushed before now after read.so_far b read.parts next;
   plain = plain-pushed read.so_far b read.plain ne;
@@ -130,12 +130,12 @@ read_more {before} {now} {after} read b line' long' next fewer ne kept = record 
 
 -- ---- how a line ends
 
-feed_is : (next : Next) (line' bytes rest : List ℕ) → IsPlain bytes → EndsAs next line' bytes → NextIs next line' (bytes ++ 10 ∷ rest) rest
+feed_is : (next : Next) (line' bytes rest : List ℕ) → IsPlain bytes → EndsAs next line' bytes → NextLineIs next line' (bytes ++ 10 ∷ rest) rest
 feed_is End line' bytes rest plain ends = absurd ends
 feed_is Line line' bytes rest plain ends = (lines-feed bytes rest plain ∙ ap (λ (line : List ℕ). line ∷ lines rest) (sym ends.0), ends.1)
 feed_is LongLine line' bytes rest plain ends = (strip_carriage_return bytes, lines-feed bytes rest plain, ends)
 
--- at a line feed
+-- a line that ends at a line feed was read
 pub read_to_feed : (next : Next) (line' : List ℕ) (before now after : Option (List ℕ)) (bytes : List ℕ) → IsPlain bytes
     → before ≡ option_map (λ rest. bytes ++ rest) now → now ≡ option_map (λ rest. 10 ∷ rest) after → EndsAs next line' bytes → ReadsLine next line' before after
 read_to_feed next line' before now None bytes plain parts feed ends =
@@ -143,7 +143,7 @@ read_to_feed next line' before now None bytes plain parts feed ends =
 read_to_feed next line' before now (Some rest) bytes plain parts feed ends =
     subst (λ (b : Option (List ℕ)). ReadsLine next line' b (Some rest)) (sym (parts ∙ ap (option_map (λ rest. bytes ++ rest)) feed)) (feed_is next line' bytes rest plain ends)
 
-end_is : (next : Next) (line' bytes rest : List ℕ) → IsPlain bytes → rest ≡ [] → EndsInputAs next line' bytes → NextIs next line' (bytes ++ rest) rest
+end_is : (next : Next) (line' bytes rest : List ℕ) → IsPlain bytes → rest ≡ [] → EndsInputAs next line' bytes → NextLineIs next line' (bytes ++ rest) rest
 end_is End line' bytes rest plain none ends = (ap (λ (b : List ℕ). b ++ rest) ends ∙ none, none)
 end_is Line line' bytes rest plain none ends =
     let all : bytes ++ rest ≡ bytes = ap (λ (r : List ℕ). bytes ++ r) none ∙ append-nil bytes in
@@ -152,7 +152,7 @@ end_is LongLine line' bytes rest plain none ends =
     let all : bytes ++ rest ≡ bytes = ap (λ (r : List ℕ). bytes ++ r) none ∙ append-nil bytes in
     (bytes, ap lines all ∙ lines-last bytes plain (omega arith) ∙ ap (λ (r : List ℕ). bytes ∷ lines r) (sym none), ends)
 
--- at the end of the input
+-- a line that ends at the end of the input was read
 pub read_to_end : (next : Next) (line' : List ℕ) (before now after : Option (List ℕ)) (bytes : List ℕ) → IsPlain bytes
     → before ≡ option_map (λ rest. bytes ++ rest) now → now ≡ option_map (λ rest. [] ++ rest) after → IfSome after (λ rest. rest ≡ []) → EndsInputAs next line' bytes → ReadsLine next line' before after
 read_to_end next line' before now None bytes plain parts same none ends =
@@ -160,7 +160,7 @@ read_to_end next line' before now None bytes plain parts same none ends =
 read_to_end next line' before now (Some rest) bytes plain parts same none ends =
     subst (λ (b : Option (List ℕ)). ReadsLine next line' b (Some rest)) (sym (parts ∙ ap (option_map (λ rest. bytes ++ rest)) same)) (end_is next line' bytes rest plain none ends)
 
--- at the end of the input too a line has taken a byte
+-- a line that ends at the end of the input has at least one byte
 pub some_read : (next : Next) (line : List ℕ) (bytes : List ℕ) → EndsInputAs next line bytes → next ≢ End → 0 < length bytes
 some_read End line bytes ends ne = absurd (ne refl)
 some_read Line line bytes ends ne = ends.1

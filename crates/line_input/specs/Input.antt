@@ -1,8 +1,8 @@
 -- What is left of an input while its lines are read.
-use Rattle.std.specs.Prelude.{◌≡◌, ◌≢◌, ℕ, ◌+◌, ◌-◌, ◌<◌, ◌≤◌, List, [], ◌∷◌, ◌++◌, length, take, drop, Bool, true, false, nat_lt, Option, Some, None, Result, Err}
+use Rattle.std.specs.Prelude.{◌≡◌, ◌≢◌, ℕ, ◌+◌, ◌-◌, ◌<◌, ◌≤◌, List, [], ◌∷◌, ◌++◌, codes, length, take, drop, Bool, true, nat_lt, Option, Some, None, Result, Err}
 use Rattle.std.specs.Option.{option_map, IfSome}
 use Rattle.std.specs.Str.Lines.{lines, strip_carriage_return}
-use Rattle.keep_core.specs.Told.{Rises}
+use Rattle.keep_core.specs.Revealed.{Rises}
 use Rattle.keep_core.specs.declared.streams.ReadError.{ReadError}
 use Rattle.keep_core.specs.declared.streams.ReadError.TheVariants as reads
 use Rattle.line_input.specs.declared.input.InputError.{InputError}
@@ -12,15 +12,15 @@ use Rattle.line_input.specs.declared.input.Next.{Next}
 use Rattle.line_input.specs.declared.input.Next.TheVariants.{End, Line, LongLine}
 use Rattle.line_input.specs.Limits.{line_limit, input_limit}
 
--- the bytes of the piece that wasn't given yet
-abbrev pub kept : Input → List ℕ
-kept i = take (i.end - i.at) (drop i.at i.piece.items)
+-- the bytes of the piece that weren't given yet
+abbrev pub piece_left : Input → List ℕ
+piece_left i = take (i.end - i.at) (drop i.at i.piece.items)
 
--- the bytes that are left, those that the source has left behind the kept ones
+-- the bytes that are left: those of the piece, and then those that the source has left
 abbrev pub left_of : Input → Option (List ℕ) → Option (List ℕ)
-left_of i later = option_map (λ bytes. kept i ++ bytes) later
+left_of i later = option_map (λ bytes. piece_left i ++ bytes) later
 
--- how many bytes there were in all, from those that were taken and those that the source has left
+-- how many bytes the input has in all: those that were read, and those that the source has left
 abbrev pub total_of : Input → Option (List ℕ) → Option ℕ
 total_of i later = option_map (λ bytes. i.taken + length bytes) later
 
@@ -32,46 +32,46 @@ budget i = (input_limit - i.taken) + (i.end - i.at)
 abbrev pub has_ended : Input → Bool
 has_ended i = i.met_end
 
--- a source whose end was met has no bytes left, if it reveals them
+-- if a read has met the end, the source has no bytes left, if it reveals them
 abbrev pub NothingAfterEnd : Input → Option (List ℕ) → Type 0
 NothingAfterEnd i later = has_ended i ≡ true → IfSome later (λ bytes. bytes ≡ [])
 
--- the next line of these bytes, and the bytes after it
-abbrev pub NextIs : Next → List ℕ → List ℕ → List ℕ → Type 0
-NextIs End line bytes rest = (bytes ≡ []) × (rest ≡ [])
-NextIs Line line bytes rest = (lines bytes ≡ line ∷ lines rest) × (length line ≤ line_limit)
-NextIs LongLine line bytes rest = (long : List ℕ) × (lines bytes ≡ long ∷ lines rest) × (line_limit < length long)
+-- this is the next line of these bytes, and these are the bytes after it
+abbrev pub NextLineIs : Next → List ℕ → List ℕ → List ℕ → Type 0
+NextLineIs End line bytes rest = (bytes ≡ []) × (rest ≡ [])
+NextLineIs Line line bytes rest = (lines bytes ≡ line ∷ lines rest) × (length line ≤ line_limit)
+NextLineIs LongLine line bytes rest = (long : List ℕ) × (lines bytes ≡ long ∷ lines rest) × (line_limit < length long)
 
--- the same of the bytes that were left and that are left, if the source reveals them
+-- this is the next line of the bytes that were left, and the bytes after it are left, if the source reveals them
 abbrev pub ReadsLine : Next → List ℕ → Option (List ℕ) → Option (List ℕ) → Type 0
 ReadsLine next line None now = now ≡ None
 ReadsLine next line (Some bytes) None = ⊥
-ReadsLine next line (Some bytes) (Some rest) = NextIs next line bytes rest
+ReadsLine next line (Some bytes) (Some rest) = NextLineIs next line bytes rest
 
 -- what reading a line spends: the input still has as many bytes in all, and a line takes at least one of
--- those that may still be given
+-- the bytes that may still be given
 pub record Spends (next : Next) (old : Input) (before : Option (List ℕ)) (new : Input) (now : Option (List ℕ)) : Type 0 where
   pub total : total_of new now ≡ total_of old before
   pub budget : next ≢ End → budget new < budget old
 
--- the line ended at a line feed: the bytes before it are as many as the line's at least, and with the
--- feed they were taken from what was left, and from how many could be given
+-- the line ended at a line feed: it has at most as many bytes as stood before the feed, and these and the
+-- feed were taken from the bytes left and from the budget
 pub record MetFeed (before now : Option (List ℕ)) (most still : ℕ) (line : List ℕ) : Type 0 where
   pub bytes : List ℕ
-  pub parts : before ≡ option_map (λ rest. (bytes ++ 10 ∷ []) ++ rest) now
+  pub parts : before ≡ option_map (λ rest. (bytes ++ codes "\n") ++ rest) now
   pub spent : still + length bytes < most
   pub holds : length line ≤ length bytes
 
--- the count of faults never falls; the input failed only if the count rose; and it was too long only if
--- it has more bytes than an input may have, as far as its source reveals them
-pub record HasCause {X : Type 0} (result : Result X InputError) (total : Option ℕ) (before now : ℕ) : Type 0 where
+-- the count of faults never falls; the read fails only if the count rose; and it answers too long only if
+-- the input has more bytes than an input may have, if its source reveals them
+pub record InputHasCause {X : Type 0} (result : Result X InputError) (total : Option ℕ) (before now : ℕ) : Type 0 where
   pub later : before ≤ now
   pub failed : result ≡ Err inputs.Failed → Rises before now
   pub too_long : result ≡ Err inputs.TooLong → IfSome total (λ bytes. input_limit < bytes)
 
--- what is kept of the bytes of a line so far: no more than the limit and one byte, and whether there are more
+-- what is kept of the bytes of a line so far: at most the limit and one more, and whether there are more
 pub record IsKept (so_far line : List ℕ) (long : Bool) : Type 0 where
-  pub front : line ≡ take (line_limit + 1) so_far
+  pub prefix : line ≡ take (line_limit + 1) so_far
   pub more : long ≡ nat_lt (line_limit + 1) (length so_far)
 
 -- how a line with these bytes ends at its line feed
@@ -86,7 +86,7 @@ EndsInputAs End line bytes = bytes ≡ []
 EndsInputAs Line line bytes = (line ≡ bytes) × (0 < length bytes) × (length line ≤ line_limit)
 EndsInputAs LongLine line bytes = line_limit < length bytes
 
--- what a failed read is to the input
+-- the input's error for an error of the source
 abbrev pub input_error_of : ReadError → InputError
 input_error_of reads.Memory = inputs.Memory
 input_error_of reads.Failed = inputs.Failed

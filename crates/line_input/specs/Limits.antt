@@ -1,7 +1,7 @@
 -- How long a line and an input may be.
 use Rattle.std.specs.Prelude.{ℕ}
 
--- the most bytes that a line may have, its line feed and a carriage return before that aside
+-- the most bytes that a line may have, without its line feed and a carriage return before that
 abbrev pub line_limit : ℕ
 line_limit = 1048576
 

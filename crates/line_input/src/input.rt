@@ -4,29 +4,31 @@ ghost use Rattle.std.specs.Prelude.{◌≡◌, ℕ, ◌+◌, ◌<◌, ◌≤◌,
 ghost use Rattle.std.specs.Prelude.{is_none, IfOk, IfSome, OnOk, Option, None, true, false};
 ghost use Rattle.std.specs.Option.{option_map, option_to_list};
 ghost use Rattle.line_input.specs.Limits.{input_limit};
+ghost use Rattle.line_input.specs.Pieces.{piece_size};
 
-use crate::line_end::{LINE_LIMIT, ended, last};
+use crate::line_end::{LINE_LIMIT, end_line, last};
 use keep_core::{ReadError, Source};
 use std::alloc::{AllocError, AllocFailed, Global};
 
 /// The most bytes that an input may have.
 const INPUT_LIMIT: u64 = 4_294_967_296;
 
-/// How many bytes are asked for at once.
-const PIECE: usize = 65_536;
+/// How many bytes a read asks for.
+const PIECE_SIZE: usize = 65_536;
 
-/// Why the input gave no more bytes.
+/// Why a read of the input fails.
 #[derive(Clone, Copy, Debug, PartialEq, Eq)]
 pub enum InputError {
     Memory,
     Failed,
-    /// It has over 4,294,967,296 bytes.
+    /// The input has over 4,294,967,296 bytes.
     TooLong,
 }
 
-/// An input that was read in part: the last piece that came, of which the bytes from `at` to `end`
-/// weren't given yet, how many bytes were taken in all, and whether a read has met the end. The end
-/// is kept, so the source isn't asked again: a terminal would go on, and another source could fail.
+/// An input that was read in part: the last piece that was read, of which the bytes from `at` to
+/// `end` weren't given yet; how many bytes were read in all; and whether a read has met the end. It
+/// remembers the end, so it doesn't ask the source again: a terminal would go on, and another
+/// source could fail.
 #[derive(Debug, Drop)]
 pub struct Input {
     piece: Vec<u8>,
@@ -34,19 +36,19 @@ pub struct Input {
     end: usize,
     taken: u64,
     met_end: bool,
-    ghost size: { vec_len piece ≡ 65536 },
-    ghost within: { end ≤ 65536 },
+    ghost size: { vec_len piece ≡ piece_size },
+    ghost within: { end ≤ piece_size },
     ghost ordered: { at ≤ end },
-    ghost limited: { taken ≤ 4294967296 },
+    ghost limited: { taken ≤ input_limit },
     ghost emptied: { met_end ≡ true → at ≡ end },
 }
 
-/// What comes next.
+/// What the input has next.
 #[derive(Clone, Copy, Debug, PartialEq, Eq)]
 pub enum Next {
     End,
     Line,
-    /// A line over the limit, which isn't kept.
+    /// A line over the limit.
     LongLine,
 }
 
@@ -88,7 +90,9 @@ impl From<ReadError> for InputError {
 
 impl Input {
     ghost use Rattle.line_input.specs.Limits.{line_limit};
-    ghost use Rattle.line_input.specs.Input.{kept, left_of, total_of, budget, has_ended, NothingAfterEnd, Spends, MetFeed, HasCause, ReadsLine};
+    ghost use Rattle.line_input.specs.Input.{piece_left, left_of, total_of, budget, has_ended};
+    ghost use Rattle.line_input.specs.Input.{NothingAfterEnd, Spends, MetFeed, InputHasCause};
+    ghost use Rattle.line_input.specs.Input.{ReadsLine};
 
     /// An input of which nothing was read.
     pub fn new(alloc: Global) -> Result<Input, AllocError>
@@ -100,7 +104,7 @@ impl Input {
         ensures begins { IfOk result (λ input. has_ended input ≡ false) }
     {
         Ok(Input {
-            piece: vec![in alloc; 0; PIECE]?,
+            piece: vec![in alloc; 0; PIECE_SIZE]?,
             at: 0,
             end: 0,
             taken: 0,
@@ -108,8 +112,8 @@ impl Input {
         })
     }
 
-    /// Asks the source for the next piece, when the last one was given to its end. `false` is the
-    /// end of the input.
+    /// Asks the source for the next piece, after the last one was given to its end. Answers `false`
+    /// at the end of the input.
     fn refill<I: Source>(&mut self, source: &mut I) -> Result<bool, InputError>
         requires given { self.old.at ≡ self.old.end }
         requires open { has_ended self.old ≡ false }
@@ -123,7 +127,7 @@ impl Input {
         ensures end { result ≡ Ok false →
             (self.new.at ≡ self.new.end) × (has_ended self.new ≡ true) }
         ensures same_source { NothingAfterEnd self.new (I.left source.new) }
-        ensures cause { HasCause result (total_of self.old (I.left source.old))
+        ensures cause { InputHasCause result (total_of self.old (I.left source.old))
             (I.faults source.old) (I.faults source.new) }
     {
         let count = source.read(&mut self.piece)?;
@@ -140,7 +144,7 @@ impl Input {
     /// The next byte of the piece.
     fn give(&mut self) -> u8
         requires given { self.old.at < self.old.end }
-        ensures kept { kept self.old ≡ result ∷ kept self.new }
+        ensures left { piece_left self.old ≡ result ∷ piece_left self.new }
         ensures taken { self.new.taken ≡ self.old.taken }
         ensures budget { budget self.new + 1 ≡ budget self.old }
         ensures open { has_ended self.new ≡ has_ended self.old }
@@ -164,7 +168,7 @@ impl Input {
             budget self.new + length (option_to_list byte) ≤ budget self.old) }
         ensures ends { IfOk result (λ byte. has_ended self.new ≡ is_none byte) }
         ensures same_source { NothingAfterEnd self.new (I.left source.new) }
-        ensures cause { HasCause result (total_of self.old (I.left source.old))
+        ensures cause { InputHasCause result (total_of self.old (I.left source.old))
             (I.faults source.old) (I.faults source.new) }
     {
         if self.at == self.end && !self.refill(source)? {
@@ -173,9 +177,10 @@ impl Input {
         Ok(Some(self.give()))
     }
 
-    /// Reads the next line into `line`, without its line feed and the one carriage return before
-    /// that; a last line needs no line feed, and keeps a carriage return. No more of a line is kept
-    /// than the limit and one byte. Once a read has met the end, the source is not asked again.
+    /// Reads the next line into `line`, without its line feed and one carriage return before that.
+    /// A last line needs no line feed, and without one it keeps a carriage return. At most the
+    /// limit and one more byte of a line are kept. Once a read has met the end, the source isn't
+    /// asked again.
     pub fn next_line<I: Source>(
         &mut self,
         source: &mut I,
@@ -194,7 +199,7 @@ impl Input {
             MetFeed (left_of self.old (I.left source.old)) (left_of self.new (I.left source.new))
             (budget self.old) (budget self.new) line.new.items) }
         ensures same_source { NothingAfterEnd self.new (I.left source.new) }
-        ensures cause { HasCause result (total_of self.old (I.left source.old))
+        ensures cause { InputHasCause result (total_of self.old (I.left source.old))
             (I.faults source.old) (I.faults source.new) }
     {
         line.clear();
@@ -204,7 +209,7 @@ impl Input {
         let mut long = false;
         while let Some(byte) = self.next_byte(source)? {
             if byte == b'\n' {
-                return Ok(ended(line, long));
+                return Ok(end_line(line, long));
             }
             if line.len() <= LINE_LIMIT {
                 line.push(byte)?;

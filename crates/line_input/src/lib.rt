@@ -1,8 +1,13 @@
-//! The lines of an input, from any source: `next_line` reads one line at a time, keeps no more of
-//! it than a line may have, and remembers the end.
+//! The lines of an input, read one at a time from any source.
 //!
-//! It stands on `keep_core`, whose trait its sources meet. What reads commands and log records by
-//! lines stands on it.
+//! Below it is `keep_core`, whose `Source` it reads. Above it, `copy_lists` feeds the lines to a
+//! log, and the contract of `session_core` cites its limits.
+//!
+//! `next_line` gives a line without its line feed and one carriage return before that. It keeps at
+//! most `LINE_LIMIT` bytes of a line and one more, and answers `LongLine` for a longer one. Once a
+//! read has met the end, the source isn't asked again.
+//!
+//! For example, the bytes `"a\r\nb"` give `Line` with `"a"`, then `Line` with `"b"`, then `End`.
 #![tactic(auto)]
 
 mod input;

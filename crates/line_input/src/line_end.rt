@@ -1,4 +1,4 @@
-//! How a line ends.
+//! The end of a line: at a line feed, or at the end of the input.
 
 ghost use Rattle.std.specs.Prelude.{◌≡◌, ◌≤◌, List, ℕ, length};
 ghost use Rattle.std.specs.Str.Lines.{strip_carriage_return};
@@ -7,10 +7,10 @@ ghost use Rattle.line_input.specs.Input.{IsKept, EndsAs, EndsInputAs};
 
 use crate::input::Next;
 
-/// The most bytes that a line may have, its line feed and a carriage return before that aside.
+/// The most bytes that a line may have, without its line feed and a carriage return before that.
 pub const LINE_LIMIT: usize = 1_048_576;
 
-/// Drops the one carriage return at the end of a line.
+/// Removes one carriage return from the end of a line, if there is one.
 fn strip(line: &mut Vec<u8>)
     ensures { line.new.items ≡ strip_carriage_return line.old.items }
 {
@@ -19,8 +19,8 @@ fn strip(line: &mut Vec<u8>)
     }
 }
 
-/// Ends a line at its line feed.
-pub fn ended(line: &mut Vec<u8>, long: bool) -> Next
+/// Ends a line at its line feed. `long` says that it has more bytes than were kept.
+pub fn end_line(line: &mut Vec<u8>, long: bool) -> Next
     ensures ends { (bytes : List ℕ) → IsKept bytes line.old.items long
         → EndsAs result line.new.items bytes }
     ensures short { result ≡ Next.Line → length line.new.items ≤ line_limit }
@@ -33,7 +33,7 @@ pub fn ended(line: &mut Vec<u8>, long: bool) -> Next
     Next::Line
 }
 
-/// Ends a line at the end of the input.
+/// Ends a line at the end of the input. `long` says that it has more bytes than were kept.
 pub fn last(line: &[u8], long: bool) -> Next
     ensures ends { (bytes : List ℕ) → IsKept bytes line.now long
         → EndsInputAs result line.now bytes }

@@ -6,8 +6,8 @@ use crate::{Input, Next};
 use keep_core::{ReadError, Source};
 use std::test::Fail;
 
-/// A source as a terminal is: a line, a last line with no line feed and the end, and then more
-/// lines if it is asked again. It gives one byte a call.
+/// A source like a terminal: it gives a line, a last line with no line feed, and the end; if it is
+/// asked again, it gives more lines. It gives one byte a call.
 #[derive(Drop)]
 struct Terminal {
     reads: u64,

@@ -1,4 +1,4 @@
--- The first word of a line, from the front.
+-- The first word of a line, byte after byte.
 use Rattle.std.proofs.Common.{◌≡◌, ℕ, ◌+◌, ◌<◌, ◌≤◌, Bool, true, false, cond, List, [], ◌∷◌, ◌++◌, length, take, drop, get_or, refl, ap, ◌∙◌, sym, inl, inr, append_assoc, arith, add-one}
 use Rattle.std.proofs.Math.Seq.{drop-cons}
 use Rattle.std.specs.List.{onto_first}
@@ -8,7 +8,7 @@ use Rattle.std.proofs.lemmas.Bool.{lt-ltb, cases_eq, true≢false}
 use Rattle.std.proofs.lemmas.Bool.Decides.{nat_tests}
 use Rattle.log_text.specs.Words.{is_end, quoted_after, parts, words, StartsNoBlank}
 
--- a blank at the front is no part of a word
+-- a blank that a line begins with is no part of a word
 pub words-blank : (bs : List ℕ) → words (32 ∷ bs) ≡ words bs
 unfolding words
 words-blank bs = refl
@@ -21,12 +21,12 @@ drop_at line i lt = rw (add-one, drop-cons line i 0) refl
 pub skip_more : (line : List ℕ) (i : ℕ) → i < length line → get_or line i 0 ≡ 32 → words (drop i line) ≡ words (drop (i + 1) line)
 skip_more line i lt blank = ap words (drop_at line i lt ∙ ap (λ (b : ℕ). b ∷ drop (i + 1) line) blank) ∙ words-blank (drop (i + 1) line)
 
--- the parts, the first of them with this in front
+-- the parts, the first of them with these bytes before it
 abbrev pub with_front : List ℕ → List (List ℕ) → List (List ℕ)
 with_front front [] = front ∷ []
 with_front front (p ∷ ps) = (front ++ p) ∷ ps
 
--- one more byte in front of the parts is one more at the end of what is in front
+-- one more byte before the parts is one more at the end of the bytes before them
 pub with_front-onto_first : (front : List ℕ) (b : ℕ) (ps : List (List ℕ)) → with_front front (onto_first b ps) ≡ with_front (front ++ b ∷ []) ps
 with_front-onto_first front b [] = refl
 with_front-onto_first front b (p ∷ ps) = ap (λ (part : List ℕ). part ∷ ps) (sym (append_assoc front (b ∷ []) p))
@@ -39,7 +39,7 @@ parts_end quoted b bs e = ap (λ (test : Bool). cond test ([] ∷ parts false bs
 pub parts_more : (quoted : Bool) (b : ℕ) (bs : List ℕ) → is_end quoted b ≡ false → parts quoted (b ∷ bs) ≡ onto_first b (parts (quoted_after quoted b) bs)
 parts_more quoted b bs e = ap (λ (test : Bool). cond test ([] ∷ parts false bs) (onto_first b (parts (quoted_after quoted b) bs))) e
 
--- the part in front grows by one byte that doesn't end it
+-- the first part grows by one byte that doesn't end it
 pub front_more : (line : List ℕ) (quoted : Bool) (i : ℕ) → i < length line → is_end quoted (get_or line i 0) ≡ false
     → parts false line ≡ with_front (take i line) (parts quoted (drop i line))
     → parts false line ≡ with_front (take (i + 1) line) (parts (quoted_after quoted (get_or line i 0)) (drop (i + 1) line))
@@ -57,7 +57,7 @@ first_word front ps some = ap (λ (test : Bool). cond test (front ∷ filter (λ
 is_blank : (quoted : Bool) (b : ℕ) → is_end quoted b ≡ true → b ≡ 32
 is_blank quoted b e = grind (arith, nat_tests)
 
--- the first word, where the parts that follow it are those of the rest
+-- the first word, if the parts that follow it are those of the rest
 first_then : (line : List ℕ) (i : ℕ) (ps : List (List ℕ)) (rest : List (List ℕ)) → 0 < i → i ≤ length line → parts false line ≡ take i line ∷ ps
     → filter (λ part. nat_lt 0 (length part)) ps ≡ rest → words line ≡ take i line ∷ rest
 unfolding words
@@ -84,7 +84,7 @@ ends_last line quoted some so_far =
     let split : parts false line ≡ take n line ∷ [] = so_far ∙ ap (λ (rest : List ℕ). with_front (take n line) (parts quoted rest)) nothing ∙ ap (λ (front : List ℕ). front ∷ []) (append-nil (take n line)) in
     first_then line n [] (words (drop n line)) some (omega arith) split (sym (ap words nothing))
 
--- a line that doesn't start with a blank isn't ended at its front
+-- the first byte of a line that doesn't begin with a blank ends no part
 pub starts : (line : List ℕ) → StartsNoBlank line → 0 < length line → is_end false (get_or line 0 0) ≡ false
 starts [] start some = absurd (omega arith)
 starts (b ∷ bs) start some = grind (arith, nat_tests)

@@ -18,7 +18,7 @@ use Rattle.repl_types.specs.ValueText.{value_text, IsValue}
 use Rattle.repl_types.specs.laws.Names.{name_again}
 use Rattle.repl_types.specs.laws.Numbers.{number_again}
 use Rattle.repl_types.specs.laws.ValueText.{value_again}
-use Rattle.log_text.specs.Records.{◌>>=◌, is_arrow, from_arrow, time_of, values_of, row_of, update_of, table_change_of, change_of, commit_of, tx_record_of, record_of_words, record_of}
+use Rattle.log_text.specs.Records.{◌>>=◌, is_arrow, from_arrow, time_of, values_of, row_of, update_of, table_change_of, change_of_words, commit_of, tx_record_of, record_of_words, record_of}
 use Rattle.log_text.specs.RecordText.{record_words, record_text, IsUserTx, IsRecordRow, IsWritable}
 use Rattle.log_text.specs.Words.{words}
 use Rattle.log_text.proofs.Values.{before-arrow, before-word, from-word, from-arrow, after-arrow, arrow_is_no_value, as_map, row_taken, update_is}
@@ -73,8 +73,8 @@ update_again table before after is is_after =
 -- ---- records from their words
 
 -- a change from the words after its transaction
-change_from : (verb table : List ℕ) (ws : List (List ℕ)) (change : Change) → IsTrue (is_name table) → Some change ≡ table_change_of verb table ws → change_of verb (table ∷ ws) ≡ Some change
-unfolding change_of
+change_from : (verb table : List ℕ) (ws : List (List ℕ)) (change : Change) → IsTrue (is_name table) → Some change ≡ table_change_of verb table ws → change_of_words verb (table ∷ ws) ≡ Some change
+unfolding change_of_words
 change_from verb table ws change is e = ap (λ (name : Option (List ℕ)). name >>= λ t. table_change_of verb t ws) (name_again table is) ∙ sym e
 
 -- a record from its words
@@ -118,7 +118,7 @@ tx_whole tx is = decimal_whole tx (omega (arith, is.1))
 values_whole : (row : Values) → All IsValue row → All Whole (map value_text row)
 values_whole row all = All-map Whole value_text row (All-weaker IsValue (λ v. Whole (value_text v)) value_whole row all)
 
--- the words after a verb, where those after the name are whole
+-- the words after a verb, if those after the name are whole
 after_verb : (tx : ℕ) (name : List ℕ) (ws : List (List ℕ)) → IsUserTx tx → IsTrue (is_name name) → All Whole ws → All Whole (decimal tx ∷ name ∷ ws)
 after_verb tx name ws is named all = All-cons Whole (decimal tx) (name ∷ ws) (tx_whole tx is) (All-cons Whole name ws (name_whole name named) all)
 

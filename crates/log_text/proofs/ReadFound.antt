@@ -22,7 +22,7 @@ use Rattle.repl_types.specs.ValueText.{value_text, value_of, IsValue}
 use Rattle.repl_types.specs.laws.Names.{name_found}
 use Rattle.repl_types.specs.laws.Numbers.{number_found}
 use Rattle.repl_types.specs.laws.ValueText.{value_found}
-use Rattle.log_text.specs.Records.{◌>>=◌, is_arrow, from_arrow, tx_of, time_of, values_of, row_of, update_of, table_change_of, change_of, commit_of, abort_of, tx_record_of, record_of_words}
+use Rattle.log_text.specs.Records.{◌>>=◌, is_arrow, from_arrow, tx_of, time_of, values_of, row_of, update_of, table_change_of, change_of_words, commit_of, abort_of, tx_record_of, record_of_words}
 use Rattle.log_text.specs.RecordText.{change_words, record_words, IsUserTx, IsRecordRow, IsUserChange, IsWritable}
 use Rattle.log_text.proofs.Values.{from-word, from-arrow, after-arrow, after-none, values_len}
 
@@ -163,8 +163,8 @@ abbrev RecordIs : List (List ℕ) → LogRecord → Type 0
 RecordIs ws entry = (record_words entry ≡ ws) × IsWritable entry
 
 -- a change
-change_found : (verb : List ℕ) (tx : ℕ) (ws : List (List ℕ)) (change : Change) → IsUserTx tx → change_of verb ws ≡ Some change → RecordIs (verb ∷ decimal tx ∷ ws) (records.Change tx change)
-unfolding change_of
+change_found : (verb : List ℕ) (tx : ℕ) (ws : List (List ℕ)) (change : Change) → IsUserTx tx → change_of_words verb ws ≡ Some change → RecordIs (verb ∷ decimal tx ∷ ws) (records.Change tx change)
+unfolding change_of_words
 change_found verb tx [] change is e = absurd (none-some change e)
 change_found verb tx (name ∷ ws) change is e =
     option_and_then_some (λ table. table_change_of verb table ws) (name_of name) change e (λ table found f.
@@ -201,7 +201,7 @@ tx_record_found verb tx ws entry is e = elim (cases_Bool (bytes_eq verb (codes "
   | inl same ↦ commit_found verb tx ws entry is same (rw same at e)
   | inr no_commit ↦ elim (cases_Bool (bytes_eq verb (codes "abort"))) [
     | inl same ↦ abort_found verb tx ws entry is same (rw (no_commit, same) at e)
-    | inr no_abort ↦ mapped (λ change. records.Change tx change) (change_of verb ws) entry (rw (no_commit, no_abort) at e) (λ change found made.
+    | inr no_abort ↦ mapped (λ change. records.Change tx change) (change_of_words verb ws) entry (rw (no_commit, no_abort) at e) (λ change found made.
         subst (RecordIs (verb ∷ decimal tx ∷ ws)) made (change_found verb tx ws change is found))
   ]
 ]

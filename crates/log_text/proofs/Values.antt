@@ -17,7 +17,7 @@ use Rattle.repl_types.specs.declared.record.Change.TheVariants.{Update}
 
 -- ---- words before and after an arrow
 
--- nothing stands before an arrow at the front
+-- nothing stands before an arrow that is the first word
 pub before-arrow : (word : List ℕ) (ws : List (List ℕ)) → is_arrow word ≡ true → before_first is_arrow (word ∷ ws) ≡ []
 before-arrow word ws e = ap (λ (b : Bool). take (cond (not b) (1 + position_or_len is_arrow ws) 0) (word ∷ ws)) e
 
@@ -33,7 +33,7 @@ from-word word ws e =
     let n = position_or_len is_arrow ws in
     ap (λ (b : Bool). drop (cond (not b) (1 + n) 0) (word ∷ ws)) e ∙ ap (λ (k : ℕ). drop k (word ∷ ws)) (one-add n)
 
--- from an arrow at the front on there are all
+-- all words stand from an arrow on that is the first
 pub from-arrow : (word : List ℕ) (ws : List (List ℕ)) → is_arrow word ≡ true → from_arrow (word ∷ ws) ≡ word ∷ ws
 from-arrow word ws e = ap (λ (b : Bool). drop (cond (not b) (1 + position_or_len is_arrow ws) 0) (word ∷ ws)) e
 
@@ -41,7 +41,7 @@ from-arrow word ws e = ap (λ (b : Bool). drop (cond (not b) (1 + position_or_le
 some-nil : (word : List ℕ) (ws : List (List ℕ)) → word ∷ ws ≡ [] → ⊥
 some-nil word ws e = cc
 
--- where nothing comes from an arrow on, all words stand before it
+-- if nothing stands from an arrow on, all words stand before it
 pub before-all : (ws : List (List ℕ)) → from_arrow ws ≡ [] → before_first is_arrow ws ≡ ws
 before-all [] e = refl
 before-all (word ∷ ws) e = elim (cases_Bool (is_arrow word)) [
@@ -57,7 +57,7 @@ drop_next n ws = sym (drop-drop 1 n ws)
 pub after-arrow : (ws : List (List ℕ)) (word : List ℕ) (rest : List (List ℕ)) → from_arrow ws ≡ word ∷ rest → after_first is_arrow ws ≡ rest
 after-arrow ws word rest e = drop_next (position_or_len is_arrow ws) ws ∙ ap (drop 1) e
 
--- nothing follows where there is no arrow
+-- if there is no arrow, nothing follows it
 pub after-none : (ws : List (List ℕ)) → from_arrow ws ≡ [] → after_first is_arrow ws ≡ []
 after-none ws e = drop_next (position_or_len is_arrow ws) ws ∙ ap (drop 1) e
 
@@ -72,7 +72,7 @@ values_step : (v : Value) (front : Values) (read : Option Values) → with_value
 values_step v front None = refl
 values_step v front (Some values) = ap (λ (vs : Values). Some vs) (sym (append_assoc front (v ∷ []) values))
 
--- a value in front of those that are read
+-- a value before those that are read
 pub as_map : (v : Value) (read : Option Values) → (read >>= λ values. Some (v ∷ values)) ≡ option_map (λ values. v ∷ values) read
 as_map v None = refl
 as_map v (Some values) = refl
@@ -171,7 +171,7 @@ arrow_is_no_value word arrow = ap value_of ((bytes_eq-Decides word (codes "->"))
 abbrev no_row : Option Values
 no_row = None
 
--- where the rest spells no values, all spell none
+-- if the rest spells no values, all spell none
 no_values : (first : Option Value) → (first >>= λ value. no_row >>= λ values. Some (value ∷ values)) ≡ no_row
 no_values None = refl
 no_values (Some value) = refl

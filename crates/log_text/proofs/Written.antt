@@ -18,34 +18,34 @@ use Rattle.log_text.specs.Words.{is_end, quoted_after, parts, words}
 use Rattle.log_text.specs.RecordText.{spaced, line_of}
 use Rattle.log_text.proofs.Parts.{with_front, parts_more, first_word}
 
--- ---- parts with bytes in front
+-- ---- parts with bytes before them
 
--- a byte and then bytes in front
+-- a byte and then bytes before the parts
 onto_front : (b : ℕ) (front : List ℕ) (ps : List (List ℕ)) → onto_first b (with_front front ps) ≡ with_front (b ∷ front) ps
 onto_front b front [] = refl
 onto_front b front (p ∷ ps) = refl
 
--- two bytes in front
+-- two bytes before the parts
 two_onto : (b c : ℕ) (ps : List (List ℕ)) → onto_first b (onto_first c ps) ≡ with_front (b ∷ c ∷ []) ps
 two_onto b c [] = refl
 two_onto b c (p ∷ ps) = refl
 
--- one byte in front
+-- one byte before the parts
 one_onto : (b : ℕ) (ps : List (List ℕ)) → onto_first b ps ≡ with_front (b ∷ []) ps
 one_onto b [] = refl
 one_onto b (p ∷ ps) = refl
 
--- bytes and then bytes in front
+-- bytes and then bytes before the parts
 front_front : (front more : List ℕ) (ps : List (List ℕ)) → with_front front (with_front more ps) ≡ with_front (front ++ more) ps
 front_front front more [] = refl
 front_front front more (p ∷ ps) = ap (λ (part : List ℕ). part ∷ ps) (sym (append_assoc front more p))
 
--- nothing in front of parts of which one has a byte
+-- nothing before parts of which one has a byte
 none_onto : (b : ℕ) (ps : List (List ℕ)) → with_front [] (onto_first b ps) ≡ onto_first b ps
 none_onto b [] = refl
 none_onto b (p ∷ ps) = refl
 
--- nothing in front
+-- nothing before the parts
 none_front : (quoted : Bool) (bs : List ℕ) → with_front [] (parts quoted bs) ≡ parts quoted bs
 none_front quoted [] = refl
 none_front quoted (b ∷ bs) = go (is_end quoted b)
@@ -56,7 +56,7 @@ none_front quoted (b ∷ bs) = go (is_end quoted b)
 
 -- ---- words that a line gives whole
 
--- a word that isn't empty, and whose bytes are those in front of the parts of what follows it
+-- a word that isn't empty, and whose bytes stand before the parts of what follows it
 pub record Whole (word : List ℕ) : Type 0 where
   pub some : 0 < length word
   pub in_front : (rest : List ℕ) → parts false (word ++ rest) ≡ with_front word (parts false rest)
@@ -73,7 +73,7 @@ plain_goes b h = grind (arith, nat_tests)
 plain_unquoted : (b : ℕ) → is_plain b ≡ true → quoted_after false b ≡ false
 plain_unquoted b h = grind (arith, nat_tests)
 
--- plain bytes stand in front of the parts of what follows them
+-- plain bytes stand before the parts of what follows them
 plain_front : (word rest : List ℕ) → list_all is_plain word ≡ true → parts false (word ++ rest) ≡ with_front word (parts false rest)
 plain_front [] rest h = sym (none_front false rest)
 plain_front (b ∷ bs) rest h =

@@ -9,14 +9,17 @@ use Rattle.repl_types.specs.declared.record.Change.TheVariants.{Insert, Update, 
 use Rattle.repl_types.specs.declared.record.LogRecord.{LogRecord}
 use Rattle.repl_types.specs.declared.record.LogRecord.TheVariants as records
 use Rattle.repl_types.specs.declared.record.SetId.{SetId}
+use Rattle.repl_types.specs.Sizes.{row_limit}
+use Rattle.log_text.specs.Words.{blank}
+use Rattle.log_text.specs.Records.{tx_limit, time_limit}
 
 -- ---- writing
 
 -- words, with a blank before each
 abbrev pub spaced : List (List ℕ) → List ℕ
-spaced ws = flat_map (λ word. 32 ∷ word) ws
+spaced ws = flat_map (λ word. blank ∷ word) ws
 
--- words, with a blank between two
+-- words, with a blank between each two
 abbrev pub line_of : List (List ℕ) → List ℕ
 line_of [] = []
 line_of (word ∷ ws) = word ++ spaced ws
@@ -33,10 +36,14 @@ change_words tx (Delete table row) = head_words (codes "delete") tx table ++ map
 change_words tx (Start table) = head_words (codes "capstart") tx table
 change_words tx (Stop table) = head_words (codes "capstop") tx table
 
--- the set that made a unit, where one did
+-- the byte between the two parts of a set's name
+abbrev pub slash : ℕ
+slash = 0x2f
+
+-- the words of the set that made a unit, if a set did
 abbrev pub origin_words : Option SetId → List (List ℕ)
 origin_words None = []
-origin_words (Some set) = codes "origin" ∷ (set.qual ++ 47 ∷ set.name) ∷ []
+origin_words (Some set) = codes "origin" ∷ (set.qual ++ slash ∷ set.name) ∷ []
 
 -- the words of a record
 abbrev pub record_words : LogRecord → List (List ℕ)
@@ -52,13 +59,13 @@ record_text entry = line_of (record_words entry)
 
 -- the number of a user's transaction
 abbrev pub IsUserTx : ℕ → Type 0
-IsUserTx tx = (1 ≤ tx) × (tx ≤ 4294967295)
+IsUserTx tx = (1 ≤ tx) × (tx ≤ tx_limit)
 
 -- 1 to 64 values
 abbrev pub IsRecordRow : Values → Type 0
-IsRecordRow row = (1 ≤ length row) × (length row ≤ 64) × All IsValue row
+IsRecordRow row = (1 ≤ length row) × (length row ≤ row_limit) × All IsValue row
 
--- a change of a table with such rows
+-- a change of a table whose name is a name, with rows of 1 to 64 values
 abbrev pub IsUserChange : Change → Type 0
 IsUserChange (Insert table row) = IsTrue (is_name table) × IsRecordRow row
 IsUserChange (Update table before after) = IsTrue (is_name table) × IsRecordRow before × IsRecordRow after
@@ -66,9 +73,10 @@ IsUserChange (Delete table row) = IsTrue (is_name table) × IsRecordRow row
 IsUserChange (Start table) = ⊥
 IsUserChange (Stop table) = ⊥
 
--- a record of a user: such a change, a commit that no set made, at a time of at most 10 ^ 12 seconds, or an abort
+-- a record of a user: a change of a user, a commit that no set made, at a time of at most 10 ^ 12 seconds, or
+-- an abort
 abbrev pub IsWritable : LogRecord → Type 0
 IsWritable (records.Change tx change) = IsUserTx tx × IsUserChange change
-IsWritable (records.Commit tx time authid None) = IsUserTx tx × (time ≤ 1000000000000) × IsTrue (is_name authid)
+IsWritable (records.Commit tx time authid None) = IsUserTx tx × (time ≤ time_limit) × IsTrue (is_name authid)
 IsWritable (records.Commit tx time authid (Some set)) = ⊥
 IsWritable (records.Abort tx) = IsUserTx tx

@@ -6,6 +6,7 @@ use Rattle.std.specs.Str.{bytes_eq}
 use Rattle.repl_types.specs.Value.{Values}
 use Rattle.repl_types.specs.Name.{name_of}
 use Rattle.repl_types.specs.Numbers.{number_of}
+use Rattle.repl_types.specs.Sizes.{row_limit}
 use Rattle.repl_types.specs.ValueText.{value_of}
 use Rattle.repl_types.specs.declared.record.Change.{Change}
 use Rattle.repl_types.specs.declared.record.Change.TheVariants.{Insert, Update, Delete}
@@ -18,13 +19,21 @@ infixl 10 ◌>>=◌
 abbrev pub ◌>>=◌ : {A B : Type 0} → Option A → (A → Option B) → Option B
 o >>= f = option_and_then f o
 
+-- the highest number of a user's transaction
+abbrev pub tx_limit : ℕ
+tx_limit = 4294967295
+
+-- the latest time of a user's commit, in seconds
+abbrev pub time_limit : ℕ
+time_limit = 1000000000000
+
 -- the number of a user's transaction, 1 to 4294967295
 abbrev pub tx_of : List ℕ → Option ℕ
-tx_of word = number_of 1 4294967295 word
+tx_of word = number_of 1 tx_limit word
 
 -- the time that a word spells, 0 to 10 ^ 12 seconds
 abbrev pub time_of : List ℕ → Option ℕ
-time_of word = number_of 0 1000000000000 word
+time_of word = number_of 0 time_limit word
 
 -- the values that words spell, one each
 unfoldable pub values_of : List (List ℕ) → Option Values
@@ -36,7 +45,7 @@ values_of (word ∷ ws) = do
 
 -- a row of a record has 1 to 64 values
 unfoldable pub row_of : List (List ℕ) → Option Values
-row_of ws = if nat_le 1 (length ws) && nat_le (length ws) 64 then values_of ws else None
+row_of ws = if nat_le 1 (length ws) && nat_le (length ws) row_limit then values_of ws else None
 
 -- whether a word is the arrow between the rows of an update
 abbrev pub is_arrow : List ℕ → Bool
@@ -61,9 +70,9 @@ table_change_of verb table ws =
     else (if bytes_eq verb (codes "update") then update_of table ws else None))
 
 -- the change of the table that the first word names
-unfoldable pub change_of : List ℕ → List (List ℕ) → Option Change
-change_of verb [] = None
-change_of verb (name ∷ ws) = do
+unfoldable pub change_of_words : List ℕ → List (List ℕ) → Option Change
+change_of_words verb [] = None
+change_of_words verb (name ∷ ws) = do
   table ← name_of name
   table_change_of verb table ws
 
@@ -87,7 +96,7 @@ abbrev pub tx_record_of : List ℕ → ℕ → List (List ℕ) → Option LogRec
 tx_record_of verb tx ws =
     if bytes_eq verb (codes "commit") then commit_of tx ws
     else (if bytes_eq verb (codes "abort") then abort_of tx ws
-    else option_map (λ change. records.Change tx change) (change_of verb ws))
+    else option_map (λ change. records.Change tx change) (change_of_words verb ws))
 
 -- VERB TX, and what the verb asks for
 unfoldable pub record_of_words : List (List ℕ) → Option LogRecord

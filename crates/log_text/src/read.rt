@@ -5,12 +5,20 @@ ghost use Rattle.std.specs.Option.{option_map};
 ghost use Rattle.std.specs.List.{before_first};
 ghost use Rattle.std.specs.Str.{bytes_eq};
 ghost use Rattle.log_text.specs.Words.{words};
-ghost use Rattle.log_text.specs.Records.{is_arrow, from_arrow, tx_of, values_of, row_of, update_of, table_change_of, change_of, commit_of, tx_record_of, record_of};
+ghost use Rattle.log_text.specs.Records.{is_arrow, from_arrow, tx_of, values_of, row_of, update_of};
+ghost use Rattle.log_text.specs.Records.{table_change_of, change_of_words, commit_of, tx_record_of};
+ghost use Rattle.log_text.specs.Records.{record_of};
 
 use crate::words::next_word;
-use repl_types::{Change, List, LogRecord, Name, Row, read_number, read_value};
+use repl_types::{Change, List, LogRecord, Name, ROW_LIMIT, Row, read_number, read_value};
 use std::alloc::{AllocError, Global};
 use thiserror::Error;
+
+/// The highest number of a user's transaction.
+const TX_LIMIT: u64 = 4_294_967_295;
+
+/// The latest time of a user's commit, in seconds.
+const TIME_LIMIT: u64 = 1_000_000_000_000;
 
 /// Why a line gave no record.
 #[derive(Clone, Copy, Debug, PartialEq, Eq, Error)]
@@ -32,6 +40,7 @@ impl From<AllocError> for ReadLogError {
     }
 }
 
+/// Whether a word is this text.
 fn is_word(word: &[u8], text: &[u8]) -> bool
     ensures { result ≡ bytes_eq word.now text.now }
 {
@@ -71,7 +80,7 @@ fn read_row(alloc: Global, line: &[u8]) -> Result<Option<(Row, &[u8])>, AllocErr
     let Some((row, rest)) = read_values(alloc, line)? else {
         return Ok(None);
     };
-    if row.is_empty() || row.len() > 64 {
+    if row.is_empty() || row.len() > ROW_LIMIT {
         return Ok(None);
     }
     Ok(Some((row, rest)))
@@ -139,9 +148,9 @@ fn read_table_change(
 }
 
 /// The change that a verb and what follows the transaction spell.
-#[tactic(auto, unfolding(crate::specs::Records::change_of))]
+#[tactic(auto, unfolding(crate::specs::Records::change_of_words))]
 fn read_change(alloc: Global, verb: &[u8], line: &[u8]) -> Result<Option<Change>, AllocError>
-    ensures { IfOk result (λ change. change ≡ change_of verb.now (words line.now)) }
+    ensures { IfOk result (λ change. change ≡ change_of_words verb.now (words line.now)) }
 {
     let Some((name, rest)) = next_word(line) else {
         return Ok(None);
@@ -169,7 +178,7 @@ fn read_commit(alloc: Global, tx: u32, line: &[u8]) -> Result<Option<LogRecord>,
     let Some(authid) = Name::read(alloc, name)? else {
         return Ok(None);
     };
-    let Some(time) = read_number(time, 0, 1_000_000_000_000) else {
+    let Some(time) = read_number(time, 0, TIME_LIMIT) else {
         return Ok(None);
     };
     Ok(Some(LogRecord::Commit {
@@ -208,13 +217,13 @@ fn read_tx_record(
 fn read_tx(word: &[u8]) -> Option<u32>
     ensures { result ≡ tx_of word.now }
 {
-    match read_number(word, 1, 4_294_967_295) {
+    match read_number(word, 1, TX_LIMIT) {
         Some(number) => u32::try_from(number).ok(),
         None => None,
     }
 }
 
-/// The record whose text a line is, where it is one.
+/// The record whose text a line is, if it is one.
 #[tactic(auto, unfolding(crate::specs::Records::record_of_words))]
 fn record_from(alloc: Global, line: &[u8]) -> Result<Option<LogRecord>, AllocError>
     ensures { IfOk result (λ found. found ≡ record_of line.now) }
@@ -231,8 +240,8 @@ fn record_from(alloc: Global, line: &[u8]) -> Result<Option<LogRecord>, AllocErr
     read_tx_record(alloc, verb, tx, rest)
 }
 
-/// The record whose text a line is. `BadLog` comes just where the line is the text of no record,
-/// and `Memory` where there is no memory for the record.
+/// The record whose text a line is. `BadLog` is returned only if the line is the text of no record,
+/// and `Memory` only if there is no memory for the record.
 pub fn read_record(alloc: Global, line: &[u8]) -> Result<LogRecord, ReadLogError>
     ensures ok { IfOk result (λ found. record_of line.now ≡ Some found) }
     ensures bad { result ≡ Err ReadLogError.BadLog → record_of line.now ≡ None }

@@ -1,7 +1,9 @@
 //! The words of a line.
 
-ghost use Rattle.std.specs.Prelude.{◌≡◌, ◌<◌, ◌≤◌, ◌∷◌, [], length, take, drop, IfSome, MatchOption};
-ghost use Rattle.log_text.specs.Words.{is_end as is_end_lem, quoted_after as quoted_after_lem, words as words_lem, StartsNoBlank};
+ghost use Rattle.std.specs.Prelude.{◌≡◌, ◌<◌, ◌≤◌, ◌∷◌, [], length, take, drop, IfSome};
+ghost use Rattle.std.specs.Prelude.{MatchOption};
+ghost use Rattle.log_text.specs.Words.{is_end as is_end_lem, quoted_after as quoted_after_lem};
+ghost use Rattle.log_text.specs.Words.{words as words_lem, StartsNoBlank};
 
 /// The line from its first byte that isn't blank.
 fn skip_blanks(line: &[u8]) -> &[u8]
@@ -17,21 +19,22 @@ fn skip_blanks(line: &[u8]) -> &[u8]
     &line[line.len()..]
 }
 
+/// Whether a byte ends a word: a blank that doesn't stand between quotes.
 fn is_end(quoted: bool, byte: u8) -> bool
     ensures { result ≡ is_end_lem quoted byte }
 {
     byte == b' ' && !quoted
 }
 
-/// A quote opens, and the next one closes.
+/// Whether the byte after this one stands between quotes: a quote opens, and the next one closes.
 fn quoted_after(quoted: bool, byte: u8) -> bool
     ensures { result ≡ quoted_after_lem quoted byte }
 {
     if byte == b'\'' { !quoted } else { quoted }
 }
 
-/// Where the word at the front of a line ends: at the first blank that doesn't stand between
-/// quotes.
+/// Where the word that a line begins with ends: at the first blank that doesn't stand between
+/// quotes, or at the line's end.
 fn word_end(line: &[u8]) -> usize
     requires start { StartsNoBlank line.now }
     requires some { 0 < length line.now }

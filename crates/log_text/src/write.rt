@@ -2,25 +2,30 @@
 
 ghost use Rattle.std.specs.Prelude.{◌≡◌, ◌++◌, ◌∷◌, [], codes, decimal, map, OnOk};
 ghost use Rattle.repl_types.specs.ValueText.{value_text};
-ghost use Rattle.log_text.specs.RecordText.{spaced, line_of, head_words, change_words, origin_words, record_text};
+ghost use Rattle.log_text.specs.Words.{blank};
+ghost use Rattle.log_text.specs.RecordText.{spaced, line_of, head_words, change_words};
+ghost use Rattle.log_text.specs.RecordText.{origin_words, record_text};
 
 use itoa::Buffer;
 use repl_types::{Change, LogRecord, Name, Row, SetId, write_value};
 use std::alloc::AllocError;
 
+/// Appends a blank and a word.
 fn write_word(word: &[u8], out: &mut Vec<u8>) -> Result<(), AllocError>
-    ensures { OnOk result (out.new.items ≡ out.old.items ++ 32 ∷ word.now) }
+    ensures { OnOk result (out.new.items ≡ out.old.items ++ blank ∷ word.now) }
 {
     out.push(b' ')?;
     out.extend_from_slice(word)
 }
 
+/// Appends a blank and a number.
 fn write_number(number: u64, out: &mut Vec<u8>) -> Result<(), AllocError>
-    ensures { OnOk result (out.new.items ≡ out.old.items ++ 32 ∷ decimal number) }
+    ensures { OnOk result (out.new.items ≡ out.old.items ++ blank ∷ decimal number) }
 {
     write_word(Buffer::new().format(number).as_bytes(), out)
 }
 
+/// Appends the texts of a row's values, with a blank before each.
 fn write_values(row: &Row, out: &mut Vec<u8>) -> Result<(), AllocError>
     ensures { OnOk result (out.new.items ≡ out.old.items ++ spaced (map value_text row.now)) }
 {
@@ -31,7 +36,7 @@ fn write_values(row: &Row, out: &mut Vec<u8>) -> Result<(), AllocError>
     Ok(())
 }
 
-/// The first words of a line: its verb, its transaction, and a table or a user.
+/// Appends the first words of a line: its verb, its transaction, and a table or a user.
 fn write_head(verb: &[u8], tx: u32, name: &Name, out: &mut Vec<u8>) -> Result<(), AllocError>
     ensures { OnOk result (out.new.items
         ≡ out.old.items ++ line_of (head_words verb.now tx name.now)) }
@@ -41,6 +46,7 @@ fn write_head(verb: &[u8], tx: u32, name: &Name, out: &mut Vec<u8>) -> Result<()
     write_word(name.as_str().as_bytes(), out)
 }
 
+/// Appends the line of an update.
 fn write_update(
     tx: u32,
     table: &Name,
@@ -58,6 +64,7 @@ fn write_update(
     write_values(after, out)
 }
 
+/// Appends the line of an insert or a delete.
 fn write_row_change(
     verb: &[u8],
     tx: u32,
@@ -72,6 +79,7 @@ fn write_row_change(
     write_values(row, out)
 }
 
+/// Appends the line of a change.
 fn write_change(tx: u32, change: &Change, out: &mut Vec<u8>) -> Result<(), AllocError>
     ensures { OnOk result (out.new.items ≡ out.old.items ++ line_of (change_words tx change.now)) }
 {
@@ -88,7 +96,7 @@ fn write_change(tx: u32, change: &Change, out: &mut Vec<u8>) -> Result<(), Alloc
     }
 }
 
-/// The set that made a unit, where one did.
+/// Appends the words of the set that made a unit, if a set did.
 fn write_origin(origin: &Option<SetId>, out: &mut Vec<u8>) -> Result<(), AllocError>
     ensures { OnOk result (out.new.items ≡ out.old.items ++ spaced (origin_words origin.now)) }
 {
@@ -101,6 +109,7 @@ fn write_origin(origin: &Option<SetId>, out: &mut Vec<u8>) -> Result<(), AllocEr
     out.extend_from_slice(set.name.as_str().as_bytes())
 }
 
+/// Appends the line of a commit.
 fn write_commit(
     tx: u32,
     time: u64,
@@ -121,7 +130,7 @@ fn write_commit(
 /// records: inserts, updates and deletes of 1 to 64 values a side, aborts, and commits that no set
 /// made, each of a transaction other than 0. It doesn't take the lines of the program's own
 /// records: `capstart TX TABLE` and `capstop TX TABLE`, and a commit that ends in `origin
-/// QUAL/NAME`. Without memory some of the line may have been appended.
+/// QUAL/NAME`. If memory runs out, what `out` holds is unspecified.
 pub fn write_record(record: &LogRecord, out: &mut Vec<u8>) -> Result<(), AllocError>
     ensures { OnOk result (out.new.items ≡ out.old.items ++ record_text «record».now) }
 {

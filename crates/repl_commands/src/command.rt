@@ -2,7 +2,7 @@
 
 use repl_types::{Name, SetId};
 
-/// A command of a script, one a line. A number that may be missing is None where it is.
+/// A command of a script, one a line. A number that the line leaves out is None.
 #[derive(Debug, Drop, PartialEq, Eq)]
 pub enum Command {
     /// Takes the definitions of its body.
@@ -11,7 +11,7 @@ pub enum Command {
     Feed {
         server: Name,
     },
-    /// Captures units of a server's log: at most so many, with a commit after each so many.
+    /// Captures units of a server's log: at most `units`, with a commit after each `every`.
     Capture {
         server: Name,
         units: Option<u32>,
@@ -21,12 +21,12 @@ pub enum Command {
     CaptureCold {
         server: Name,
     },
-    /// Drops what was captured and is over so many minutes old.
+    /// Drops what was captured and is more than `minutes` minutes old.
     Prune {
         server: Name,
         minutes: Option<u32>,
     },
-    /// Drops what was captured and every set has taken.
+    /// Drops what was captured and has been taken by every set.
     PruneNormal {
         server: Name,
     },
@@ -34,7 +34,7 @@ pub enum Command {
     Step {
         set: SetId,
     },
-    /// Makes a set's steps until there is none.
+    /// Makes a set's steps until none is left.
     Apply {
         set: SetId,
     },
@@ -63,34 +63,43 @@ pub enum Command {
     Audit {
         set: SetId,
     },
+    /// Says how far capture of a server is.
     StatusServer {
         server: Name,
     },
+    /// Says how far a set is.
     StatusSet {
         set: SetId,
     },
+    /// Writes the rows of a table.
     ShowSource {
         server: Name,
         table: Name,
     },
+    /// Writes the change rows of a table.
     ShowCd {
         server: Name,
         table: Name,
     },
+    /// Writes the captured units of a server.
     ShowUow {
         server: Name,
     },
+    /// Writes the log of a server.
     ShowLog {
         server: Name,
     },
+    /// Writes the rows of a target.
     ShowTarget {
         server: Name,
         table: Name,
     },
+    /// Writes the trail of a set.
     ShowTrail {
         server: Name,
         set: SetId,
     },
+    /// Writes the rejected units of a set.
     ShowRejected {
         server: Name,
         set: SetId,

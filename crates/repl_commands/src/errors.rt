@@ -4,7 +4,7 @@ use repl_types::DefPlace;
 use std::alloc::{AllocError, AllocFailed};
 use thiserror::Error;
 
-/// Why a text of definitions was refused: the rule that is broken, by its number, and where.
+/// Why a text of definitions was refused: the number of the rule that it breaks, and the place.
 #[derive(Clone, Copy, Debug, PartialEq, Eq, Error)]
 pub enum DefsError {
     #[error("out of memory")]

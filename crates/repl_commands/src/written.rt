@@ -1,5 +1,4 @@
-//! Definitions as they are written: texts whose rules aren't asked yet, in the order in which they
-//! stand.
+//! Definitions as they are written, in their order: texts that no rule has checked yet.
 
 use repl_types::{Bytes, List};
 
@@ -11,7 +10,7 @@ pub struct RawDefs {
     pub sets: List<RawSet>,
 }
 
-/// A table. A column is its name, its kind, and whether NULL may stand there, as one text.
+/// A table. A column is one text: its name, its kind, and whether it may be NULL.
 #[derive(Debug, Drop, PartialEq, Eq)]
 pub struct RawTable {
     pub server: Bytes,
@@ -45,8 +44,8 @@ pub struct RawSet {
     pub members: List<RawMember>,
 }
 
-/// A member of a set. `kind` is what is written as its type, `filter` as its predicate, and a
-/// column is its name and its source as one text.
+/// A member of a set. `kind` is what is written as its type, and `filter` what is written as its
+/// predicate. A column is one text: its name and its source.
 #[derive(Debug, Drop, PartialEq, Eq)]
 pub struct RawMember {
     pub source: Bytes,

@@ -3,33 +3,28 @@ use Rattle.std.proofs.Common.{◌≡◌, ℕ, suc, ◌+◌, ◌<◌, List, [], �
 use Rattle.std.proofs.lemmas.Grind.{flat_map-append}
 use Rattle.repl_definitions.specs.declared.nested.Root.{Root}
 use Rattle.repl_definitions.specs.declared.nested.Root.TheVariants.{Single, Joined}
+use Rattle.repl_types.specs.laws.Lists.{all_append}
 use Rattle.row_codec.specs.Takes.{One}
 use Rattle.repl_definitions.specs.Forests.{IsForest, nodes_spelling, NodesFit}
 
--- one more node
+-- one more node that fits
 pub NodesFit-push : {X : Type 0} (fits : X → Type 0) (nodes : List X) (node : X) → NodesFit fits nodes → fits node → NodesFit fits (nodes ++ node ∷ [])
-NodesFit-push fits [] node all here = (here, tt)
-NodesFit-push fits (first ∷ nodes) node all here = (all.0, NodesFit-push fits nodes node all.1 here)
-
--- both lists
-pub NodesFit-append : {X : Type 0} (fits : X → Type 0) (xs ys : List X) → NodesFit fits xs → NodesFit fits ys → NodesFit fits (xs ++ ys)
-NodesFit-append fits [] ys all more = more
-NodesFit-append fits (x ∷ xs) ys all more = (all.0, NodesFit-append fits xs ys all.1 more)
+NodesFit-push fits nodes node all here = all_append fits nodes (node ∷ []) all (here, tt)
 
 -- the bytes of the nodes read so far, and those that are left
-pub read_more : {X : Type 0} (spelling : X → List ℕ) (old new : List X) (node : X) (bytes left after : List ℕ) → new ≡ old ++ node ∷ [] → bytes ≡ nodes_spelling spelling old ++ left → left ≡ spelling node ++ after → bytes ≡ nodes_spelling spelling new ++ after
-read_more spelling old new node bytes left after e f h =
+pub node_read : {X : Type 0} (spelling : X → List ℕ) (old new : List X) (node : X) (bytes left after : List ℕ) → new ≡ old ++ node ∷ [] → bytes ≡ nodes_spelling spelling old ++ left → left ≡ spelling node ++ after → bytes ≡ nodes_spelling spelling new ++ after
+node_read spelling old new node bytes left after e f h =
     let seam = append_assoc (nodes_spelling spelling old) (spelling node) after in
     let both = flat_map-append spelling old (node ∷ []) in
     let last = append-nil (spelling node) in
     let made = ap (nodes_spelling spelling) e in
     cc
 
--- the bytes begin with so many trees
+-- the bytes begin with n trees
 abbrev pub Begins : {L J : Type 0} → (Root L J → Type 0) → (Root L J → List ℕ) → ℕ → List ℕ → List ℕ → Type 0
 Begins {L} {J} fits spelling n bytes rest = (us : List (Root L J)) × IsForest n us × NodesFit fits us × (bytes ≡ nodes_spelling spelling us ++ rest)
 
--- a leaf is one of them
+-- a leaf is one of the trees that the bytes begin with
 pub begins-single : {L J : Type 0} (fits : Root L J → Type 0) (spelling : Root L J → List ℕ) → One fits spelling → (n m : ℕ) (node : Root L J) (leaf : L) (left after rest : List ℕ) → fits node → node ≡ Single leaf → left ≡ spelling node ++ after → m + 1 ≡ n → (us : List (Root L J)) → IsForest (suc n) us → NodesFit fits us → left ≡ nodes_spelling spelling us ++ rest → Begins fits spelling (suc m) after rest
 begins-single fits spelling one n m node leaf left after rest here is e owes [] forest all same = absurd forest
 begins-single fits spelling one n m node leaf left after rest here is e owes (u ∷ us) forest all same =

@@ -13,8 +13,8 @@ use Rattle.repl_definitions.specs.Exprs.{ExprNode, expr_node_spelling, IsExprNod
 pub tagged : (before between after rest whole : List ℕ) (tag : ℕ) → between ≡ before ++ tag ∷ [] → after ≡ between ++ rest → whole ≡ tag ∷ rest → after ≡ before ++ whole
 tagged before between after rest whole tag e f g = f ∙ ap (λ s. s ++ rest) e ∙ append_assoc before (tag ∷ []) rest ∙ ap (λ s. before ++ s) (sym g)
 
--- the nodes of the tag 17 are values
-pub value_node : (bytes rest : List ℕ) (x : ExprNode) → get_or bytes 0 0 ≡ 17 → IsExprNode x → bytes ≡ expr_node_spelling x ++ rest → (v : Value) × IsValue v × (drop 1 bytes ≡ value_spelling v ++ rest)
+-- the nodes of the tag 0x11 are values
+pub value_node : (bytes rest : List ℕ) (x : ExprNode) → get_or bytes 0 0 ≡ 0x11 → IsExprNode x → bytes ≡ expr_node_spelling x ++ rest → (v : Value) × IsValue v × (drop 1 bytes ≡ value_spelling v ++ rest)
 value_node bytes rest (Single (Column p)) tag fits e = let other = ap (λ s. get_or s 0 0) e in absurd (omega arith)
 value_node bytes rest (Single (Int n)) tag fits e = (values.Int n, fits, ap (drop 1) e)
 value_node bytes rest (Single (Text t)) tag fits e = (values.Text t, fits, ap (drop 1) e)

@@ -13,7 +13,7 @@ pending_nodes-push nodes (q ∷ ps) p =
     let below = pending_nodes-push nodes ps p in
     ap (λ s. Joined q.joint ∷ (left_nodes nodes q.left ++ s)) below ∙ sym (append_assoc (Joined q.joint ∷ left_nodes nodes q.left) (pending_nodes nodes ps) (Joined p.joint ∷ left_nodes nodes p.left))
 
--- and owes a tree where its left one isn't read
+-- and owes a tree if its left one isn't read
 pub owed-push : {J T : Type 0} (ps : List (Pending J T)) (p : Pending J T) → owed (ps ++ p ∷ []) ≡ owed ps + owed_at p.left
 owed-push [] p = omega arith
 owed-push (q ∷ ps) p = omega (arith, owed-push ps p)

@@ -19,15 +19,15 @@ use Rattle.repl_definitions.specs.Forests.{nodes_spelling, NodesFit}
 abbrev pub ExprNode : Type 0
 ExprNode = Root ExprLeaf ExprJoint
 
--- 16 and a place, 17 and a value, or 18 to 21 for +, -, * and ||
+-- 0x10 and a place, 0x11 and a value, or 0x12 to 0x15 for +, -, * and ||
 abbrev pub expr_node_spelling : ExprNode → List ℕ
-expr_node_spelling (Single (Column place)) = 16 ∷ b16 place
-expr_node_spelling (Single (Int n)) = 17 ∷ value_spelling (values.Int n)
-expr_node_spelling (Single (Text t)) = 17 ∷ value_spelling (values.Text t)
-expr_node_spelling (Joined Add) = 18 ∷ []
-expr_node_spelling (Joined Sub) = 19 ∷ []
-expr_node_spelling (Joined Mul) = 20 ∷ []
-expr_node_spelling (Joined Concat) = 21 ∷ []
+expr_node_spelling (Single (Column place)) = 0x10 ∷ b16 place
+expr_node_spelling (Single (Int n)) = 0x11 ∷ value_spelling (values.Int n)
+expr_node_spelling (Single (Text t)) = 0x11 ∷ value_spelling (values.Text t)
+expr_node_spelling (Joined Add) = 0x12 ∷ []
+expr_node_spelling (Joined Sub) = 0x13 ∷ []
+expr_node_spelling (Joined Mul) = 0x14 ∷ []
+expr_node_spelling (Joined Concat) = 0x15 ∷ []
 
 -- the nodes whose places have two bytes
 abbrev pub HasExprNodeSpelling : ExprNode → Type 0
@@ -36,7 +36,7 @@ HasExprNodeSpelling (Single (Int n)) = Unit {0}
 HasExprNodeSpelling (Single (Text t)) = Unit {0}
 HasExprNodeSpelling (Joined joint) = Unit {0}
 
--- such nodes, with values
+-- the nodes whose places have two bytes, and whose literals are values
 abbrev pub IsExprNode : ExprNode → Type 0
 IsExprNode (Single (Column place)) = Is16 place
 IsExprNode (Single (Int n)) = IsValue (values.Int n)
@@ -45,39 +45,39 @@ IsExprNode (Joined joint) = Unit {0}
 
 -- ---- expressions
 
--- the node at the top of a layer
-abbrev pub layer_top : {X : Type 0} → Expr-F X → ExprNode
-layer_top (layer.Column place) = Single (Column place)
-layer_top (layer.Int n) = Single (Int n)
-layer_top (layer.Text t) = Single (Text t)
-layer_top (layer.Add left right) = Joined Add
-layer_top (layer.Sub left right) = Joined Sub
-layer_top (layer.Mul left right) = Joined Mul
-layer_top (layer.Concat left right) = Joined Concat
+-- the node at the top of a layer of an expression
+abbrev pub expr_layer_top : {X : Type 0} → Expr-F X → ExprNode
+expr_layer_top (layer.Column place) = Single (Column place)
+expr_layer_top (layer.Int n) = Single (Int n)
+expr_layer_top (layer.Text t) = Single (Text t)
+expr_layer_top (layer.Add left right) = Joined Add
+expr_layer_top (layer.Sub left right) = Joined Sub
+expr_layer_top (layer.Mul left right) = Joined Mul
+expr_layer_top (layer.Concat left right) = Joined Concat
 
--- the nodes below it: those at the left, then those at the right
-abbrev pub layer_below : Expr-F (List ExprNode) → List ExprNode
-layer_below (layer.Column place) = []
-layer_below (layer.Int n) = []
-layer_below (layer.Text t) = []
-layer_below (layer.Add left right) = left ++ right
-layer_below (layer.Sub left right) = left ++ right
-layer_below (layer.Mul left right) = left ++ right
-layer_below (layer.Concat left right) = left ++ right
+-- the nodes below the top of a layer of an expression: those at the left, then those at the right
+abbrev pub expr_layer_below : Expr-F (List ExprNode) → List ExprNode
+expr_layer_below (layer.Column place) = []
+expr_layer_below (layer.Int n) = []
+expr_layer_below (layer.Text t) = []
+expr_layer_below (layer.Add left right) = left ++ right
+expr_layer_below (layer.Sub left right) = left ++ right
+expr_layer_below (layer.Mul left right) = left ++ right
+expr_layer_below (layer.Concat left right) = left ++ right
 
 -- the node at the top of an expression
 unfoldable pub expr_top : Expr → ExprNode
-expr_top e = layer_top (out-Expr e)
+expr_top e = expr_layer_top (out-Expr e)
 
 -- the nodes of an expression, the top first
 unfoldable pub expr_nodes : Expr → List ExprNode
-expr_nodes = fold-Expr (List ExprNode) (λ nodes. layer_top nodes ∷ layer_below nodes)
+expr_nodes = fold-Expr (List ExprNode) (λ nodes. expr_layer_top nodes ∷ expr_layer_below nodes)
 
 -- an expression is spelled node after node
 abbrev pub expr_spelling : Expr → List ℕ
 expr_spelling e = nodes_spelling expr_node_spelling (expr_nodes e)
 
--- the expressions whose literals are values too
+-- the expressions that have a spelling, and whose literals are values
 abbrev pub IsExpr : Expr → Type 0
 IsExpr e = NodesFit IsExprNode (expr_nodes e)
 

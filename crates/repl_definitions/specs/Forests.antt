@@ -4,7 +4,8 @@ use Rattle.std.specs.List.{flat_map, AllByRecursion}
 use Rattle.repl_definitions.specs.declared.nested.Root.{Root}
 use Rattle.repl_definitions.specs.declared.nested.Root.TheVariants.{Single, Joined}
 
--- so many trees, one after another: a leaf is a tree, and a joint is one where two trees follow
+-- the nodes are this many trees, one after another: a leaf is a tree, and so is a joint with the two
+-- trees that follow it
 abbrev pub IsForest : {L J : Type 0} → ℕ → List (Root L J) → Type 0
 IsForest zero [] = Unit {0}
 IsForest zero (node ∷ nodes) = ⊥

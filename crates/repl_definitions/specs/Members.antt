@@ -11,23 +11,24 @@ use Rattle.repl_definitions.specs.declared.member.TargetKind.TheVariants.{UserCo
 use Rattle.repl_definitions.specs.declared.predicate.Predicate.{Predicate}
 use Rattle.row_codec.specs.Spelling.{Any, b16, Is16, flag, short_text, IsName, list_spelling, ListFits, option_spelling, OptionFits}
 
--- 1 to 6; after 5 whether the target is complete, and whether it is condensed
+-- 0x01 to 0x06; after 0x05 whether the target is complete, and whether it is condensed
 abbrev pub target_kind_spelling : TargetKind → List ℕ
-target_kind_spelling UserCopy = 1 ∷ []
-target_kind_spelling PointInTime = 2 ∷ []
-target_kind_spelling BaseAggregate = 3 ∷ []
-target_kind_spelling ChangeAggregate = 4 ∷ []
-target_kind_spelling (Ccd complete condensed) = 5 ∷ flag complete ++ flag condensed
-target_kind_spelling Replica = 6 ∷ []
+target_kind_spelling UserCopy = 0x01 ∷ []
+target_kind_spelling PointInTime = 0x02 ∷ []
+target_kind_spelling BaseAggregate = 0x03 ∷ []
+target_kind_spelling ChangeAggregate = 0x04 ∷ []
+target_kind_spelling (Ccd complete condensed) = 0x05 ∷ flag complete ++ flag condensed
+target_kind_spelling Replica = 0x06 ∷ []
 
--- where a column comes from: 1 and an expression, 2 for the number of rows, 3 to 6 with a column's place
+-- where a column comes from: 0x01 and an expression, 0x02 for the number of rows, or 0x03 to 0x06 and a
+-- column's place
 abbrev pub source_spelling : ColumnFrom → List ℕ
-source_spelling (Plain e) = 1 ∷ expr_spelling e
-source_spelling Count = 2 ∷ []
-source_spelling (CountOf place) = 3 ∷ b16 place
-source_spelling (Sum place) = 4 ∷ b16 place
-source_spelling (Min place) = 5 ∷ b16 place
-source_spelling (Max place) = 6 ∷ b16 place
+source_spelling (Plain e) = 0x01 ∷ expr_spelling e
+source_spelling Count = 0x02 ∷ []
+source_spelling (CountOf place) = 0x03 ∷ b16 place
+source_spelling (Sum place) = 0x04 ∷ b16 place
+source_spelling (Min place) = 0x05 ∷ b16 place
+source_spelling (Max place) = 0x06 ∷ b16 place
 
 -- the sources that have a spelling
 abbrev pub HasSourceSpelling : ColumnFrom → Type 0
@@ -55,11 +56,11 @@ target_column_spelling column = short_text column.name ++ source_spelling column
 abbrev pub HasTargetColumnSpelling : TargetColumn → Type 0
 HasTargetColumnSpelling column = HasSourceSpelling column.from
 
--- the columns whose name is a name
+-- the columns whose name is a name, and whose source is one
 abbrev pub IsTargetColumn : TargetColumn → Type 0
 IsTargetColumn column = IsName column.name × IsSource column.from
 
--- 0 for no predicate, or 1 and the predicate
+-- 0x00 for no predicate, or 0x01 and the predicate
 abbrev pub filter_spelling : Option Predicate → List ℕ
 filter_spelling = option_spelling predicate_spelling
 
@@ -79,6 +80,6 @@ member_spelling m = short_text m.source ++ short_text m.target ++ target_kind_sp
 abbrev pub HasMemberSpelling : Member → Type 0
 HasMemberSpelling m = ListFits HasTargetColumnSpelling m.columns × HasFilterSpelling m.filter
 
--- the members of names
+-- the members whose names are names, and whose parts are in their ranges
 abbrev pub IsMember : Member → Type 0
 IsMember m = IsName m.source × IsName m.target × Any m.kind × ListFits IsTargetColumn m.columns × IsFilter m.filter

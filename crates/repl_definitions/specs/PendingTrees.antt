@@ -4,7 +4,7 @@ use Rattle.repl_definitions.specs.declared.nested.Root.{Root}
 use Rattle.repl_definitions.specs.declared.nested.Root.TheVariants.{Joined}
 use Rattle.repl_definitions.specs.declared.nested.Pending.{Pending}
 
--- the nodes of the left tree, where it is read
+-- the nodes of the left tree, if it is read
 abbrev pub left_nodes : {L J T : Type 0} → (T → List (Root L J)) → Option T → List (Root L J)
 left_nodes nodes None = []
 left_nodes nodes (Some tree) = nodes tree
@@ -14,7 +14,7 @@ abbrev pub pending_nodes : {L J T : Type 0} → (T → List (Root L J)) → List
 pending_nodes nodes [] = []
 pending_nodes nodes (node ∷ after) = Joined node.joint ∷ left_nodes nodes node.left ++ pending_nodes nodes after
 
--- 1 where the left tree isn't read
+-- 1 if the left tree isn't read
 abbrev pub owed_at : {T : Type 0} → Option T → ℕ
 owed_at None = 1
 owed_at (Some tree) = 0

@@ -14,7 +14,7 @@ set_def_spelling s = set_spelling s.id ++ short_text s.source ++ short_text s.ta
 abbrev pub HasSetDefSpelling : SetDef → Type 0
 HasSetDefSpelling s = ListFits HasMemberSpelling s.members
 
--- the sets of names, whose limits have four bytes
+-- the sets whose names are names, and whose limits have four bytes
 abbrev pub IsSetDef : SetDef → Type 0
 IsSetDef s = IsSet s.id × IsName s.source × IsName s.target × Is32 s.commit_count × Is32 s.max_minutes × ListFits IsMember s.members
 

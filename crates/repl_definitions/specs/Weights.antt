@@ -5,7 +5,8 @@ use Rattle.repl_definitions.specs.declared.expr.Expr.TheOpen as expr
 use Rattle.repl_definitions.specs.declared.predicate.Predicate.{Predicate, Predicate-F, fold-Predicate}
 use Rattle.repl_definitions.specs.declared.predicate.Predicate.TheOpen.{Compare, IsNull, IsNotNull, And, Or}
 
--- the left counts twice, so that a tree weighs less when its left is moved to its right
+-- the weight of a layer of an expression, given the weights of the trees in it. The left counts twice, so
+-- that a tree weighs less after its left is moved to its right.
 abbrev pub expr_layer : Expr-F ℕ → ℕ
 expr_layer (expr.Column place) = 0
 expr_layer (expr.Int n) = 0
@@ -19,7 +20,7 @@ expr_layer (expr.Concat left right) = 1 + 2 * left + right
 abbrev pub expr_weight : Expr → ℕ
 expr_weight = fold-Expr ℕ expr_layer
 
--- the same of a layer of a predicate
+-- the weight of a layer of a predicate, given the weights of the trees in it
 abbrev pub predicate_layer : Predicate-F ℕ → ℕ
 predicate_layer (Compare left op right) = 0
 predicate_layer (IsNull place) = 0

@@ -1,7 +1,13 @@
 //! Tables and registrations as a server keeps them, each with its number at that server.
 
-ghost use Rattle.repl_definitions.specs.Defined.{defined_table_spelling, IsDefinedTable, HasDefinedTableSpelling, defined_registration_spelling, IsDefinedRegistration, HasDefinedRegistrationSpelling};
-ghost use Rattle.repl_definitions.specs.laws.Defined.{one_defined_table, again_defined_table, one_defined_registration, again_defined_registration};
+ghost use Rattle.repl_definitions.specs.Defined.{defined_table_spelling, IsDefinedTable};
+ghost use Rattle.repl_definitions.specs.Defined.{HasDefinedTableSpelling};
+ghost use Rattle.repl_definitions.specs.Defined.{defined_registration_spelling};
+ghost use Rattle.repl_definitions.specs.Defined.{IsDefinedRegistration};
+ghost use Rattle.repl_definitions.specs.Defined.{HasDefinedRegistrationSpelling};
+ghost use Rattle.repl_definitions.specs.laws.Defined.{one_defined_table, again_defined_table};
+ghost use Rattle.repl_definitions.specs.laws.Defined.{one_defined_registration};
+ghost use Rattle.repl_definitions.specs.laws.Defined.{again_defined_registration};
 ghost use Rattle.repl_types.specs.declared.area.Area.TheVariants as areas;
 ghost use Rattle.row_codec.specs.Storable.{IsStorable};
 

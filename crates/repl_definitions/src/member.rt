@@ -1,8 +1,13 @@
 //! Members of sets, and their columns.
 
 ghost use Rattle.std.specs.Prelude.{◌≡◌, ◌∷◌, ◌++◌, OnOk};
-ghost use Rattle.repl_definitions.specs.Members.{target_kind_spelling, source_spelling, IsSource, HasSourceSpelling, target_column_spelling, IsTargetColumn, HasTargetColumnSpelling, member_spelling, IsMember, HasMemberSpelling};
-ghost use Rattle.repl_definitions.specs.laws.Members.{one_target_kind, one_source, again_source, one_target_column, again_target_column, one_member, again_member};
+ghost use Rattle.repl_definitions.specs.Members.{target_kind_spelling, source_spelling, IsSource};
+ghost use Rattle.repl_definitions.specs.Members.{HasSourceSpelling, target_column_spelling};
+ghost use Rattle.repl_definitions.specs.Members.{IsTargetColumn, HasTargetColumnSpelling};
+ghost use Rattle.repl_definitions.specs.Members.{member_spelling, IsMember, HasMemberSpelling};
+ghost use Rattle.repl_definitions.specs.laws.Members.{one_target_kind, one_source, again_source};
+ghost use Rattle.repl_definitions.specs.laws.Members.{one_target_column, again_target_column};
+ghost use Rattle.repl_definitions.specs.laws.Members.{one_member, again_member};
 ghost use Rattle.row_codec.specs.Spelling.{Any, b16, Is16};
 
 use crate::expr::Expr;
@@ -59,7 +64,7 @@ impl Part for Member {
     }
 }
 
-/// What a target is of its source.
+/// What kind of copy of its source a target is.
 #[derive(Clone, Copy, Debug, PartialEq, Eq)]
 pub enum TargetKind {
     UserCopy,
@@ -85,29 +90,29 @@ impl Part for TargetKind {
 
     fn put_part(&self, out: &mut Vec<u8>) -> Result<(), AllocError> {
         match self {
-            TargetKind::UserCopy => Ok(out.push(1)?),
-            TargetKind::PointInTime => Ok(out.push(2)?),
-            TargetKind::BaseAggregate => Ok(out.push(3)?),
-            TargetKind::ChangeAggregate => Ok(out.push(4)?),
+            TargetKind::UserCopy => Ok(out.push(0x01)?),
+            TargetKind::PointInTime => Ok(out.push(0x02)?),
+            TargetKind::BaseAggregate => Ok(out.push(0x03)?),
+            TargetKind::ChangeAggregate => Ok(out.push(0x04)?),
             TargetKind::Ccd {
                 complete,
                 condensed,
             } => {
-                out.push(5)?;
+                out.push(0x05)?;
                 complete.put_part(out)?;
                 condensed.put_part(out)
             }
-            TargetKind::Replica => Ok(out.push(6)?),
+            TargetKind::Replica => Ok(out.push(0x06)?),
         }
     }
 
     fn take_part(alloc: Global, bytes: &[u8]) -> Result<(TargetKind, &[u8]), TakeError> {
         match bytes {
-            [1, rest @ ..] => Ok((TargetKind::UserCopy, rest)),
-            [2, rest @ ..] => Ok((TargetKind::PointInTime, rest)),
-            [3, rest @ ..] => Ok((TargetKind::BaseAggregate, rest)),
-            [4, rest @ ..] => Ok((TargetKind::ChangeAggregate, rest)),
-            [5, rest @ ..] => {
+            [0x01, rest @ ..] => Ok((TargetKind::UserCopy, rest)),
+            [0x02, rest @ ..] => Ok((TargetKind::PointInTime, rest)),
+            [0x03, rest @ ..] => Ok((TargetKind::BaseAggregate, rest)),
+            [0x04, rest @ ..] => Ok((TargetKind::ChangeAggregate, rest)),
+            [0x05, rest @ ..] => {
                 let (complete, condensed, rest) = take_two::<bool, bool>(alloc, rest)?;
                 let kind = TargetKind::Ccd {
                     complete,
@@ -115,7 +120,7 @@ impl Part for TargetKind {
                 };
                 Ok((kind, rest))
             }
-            [6, rest @ ..] => Ok((TargetKind::Replica, rest)),
+            [0x06, rest @ ..] => Ok((TargetKind::Replica, rest)),
             _ => Err(TakeError::Spelling),
         }
     }
@@ -157,7 +162,7 @@ pub enum ColumnFrom {
     Plain(Expr),
     /// The number of rows.
     Count,
-    /// The number of rows where the column isn't NULL.
+    /// The number of rows in which the column isn't NULL.
     CountOf(u32),
     Sum(u32),
     Min(u32),
@@ -178,37 +183,37 @@ impl Part for ColumnFrom {
     fn put_part(&self, out: &mut Vec<u8>) -> Result<(), AllocError> {
         match self {
             ColumnFrom::Plain(expr) => {
-                out.push(1)?;
+                out.push(0x01)?;
                 expr.put_part(out)
             }
-            ColumnFrom::Count => Ok(out.push(2)?),
-            ColumnFrom::CountOf(place) => put_fold(3, *place, out),
-            ColumnFrom::Sum(place) => put_fold(4, *place, out),
-            ColumnFrom::Min(place) => put_fold(5, *place, out),
-            ColumnFrom::Max(place) => put_fold(6, *place, out),
+            ColumnFrom::Count => Ok(out.push(0x02)?),
+            ColumnFrom::CountOf(place) => put_fold(0x03, *place, out),
+            ColumnFrom::Sum(place) => put_fold(0x04, *place, out),
+            ColumnFrom::Min(place) => put_fold(0x05, *place, out),
+            ColumnFrom::Max(place) => put_fold(0x06, *place, out),
         }
     }
 
     fn take_part(alloc: Global, bytes: &[u8]) -> Result<(ColumnFrom, &[u8]), TakeError> {
         match bytes {
-            [1, rest @ ..] => {
+            [0x01, rest @ ..] => {
                 let (expr, rest) = Expr::take_part(alloc, rest)?;
                 Ok((ColumnFrom::Plain(expr), rest))
             }
-            [2, rest @ ..] => Ok((ColumnFrom::Count, rest)),
-            [3, rest @ ..] => {
+            [0x02, rest @ ..] => Ok((ColumnFrom::Count, rest)),
+            [0x03, rest @ ..] => {
                 let (place, rest) = u16::take_part(alloc, rest)?;
                 Ok((ColumnFrom::CountOf(u32::from(place)), rest))
             }
-            [4, rest @ ..] => {
+            [0x04, rest @ ..] => {
                 let (place, rest) = u16::take_part(alloc, rest)?;
                 Ok((ColumnFrom::Sum(u32::from(place)), rest))
             }
-            [5, rest @ ..] => {
+            [0x05, rest @ ..] => {
                 let (place, rest) = u16::take_part(alloc, rest)?;
                 Ok((ColumnFrom::Min(u32::from(place)), rest))
             }
-            [6, rest @ ..] => {
+            [0x06, rest @ ..] => {
                 let (place, rest) = u16::take_part(alloc, rest)?;
                 Ok((ColumnFrom::Max(u32::from(place)), rest))
             }

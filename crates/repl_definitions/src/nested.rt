@@ -3,18 +3,19 @@
 //! A stored tree may be nested as deep as a stored value is long, so neither reading nor writing
 //! recurses on it.
 
-ghost use Rattle.std.specs.Prelude.{◌≡◌, ◌≢◌, ◌++◌, ◌∷◌, ◌+◌, [], ℕ, List, OnOk, IfOk, IfNone, IfSome, MatchOption};
+ghost use Rattle.std.specs.Prelude.{◌≡◌, ◌≢◌, ◌++◌, ◌∷◌, ◌+◌, [], ℕ, List, OnOk, IfOk, IfNone};
+ghost use Rattle.std.specs.Prelude.{IfSome, MatchOption};
 ghost use Rattle.std.specs.List.{flat_map, AllByRecursion};
 ghost use Rattle.repl_definitions.specs.declared.nested.Root.{Root};
 ghost use Rattle.repl_definitions.specs.declared.nested.Root.TheVariants.{Single, Joined};
-ghost use Rattle.row_codec.specs.Takes.{NoFront, One};
+ghost use Rattle.row_codec.specs.Takes.{NoPrefix, One};
 ghost use Rattle.repl_definitions.specs.Forests.{IsForest, IsLeaf, nodes_spelling, NodesFit};
 ghost use Rattle.repl_definitions.specs.PendingTrees.{pending_nodes, owed};
 
 use row_codec::TakeError;
 use std::alloc::{AllocError, Global};
 
-/// What stands at the top of a tree: a leaf, or what joins two trees.
+/// The node at the top of a tree: a leaf, or what joins two trees.
 #[derive(Drop)]
 pub(crate) enum Root<L, J> {
     Single(L),
@@ -23,8 +24,10 @@ pub(crate) enum Root<L, J> {
 
 /// A tree. A clause sees it as the list of its nodes, in the order in which they are spelled.
 pub(crate) trait Nested: Sized + Drop {
+    /// A tree of one node.
     type Leaf: Drop;
 
+    /// What joins two trees.
     type Joint: Drop;
 
     /// Which of the nodes that a clause can speak of are nodes that have a spelling.
@@ -33,11 +36,13 @@ pub(crate) trait Nested: Sized + Drop {
     /// What a node must meet beside its type to have a spelling.
     ghost has_node_spelling: { Root Self.Leaf Self.Joint → Type 0 };
 
+    /// The bytes of a node.
     ghost node_spelling: { Root Self.Leaf Self.Joint → List ℕ };
 
     /// The node at the top.
     ghost top: { Self → Root Self.Leaf Self.Joint };
 
+    /// The nodes of a tree, in the order in which they are spelled.
     ghost nodes: { Self → List (Root Self.Leaf Self.Joint) };
 
     /// The node whose spelling the bytes begin with, and the bytes after it.
@@ -48,7 +53,7 @@ pub(crate) trait Nested: Sized + Drop {
         ensures ok { IfOk result (λ taken. node_fits taken.0
             × (bytes.now ≡ node_spelling taken.0 ++ taken.1.now)) }
         ensures spelling { result ≡ Err TakeError.Spelling
-            → NoFront node_fits node_spelling bytes.now };
+            → NoPrefix node_fits node_spelling bytes.now };
 
     /// Appends the spelling of the node at the top, and gives the trees below it.
     fn put_root(&self, out: &mut Vec<u8>) -> Result<Option<(&Self, &Self)>, AllocError>
@@ -59,7 +64,7 @@ pub(crate) trait Nested: Sized + Drop {
             (λ pair. nodes self.now ≡ top self.now ∷ nodes pair.0.now ++ nodes pair.1.now)) };
 
     /// What joins the two trees below the top, and these trees; None for a leaf.
-    fn joined(&self) -> Option<(Self::Joint, &Self, &Self)>
+    fn branches(&self) -> Option<(Self::Joint, &Self, &Self)>
         ensures { MatchOption result
             (IsLeaf (top self.now))
             (λ parts.
@@ -78,13 +83,18 @@ pub(crate) trait Nested: Sized + Drop {
     fn join(alloc: Global, joint: Self::Joint, left: Self, right: Self) -> Result<Self, AllocError>
         ensures { IfOk result (λ tree. nodes tree ≡ Joined joint ∷ nodes left ++ nodes right) };
 
+    /// Bytes begin with the spelling of at most one node.
     ghost one_node: { One node_fits node_spelling };
 
+    /// A node has at least one byte.
     ghost filled: { (node : Root Self.Leaf Self.Joint) → node_spelling node ≢ [] };
 
+    /// The nodes of a tree are one tree.
     ghost forest: { (tree : Self) → IsForest 1 (nodes tree) };
 
-    ghost first: { (tree : Self) → (rest : List (Root Self.Leaf Self.Joint)) × (nodes tree ≡ top tree ∷ rest) };
+    /// The first node of a tree is the node at its top.
+    ghost first: { (tree : Self)
+        → (rest : List (Root Self.Leaf Self.Joint)) × (nodes tree ≡ top tree ∷ rest) };
 
     /// Trees of equal nodes are equal.
     ghost same: { (x y : Self) → nodes x ≡ nodes y → x ≡ y };
@@ -178,7 +188,7 @@ pub(crate) fn clone_nested<T: Nested>(alloc: Global, tree: &T) -> Result<T, Allo
     waiting.push(tree)?;
     let mut pending = Vec::new(alloc);
     while let Some(next) = waiting.pop() {
-        if let Some((joint, left, right)) = next.joined() {
+        if let Some((joint, left, right)) = next.branches() {
             waiting.push(right)?;
             waiting.push(left)?;
             pending.push(Pending { joint, left: None })?;

@@ -1,9 +1,18 @@
 //! Predicates.
 
 ghost use Rattle.std.specs.Prelude.{◌≡◌, ◌+◌, ◌*◌, ◌<◌};
-ghost use Rattle.repl_definitions.specs.Predicates.{compare_op_spelling, operand_spelling, IsOperand, HasOperandSpelling, predicate_node_spelling, IsPredicateNode, HasPredicateNodeSpelling, predicate_top, predicate_nodes, predicate_spelling, IsPredicate, HasPredicateSpelling};
+ghost use Rattle.repl_definitions.specs.Predicates.{compare_op_spelling, operand_spelling};
+ghost use Rattle.repl_definitions.specs.Predicates.{IsOperand, HasOperandSpelling};
+ghost use Rattle.repl_definitions.specs.Predicates.{predicate_node_spelling, IsPredicateNode};
+ghost use Rattle.repl_definitions.specs.Predicates.{HasPredicateNodeSpelling, predicate_top};
+ghost use Rattle.repl_definitions.specs.Predicates.{predicate_nodes, predicate_spelling};
+ghost use Rattle.repl_definitions.specs.Predicates.{IsPredicate, HasPredicateSpelling};
 ghost use Rattle.repl_definitions.specs.Weights.{predicate_weight};
-ghost use Rattle.repl_definitions.specs.laws.Predicates.{one_compare_op, one_operand, again_operand, one_predicate_node, filled_predicate_node, predicate_forest, predicate_first, same_predicate, one_predicate, again_predicate};
+ghost use Rattle.repl_definitions.specs.laws.Predicates.{one_compare_op, one_operand};
+ghost use Rattle.repl_definitions.specs.laws.Predicates.{again_operand, one_predicate_node};
+ghost use Rattle.repl_definitions.specs.laws.Predicates.{filled_predicate_node, predicate_forest};
+ghost use Rattle.repl_definitions.specs.laws.Predicates.{predicate_first, same_predicate};
+ghost use Rattle.repl_definitions.specs.laws.Predicates.{one_predicate, again_predicate};
 ghost use Rattle.row_codec.specs.Spelling.{Any};
 
 use crate::boxed::Boxed;
@@ -27,7 +36,7 @@ pub enum Predicate {
 }
 
 impl Drop for Predicate {
-    // As for an expression.
+    // As with an expression: a tree at the left of another is moved to the right.
     fn drop(mut self) {
         loop {
             match self {
@@ -40,7 +49,7 @@ impl Drop for Predicate {
                 Predicate::And(left, right) | Predicate::Or(left, right) => {
                     let mut place = left;
                     let first = place.replace(Predicate::IsNull(0));
-                    self = first.turned(place, right);
+                    self = first.rotate(place, right);
                 }
             }
         }
@@ -48,9 +57,9 @@ impl Drop for Predicate {
 }
 
 impl Predicate {
-    /// What is left to drop of a predicate that was at the left of another, of its place, and of
-    /// the one at its right.
-    fn turned(self, mut place: Boxed<Predicate>, right: Boxed<Predicate>) -> Predicate
+    /// A step of dropping a predicate: `self` was at its left, in `place`, and `right` at its
+    /// right. What is left to drop weighs less.
+    fn rotate(self, mut place: Boxed<Predicate>, right: Boxed<Predicate>) -> Predicate
         requires { place ≡ Predicate.IsNull 0 }
         ensures { predicate_weight result < 1 + 2 * predicate_weight self + predicate_weight right }
     {
@@ -74,7 +83,7 @@ impl Predicate {
         }
     }
 
-    /// Lets a leaf go.
+    /// Drops the leaf that `drop` leaves in an empty place.
     fn gone(self)
         requires { self ≡ Predicate.IsNull 0 }
     {
@@ -116,24 +125,24 @@ impl Part for CompareOp {
 
     fn put_part(&self, out: &mut Vec<u8>) -> Result<(), AllocError> {
         let number = match self {
-            CompareOp::Eq => 1,
-            CompareOp::Ne => 2,
-            CompareOp::Lt => 3,
-            CompareOp::Le => 4,
-            CompareOp::Gt => 5,
-            CompareOp::Ge => 6,
+            CompareOp::Eq => 0x01,
+            CompareOp::Ne => 0x02,
+            CompareOp::Lt => 0x03,
+            CompareOp::Le => 0x04,
+            CompareOp::Gt => 0x05,
+            CompareOp::Ge => 0x06,
         };
         Ok(out.push(number)?)
     }
 
     fn take_part(_: Global, bytes: &[u8]) -> Result<(CompareOp, &[u8]), TakeError> {
         match bytes {
-            [1, rest @ ..] => Ok((CompareOp::Eq, rest)),
-            [2, rest @ ..] => Ok((CompareOp::Ne, rest)),
-            [3, rest @ ..] => Ok((CompareOp::Lt, rest)),
-            [4, rest @ ..] => Ok((CompareOp::Le, rest)),
-            [5, rest @ ..] => Ok((CompareOp::Gt, rest)),
-            [6, rest @ ..] => Ok((CompareOp::Ge, rest)),
+            [0x01, rest @ ..] => Ok((CompareOp::Eq, rest)),
+            [0x02, rest @ ..] => Ok((CompareOp::Ne, rest)),
+            [0x03, rest @ ..] => Ok((CompareOp::Lt, rest)),
+            [0x04, rest @ ..] => Ok((CompareOp::Le, rest)),
+            [0x05, rest @ ..] => Ok((CompareOp::Gt, rest)),
+            [0x06, rest @ ..] => Ok((CompareOp::Ge, rest)),
             _ => Err(TakeError::Spelling),
         }
     }
@@ -286,7 +295,7 @@ impl Nested for Predicate {
     }
 
     #[tactic(auto, using(crate::specs::laws::Predicates::predicate_views))]
-    fn joined(&self) -> Option<(PredicateJoint, &Predicate, &Predicate)> {
+    fn branches(&self) -> Option<(PredicateJoint, &Predicate, &Predicate)> {
         match self {
             Predicate::Compare {
                 left: _,

@@ -1,7 +1,12 @@
 //! Subscription sets, and sets as a server keeps them, each with its number at that server.
 
-ghost use Rattle.repl_definitions.specs.Sets.{set_def_spelling, IsSetDef, HasSetDefSpelling, source_set_spelling, IsSourceSet, HasSourceSetSpelling, target_set_spelling, IsTargetSet, HasTargetSetSpelling};
-ghost use Rattle.repl_definitions.specs.laws.Sets.{one_set_def, again_set_def, one_source_set, again_source_set, one_target_set, again_target_set};
+ghost use Rattle.repl_definitions.specs.Sets.{set_def_spelling, IsSetDef, HasSetDefSpelling};
+ghost use Rattle.repl_definitions.specs.Sets.{source_set_spelling, IsSourceSet};
+ghost use Rattle.repl_definitions.specs.Sets.{HasSourceSetSpelling, target_set_spelling};
+ghost use Rattle.repl_definitions.specs.Sets.{IsTargetSet, HasTargetSetSpelling};
+ghost use Rattle.repl_definitions.specs.laws.Sets.{one_set_def, again_set_def, one_source_set};
+ghost use Rattle.repl_definitions.specs.laws.Sets.{again_source_set, one_target_set};
+ghost use Rattle.repl_definitions.specs.laws.Sets.{again_target_set};
 ghost use Rattle.repl_types.specs.declared.area.Area.TheVariants as areas;
 ghost use Rattle.row_codec.specs.Storable.{IsStorable};
 

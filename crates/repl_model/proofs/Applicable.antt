@@ -48,7 +48,7 @@ place_same (p ∷ places) a b place e h =
       | inr later ↦ rest later
     ]
 
--- rows that are alike at some places are alike at any of these, in any order
+-- rows that are alike at some places are alike at any selection of the places, in any order
 images_same : (fixed key : List ℕ) (a b : Values) → list_all (λ place. list_any (λ f. f == place) fixed) key ≡ true → images fixed a ≡ images fixed b → images key a ≡ images key b
 images_same fixed [] a b h e = refl
 images_same fixed (place ∷ key) a b h e =
@@ -58,7 +58,7 @@ images_same fixed (place ∷ key) a b h e =
 
 -- ---- changes
 
--- a change that fits has whole rows, and leaves the key where the key is fixed
+-- a change that fits has whole rows, and leaves the key if the key is fixed
 fits_leaves : (def : TableDef) (change : Change) → is_key_fixed def ≡ true → change_fits def change ≡ true → LeavesKey def change
 unfolding change_fits
 fits_leaves def (Insert table row) fixed h = fits_whole def row h
@@ -70,7 +70,7 @@ fits_leaves def (Delete table row) fixed h = fits_whole def row h
 fits_leaves def (Start table) fixed h = tt
 fits_leaves def (Stop table) fixed h = tt
 
--- an applicable change has whole rows, and leaves the key where the key is fixed
+-- an applicable change has whole rows, and leaves the key if the key is fixed
 pub applicable_leaves : (def : TableDef) (change : Change) → is_key_fixed def ≡ true → is_change_applicable def change ≡ true → LeavesKey def change
 applicable_leaves def change fixed h = fits_leaves def change fixed (and_parts (bytes_eq (table_of change) def.name) (change_fits def change) h).1
 

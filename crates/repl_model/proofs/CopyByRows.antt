@@ -1,4 +1,4 @@
--- A copy that is kept by change rows alone is the source.
+-- A copy that is kept only by change rows is the source.
 use Rattle.std.proofs.Common.{◌≡◌, ℕ, ◌+◌, ◌≤◌, zero-le, Bool, true, false, cond, ◌&&◌, List, [], ◌∷◌, ◌++◌, length, Some, None, refl, sym, ap, ◌∙◌}
 use Rattle.std.specs.Prelude.{IsTrue, ◌==◌, nat_lt, nat_le, slice_index_or, filter}
 use Rattle.std.specs.List.{AllByRecursion, flat_map, enumerate_from}
@@ -23,7 +23,8 @@ use Rattle.repl_model.specs.Units.{At, positions, change_of, changes_up_to, last
 use Rattle.repl_model.specs.SourceAt.{unplaced, after_units, units_between}
 use Rattle.repl_model.specs.ChangeRows.{rows_of, rows_of_placed, shows_nothing, change_rows, changes_between, after_change_row, after_change_rows}
 use Rattle.repl_model.specs.Copies.{copy_at, KeepsWholeRows, IsWhole, LeavesKey, RecordLeavesKey, LeavesKeys}
-use Rattle.repl_model.proofs.Lists.{each_filter, each_filter_map}
+use Rattle.repl_model.proofs.Lists.{each_filter_map}
+use Rattle.repl_types.specs.laws.Lists.{all_filter}
 use Rattle.repl_model.proofs.Rows.{insert_removed}
 use Rattle.repl_model.proofs.Source.{source_zero, source_onward}
 
@@ -66,7 +67,7 @@ pub after_change_rows-append : (def : TableDef) (xs ys : List CdRow) (rows : Row
 after_change_rows-append def [] ys rows = refl
 after_change_rows-append def (x ∷ xs) ys rows = after_change_rows-append def xs ys (after_change_row def x rows)
 
--- a change of a unit leaves the key, where it is of the table
+-- a change of a unit leaves the key, if it is of the table
 abbrev pub PlacedLeavesKey : TableDef → Placed → Type 0
 PlacedLeavesKey def placed = IsTrue (bytes_eq (table_of placed.change) def.name) → LeavesKey def placed.change
 
@@ -113,7 +114,7 @@ changes_leave : (def : TableDef) (tx before : ℕ) (log : List LogRecord) → Le
 changes_leave def tx before log h =
     let here = λ (r : At). RecordLeavesKey def r.1 in
     let between = λ (r : At). nat_lt (last_end tx before log) r.0 && nat_lt r.0 before in
-    each_filter_map (change_of tx) here (PlacedLeavesKey def) (change_leaves def tx) (filter between (positions log)) (each_filter here between (positions log) (at_positions def 1 log h))
+    each_filter_map (change_of tx) here (PlacedLeavesKey def) (change_leaves def tx) (filter between (positions log)) (all_filter here between (positions log) (at_positions def 1 log h))
 
 -- the changes of each unit leave the keys
 units_leave : (def : TableDef) (log : List LogRecord) → LeavesKeys def log → AllByRecursion (λ u. AllByRecursion (PlacedLeavesKey def) u.changes) (units log)
@@ -129,10 +130,10 @@ units_leave def log h = each_filter_map (unit_at log) (λ (r : At). RecordLeaves
 pub copy_onward : (def : TableDef) (reg : Registration) (low high : ℕ) (log : List LogRecord) → KeepsWholeRows def reg → LeavesKeys def log → low ≤ high → after_change_rows def (changes_between log reg low high) (copy_at def log low) ≡ copy_at def log high
 unfolding changes_between
 copy_onward def reg low high log keeps h below =
-    by_units def reg (units_between low high log) (copy_at def log low) keeps (each_filter {X = Unit} (λ u. AllByRecursion (PlacedLeavesKey def) u.changes) (λ u. nat_lt low u.head.seq && nat_le u.head.seq high) (units log) (units_leave def log h))
+    by_units def reg (units_between low high log) (copy_at def log low) keeps (all_filter {X = Unit} (λ u. AllByRecursion (PlacedLeavesKey def) u.changes) (λ u. nat_lt low u.head.seq && nat_le u.head.seq high) (units log) (units_leave def log h))
     ∙ sym (source_onward def low high log below)
 
--- a copy that is kept by change rows alone is the source
+-- a copy that is kept only by change rows is the source
 pub copy_by_rows : (def : TableDef) (reg : Registration) (log : List LogRecord) → KeepsWholeRows def reg → LeavesKeys def log → after_change_rows def (changes_between log reg 0 (last_commit log)) empty ≡ copy_at def log (last_commit log)
 copy_by_rows def reg log keeps h =
     ap (after_change_rows def (changes_between log reg 0 (last_commit log))) (sym (source_zero def log))

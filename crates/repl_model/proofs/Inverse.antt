@@ -15,17 +15,17 @@ none_is : (o : Option Values) → is_none o ≡ true → o ≡ None
 none_is None e = refl
 none_is (Some row) e = absurd cc
 
--- where what stands is just a row, it is the row
+-- if what stands is tested to be a row, it is the row
 row_is : (row : Values) (o : Option Values) → is_row row o ≡ true → o ≡ Some row
 row_is row None e = absurd cc
 row_is row (Some found) e = ap (λ (r : Values). Some r) (same_values_exact found row e)
 
--- a step and the one back, where the change is of the table
+-- a step and the one back, if the change is of the table
 undone : (named ok : Bool) (rows : Rows) (there back : Rows → Rows) → (ok ≡ true → back (there rows) ≡ rows) → cond named ok true ≡ true → cond named (back (cond named (there rows) rows)) (cond named (there rows) rows) ≡ rows
 undone true ok rows there back h e = h e
 undone false ok rows there back h e = refl
 
--- where a change applies, the change and then its inverse leave the rows as they were
+-- if a change applies, the change and then its inverse leave the rows as they were
 pub undo : (def : TableDef) (change : Change) (rows : Rows) → applies def change rows ≡ true → after_change def (inverse change) (after_change def change rows) ≡ rows
 unfolding applies after_change
 undo def (Insert table row) rows e =

@@ -18,7 +18,8 @@ use Rattle.repl_types.specs.declared.change_row.Registration.{Registration}
 use Rattle.repl_model.specs.Units.{At, positions, ends, last_end, change_of, changes_up_to, open_changes, unit_of, unit_at, units, last_seq, last_time, last_commit}
 use Rattle.repl_model.specs.SourceAt.{units_up_to, units_between}
 use Rattle.repl_model.specs.ChangeRows.{change_rows, changes_between}
-use Rattle.repl_model.proofs.Lists.{each_weaker, each_push, filter_alike, filter_all, filter_none, filter_map_alike, fold_alike}
+use Rattle.repl_model.proofs.Lists.{each_push, filter_map_alike, fold_alike}
+use Rattle.repl_types.specs.laws.Lists.{all_weaker, filter_alike, filter_all, filter_none}
 
 -- ---- positions
 
@@ -34,11 +35,11 @@ positions_push log r = enumerate_push 1 (length log + 1) log r (omega arith)
 -- positions from k on are k and above, and end below k and the length
 enumerate_within : (k : ℕ) (log : List LogRecord) → AllByRecursion (λ (r : At). (k ≤ r.0) × (r.0 < k + length log)) (enumerate_from k log)
 enumerate_within k [] = tt
-enumerate_within k (x ∷ log) = ((omega arith, omega arith), each_weaker {X = At} (λ r. (k + 1 ≤ r.0) × (r.0 < k + 1 + length log)) (λ r. (k ≤ r.0) × (r.0 < k + length (x ∷ log))) (λ r h. (omega arith, omega arith)) (enumerate_from (k + 1) log) (enumerate_within (k + 1) log))
+enumerate_within k (x ∷ log) = ((omega arith, omega arith), all_weaker {X = At} (λ r. (k + 1 ≤ r.0) × (r.0 < k + 1 + length log)) (λ r. (k ≤ r.0) × (r.0 < k + length (x ∷ log))) (enumerate_from (k + 1) log) (λ r h. (omega arith, omega arith)) (enumerate_within (k + 1) log))
 
 -- a position is at most the log's length
 pub positions_within : (log : List LogRecord) → AllByRecursion (λ (r : At). r.0 < length log + 1) (positions log)
-positions_within log = each_weaker {X = At} (λ r. (1 ≤ r.0) × (r.0 < 1 + length log)) (λ r. r.0 < length log + 1) (λ r h. omega arith) (positions log) (enumerate_within 1 log)
+positions_within log = all_weaker {X = At} (λ r. (1 ≤ r.0) × (r.0 < 1 + length log)) (λ r. r.0 < length log + 1) (positions log) (λ r h. omega arith) (enumerate_within 1 log)
 
 -- ---- changes up to a position
 
@@ -67,7 +68,7 @@ cons_option_nil : {X : Type 0} (o : Option X) → cons_option o [] ≡ option_to
 cons_option_nil None = refl
 cons_option_nil (Some x) = refl
 
--- the position of a transaction's last end in the whole log, 0 where there is none
+-- the position of a transaction's last end in the whole log, 0 if there is none
 final_end : ℕ → List LogRecord → ℕ
 final_end tx log = fold (λ last r. cond (ends tx r.1) r.0 last) 0 (positions log)
 
@@ -87,10 +88,10 @@ open_changes_is tx log =
     let n = length log + 1 in
     let bounded = λ (last : ℕ) (r : At). cond (ends tx r.1 && nat_lt r.0 n) r.0 last in
     let free = λ (last : ℕ) (r : At). cond (ends tx r.1) r.0 last in
-    let same : last_end tx n log ≡ final_end tx log = fold_alike bounded free 0 (positions log) (each_weaker {X = At} (λ r. r.0 < n) (λ r. (c : ℕ) → bounded c r ≡ free c r) (λ r h c. ap (λ (b : Bool). cond b r.0 c) (with_true (ends tx r.1) (nat_lt r.0 n) (lt-ltb r.0 n h))) (positions log) (positions_within log)) in
+    let same : last_end tx n log ≡ final_end tx log = fold_alike bounded free 0 (positions log) (all_weaker {X = At} (λ r. r.0 < n) (λ r. (c : ℕ) → bounded c r ≡ free c r) (positions log) (λ r h c. ap (λ (b : Bool). cond b r.0 c) (with_true (ends tx r.1) (nat_lt r.0 n) (lt-ltb r.0 n h))) (positions_within log)) in
     ap (λ (low : ℕ). filter_map (change_of tx) (filter (λ (r : At). nat_lt low r.0 && nat_lt r.0 n) (positions log))) same
     ∙ ap (filter_map (change_of tx)) (filter_alike {X = At} (λ r. nat_lt (final_end tx log) r.0 && nat_lt r.0 n) (λ r. nat_lt (final_end tx log) r.0) (positions log)
-    (each_weaker {X = At} (λ r. r.0 < n) (λ r. (nat_lt (final_end tx log) r.0 && nat_lt r.0 n) ≡ nat_lt (final_end tx log) r.0) (λ r h. with_true (nat_lt (final_end tx log) r.0) (nat_lt r.0 n) (lt-ltb r.0 n h)) (positions log) (positions_within log)))
+    (all_weaker {X = At} (λ r. r.0 < n) (λ r. (nat_lt (final_end tx log) r.0 && nat_lt r.0 n) ≡ nat_lt (final_end tx log) r.0) (positions log) (λ r h. with_true (nat_lt (final_end tx log) r.0) (nat_lt r.0 n) (lt-ltb r.0 n h)) (positions_within log)))
   where
     with_true : (a b : Bool) → b ≡ true → (a && b) ≡ a
     with_true true b e = e
@@ -117,7 +118,7 @@ open_changes_push tx log r =
         let n = length log + 1 in
         let past = λ (p : At). nat_lt n p.0 ≡ false in
         ap (filter_map (change_of tx)) (filter_none {X = At} (λ p. nat_lt n p.0) (positions log ++ (n, r) ∷ [])
-        (each_push past (positions log) (n, r) (each_weaker {X = At} (λ p. p.0 < n) past (λ p h. le-ltb n p.0 (omega arith)) (positions log) (positions_within log)) (le-ltb n n (omega arith))))
+        (each_push past (positions log) (n, r) (all_weaker {X = At} (λ p. p.0 < n) past (positions log) (λ p h. le-ltb n p.0 (omega arith)) (positions_within log)) (le-ltb n n (omega arith))))
     by_end false =
         let n = length log + 1 in
         let low = final_end tx log in
@@ -127,10 +128,6 @@ open_changes_push tx log r =
         ∙ filter_map-append (change_of tx) (filter after (positions log)) ((n, r) ∷ [])
         ∙ ap (λ (cs : List Placed). cs ++ cons_option (change_of tx (n, r)) []) (sym (open_changes_is tx log))
         ∙ ap (λ (cs : List Placed). open_changes tx log ++ cs) (cons_option_nil (change_of tx (n, r)))
-
--- of the empty log nothing is in flight
-pub open_changes_nil : (tx : ℕ) → open_changes tx [] ≡ []
-open_changes_nil tx = refl
 
 -- a change of the transaction is added at its position, and one of another transaction adds nothing
 pub open_changes_change : (tx t : ℕ) (change : Change) (log : List LogRecord) → open_changes tx (log ++ records.Change t change ∷ []) ≡ (if t == tx then open_changes tx log ++ record { pos = length log + 1; change = change } ∷ [] else open_changes tx log)
@@ -157,7 +154,7 @@ open_changes_abort tx t log = open_changes_push tx log (records.Abort t) ∙ ap 
 units_stay : (log : List LogRecord) (r : LogRecord) → filter_map (unit_at (log ++ r ∷ [])) (positions log) ≡ units log
 unfolding units
 units_stay log r = filter_map_alike (unit_at (log ++ r ∷ [])) (unit_at log) (positions log)
-    (each_weaker {X = At} (λ p. p.0 < length log + 1) (λ p. unit_at (log ++ r ∷ []) p ≡ unit_at log p) (λ p h. same p.0 p.1 h) (positions log) (positions_within log))
+    (all_weaker {X = At} (λ p. p.0 < length log + 1) (λ p. unit_at (log ++ r ∷ []) p ≡ unit_at log p) (positions log) (λ p h. same p.0 p.1 h) (positions_within log))
   where
     same : (pos : ℕ) (q : LogRecord) → pos < length log + 1 → unit_at (log ++ r ∷ []) (pos, q) ≡ unit_at log (pos, q)
     same pos (records.Change tx change) h = refl
@@ -196,7 +193,7 @@ units_commit tx time authid origin log =
 
 -- the bounds of one position on, seen from one before
 seqs_wider : (k : ℕ) (log : List LogRecord) (us : List Unit) → AllByRecursion (λ u. (k + 1 ≤ u.head.seq) × (u.head.seq < k + 1 + length log)) us → AllByRecursion (λ u. (k ≤ u.head.seq) × (u.head.seq < k + suc (length log))) us
-seqs_wider k log us h = each_weaker {X = Unit} (λ u. (k + 1 ≤ u.head.seq) × (u.head.seq < k + 1 + length log)) (λ u. (k ≤ u.head.seq) × (u.head.seq < k + suc (length log))) (λ u h. (omega arith, omega arith)) us h
+seqs_wider k log us h = all_weaker {X = Unit} (λ u. (k + 1 ≤ u.head.seq) × (u.head.seq < k + 1 + length log)) (λ u. (k ≤ u.head.seq) × (u.head.seq < k + suc (length log))) us (λ u h. (omega arith, omega arith)) h
 
 -- the seqs of the units from position k on are k and above, and end below k and the length
 seqs_from : (whole : List LogRecord) (k : ℕ) (log : List LogRecord) → AllByRecursion (λ u. (k ≤ u.head.seq) × (u.head.seq < k + length log)) (filter_map (unit_at whole) (enumerate_from k log))
@@ -208,7 +205,7 @@ seqs_from whole k (records.Abort tx ∷ log) = seqs_wider k log (filter_map (uni
 -- a unit's seq is a position of the log
 pub seqs_within : (log : List LogRecord) → AllByRecursion (λ u. (0 < u.head.seq) × (u.head.seq ≤ length log)) (units log)
 unfolding units
-seqs_within log = each_weaker {X = Unit} (λ u. (1 ≤ u.head.seq) × (u.head.seq < 1 + length log)) (λ u. (0 < u.head.seq) × (u.head.seq ≤ length log)) (λ u h. (omega arith, omega arith)) (units log) (seqs_from log 1 log)
+seqs_within log = all_weaker {X = Unit} (λ u. (1 ≤ u.head.seq) × (u.head.seq < 1 + length log)) (λ u. (0 < u.head.seq) × (u.head.seq ≤ length log)) (units log) (λ u h. (omega arith, omega arith)) (seqs_from log 1 log)
 
 -- the last seq of the units from position k on, or the one before, is the greatest
 last_seq_from : (whole : List LogRecord) (k last : ℕ) (log : List LogRecord) → last < k → (last ≤ fold (λ last u. u.head.seq) last (filter_map (unit_at whole) (enumerate_from k log)))
@@ -225,14 +222,6 @@ pub seqs_to_last : (log : List LogRecord) → AllByRecursion (λ u. u.head.seq �
 unfolding units
 seqs_to_last log = (last_seq_from log 1 0 log (omega arith)).1
 
--- the last commit is a position of the log, or 0
-pub last_commit_within : (log : List LogRecord) → last_commit log ≤ length log
-last_commit_within log = last_within (length log) 0 (units log) (omega arith) (each_weaker {X = Unit} (λ u. (0 < u.head.seq) × (u.head.seq ≤ length log)) (λ u. u.head.seq ≤ length log) (λ u h. h.1) (units log) (seqs_within log))
-  where
-    last_within : (m last : ℕ) (us : List Unit) → last ≤ m → AllByRecursion (λ u. u.head.seq ≤ m) us → fold (λ last u. u.head.seq) last us ≤ m
-    last_within m last [] l h = l
-    last_within m last (u ∷ us) l h = last_within m u.head.seq us h.0 h.1
-
 -- each unit's seq is below those of the later ones
 abbrev pub Rising : List Unit → Type 0
 Rising [] = ⊤
@@ -244,7 +233,7 @@ rising_from whole k [] = tt
 rising_from whole k (records.Change tx change ∷ log) = rising_from whole (k + 1) log
 rising_from whole k (records.Commit tx time authid origin ∷ log) =
     let rest = filter_map (unit_at whole) (enumerate_from (k + 1) log) in
-    (each_weaker {X = Unit} (λ v. (k + 1 ≤ v.head.seq) × (v.head.seq < k + 1 + length log)) (λ v. k < v.head.seq) (λ v h. omega arith) rest (seqs_from whole (k + 1) log), rising_from whole (k + 1) log)
+    (all_weaker {X = Unit} (λ v. (k + 1 ≤ v.head.seq) × (v.head.seq < k + 1 + length log)) (λ v. k < v.head.seq) rest (λ v h. omega arith) (seqs_from whole (k + 1) log), rising_from whole (k + 1) log)
 rising_from whole k (records.Abort tx ∷ log) = rising_from whole (k + 1) log
 
 -- the seqs of a log's units rise
@@ -273,9 +262,9 @@ split_rising low high (u ∷ us) h rising =
 
     later : low < u.head.seq → filter (up_to high) (u ∷ us) ≡ filter (up_to low) (u ∷ us) ++ filter between (u ∷ us)
     later above =
-        let all : AllByRecursion (λ v. low < v.head.seq) (u ∷ us) = (above, each_weaker {X = Unit} (λ v. u.head.seq < v.head.seq) (λ v. low < v.head.seq) (λ v h. omega arith) us rising.0) in
-        filter_alike (up_to high) between (u ∷ us) (each_weaker {X = Unit} (λ v. low < v.head.seq) (λ v. up_to high v ≡ between v) (λ v h. ap (λ (b : Bool). b && nat_le v.head.seq high) (sym (lt-ltb low v.head.seq h))) (u ∷ us) all)
-        ∙ ap (λ (vs : List Unit). vs ++ filter between (u ∷ us)) (sym (filter_none (up_to low) (u ∷ us) (each_weaker {X = Unit} (λ v. low < v.head.seq) (λ v. up_to low v ≡ false) (λ v h. lt-leb v.head.seq low h) (u ∷ us) all)))
+        let all : AllByRecursion (λ v. low < v.head.seq) (u ∷ us) = (above, all_weaker {X = Unit} (λ v. u.head.seq < v.head.seq) (λ v. low < v.head.seq) us (λ v h. omega arith) rising.0) in
+        filter_alike (up_to high) between (u ∷ us) (all_weaker {X = Unit} (λ v. low < v.head.seq) (λ v. up_to high v ≡ between v) (u ∷ us) (λ v h. ap (λ (b : Bool). b && nat_le v.head.seq high) (sym (lt-ltb low v.head.seq h))) all)
+        ∙ ap (λ (vs : List Unit). vs ++ filter between (u ∷ us)) (sym (filter_none (up_to low) (u ∷ us) (all_weaker {X = Unit} (λ v. low < v.head.seq) (λ v. up_to low v ≡ false) (u ∷ us) (λ v h. lt-leb v.head.seq low h) all)))
 
 -- the units up to a point are those up to an earlier one, and those from there on
 pub units_split : (low high : ℕ) (log : List LogRecord) → low ≤ high → units_up_to high log ≡ units_up_to low log ++ units_between low high log
@@ -292,7 +281,7 @@ units_join low mid high log h k = append_cancel_left (units_up_to low log) (unit
 -- up to position 0 there are no units
 pub units_up_to_zero : (log : List LogRecord) → units_up_to 0 log ≡ []
 units_up_to_zero log = filter_none {X = Unit} (λ u. nat_le u.head.seq 0) (units log)
-    (each_weaker {X = Unit} (λ u. (0 < u.head.seq) × (u.head.seq ≤ length log)) (λ u. nat_le u.head.seq 0 ≡ false) (λ u h. lt-leb u.head.seq 0 h.0) (units log) (seqs_within log))
+    (all_weaker {X = Unit} (λ u. (0 < u.head.seq) × (u.head.seq ≤ length log)) (λ u. nat_le u.head.seq 0 ≡ false) (units log) (λ u h. lt-leb u.head.seq 0 h.0) (seqs_within log))
 
 -- a commit is the last commit
 pub last_commit_commit : (tx time : ℕ) (authid : List ℕ) (origin : Option SetId) (log : List LogRecord) → last_commit (log ++ records.Commit tx time authid origin ∷ []) ≡ length log + 1
@@ -324,15 +313,15 @@ units_between_stay low high log r h = kept_units_stay (λ u. nat_lt low u.head.s
 -- up to the last commit there are all units
 pub units_up_to_last : (log : List LogRecord) → units_up_to (last_commit log) log ≡ units log
 units_up_to_last log = filter_all {X = Unit} (λ u. nat_le u.head.seq (last_commit log)) (units log)
-    (each_weaker {X = Unit} (λ u. u.head.seq ≤ last_commit log) (λ u. nat_le u.head.seq (last_commit log) ≡ true) (λ u h. le-leb u.head.seq (last_commit log) h) (units log) (seqs_to_last log))
+    (all_weaker {X = Unit} (λ u. u.head.seq ≤ last_commit log) (λ u. nat_le u.head.seq (last_commit log) ≡ true) (units log) (λ u h. le-leb u.head.seq (last_commit log) h) (seqs_to_last log))
 
 -- the change rows up to the last commit are those of all units
 pub changes_to_last : (log : List LogRecord) (reg : Registration) → changes_between log reg 0 (last_commit log) ≡ flat_map (change_rows reg) (units log)
 unfolding changes_between
 changes_to_last log reg = ap (flat_map (change_rows reg)) (
     filter_alike {X = Unit} (λ u. nat_lt 0 u.head.seq && nat_le u.head.seq (last_commit log)) (λ u. nat_le u.head.seq (last_commit log)) (units log)
-    (each_weaker {X = Unit} (λ u. (0 < u.head.seq) × (u.head.seq ≤ length log)) (λ u. (nat_lt 0 u.head.seq && nat_le u.head.seq (last_commit log)) ≡ nat_le u.head.seq (last_commit log))
-    (λ u h. ap (λ (b : Bool). b && nat_le u.head.seq (last_commit log)) (lt-ltb 0 u.head.seq h.0)) (units log) (seqs_within log))
+    (all_weaker {X = Unit} (λ u. (0 < u.head.seq) × (u.head.seq ≤ length log)) (λ u. (nat_lt 0 u.head.seq && nat_le u.head.seq (last_commit log)) ≡ nat_le u.head.seq (last_commit log)) (units log)
+    (λ u h. ap (λ (b : Bool). b && nat_le u.head.seq (last_commit log)) (lt-ltb 0 u.head.seq h.0)) (seqs_within log))
     ∙ units_up_to_last log)
 
 -- change rows are captured piece by piece

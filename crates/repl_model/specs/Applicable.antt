@@ -50,11 +50,11 @@ change_fits def (Delete table row) = fits def row
 change_fits def (Start table) = false
 change_fits def (Stop table) = false
 
--- a change record of a server with one table is applicable where it is of that table and fits it
+-- a change record of a server with one table is applicable if it is of that table and fits it
 abbrev pub is_change_applicable : TableDef → Change → Bool
 is_change_applicable def change = bytes_eq (table_of change) def.name && change_fits def change
 
--- a commit record is applicable where its time isn't below that of the last commit, and its unit's changes
+-- a commit record is applicable if its time isn't below that of the last commit, and its unit's changes
 -- apply one after another to the committed rows. An abort is always applicable.
 unfoldable pub is_applicable : TableDef → List LogRecord → LogRecord → Bool
 is_applicable def log (records.Change tx change) = is_change_applicable def change

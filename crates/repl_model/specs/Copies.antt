@@ -1,4 +1,4 @@
--- What a copy is, and what keeps it by change rows alone.
+-- What a copy is, and which registrations and logs let change rows keep it.
 use Rattle.std.specs.Prelude.{◌≡◌, ℕ, Bool, false, IsTrue, ◌==◌, List, length}
 use Rattle.std.specs.List.{AllByRecursion, list_all, list_any, range_with_len}
 use Rattle.std.specs.Str.{bytes_eq}

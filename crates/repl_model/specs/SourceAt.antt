@@ -7,13 +7,13 @@ use Rattle.repl_types.specs.declared.table.TableDef.{TableDef}
 use Rattle.repl_types.specs.declared.unit.Placed.{Placed}
 use Rattle.repl_types.specs.declared.unit.Unit.{Unit}
 use Rattle.repl_model.specs.Tables.{Rows, after_changes}
-use Rattle.repl_model.specs.Units.{units, last_time}
+use Rattle.repl_model.specs.Units.{units}
 
 -- changes without their positions
 abbrev pub unplaced : List Placed → List Change
 unplaced changes = map (λ placed. placed.change) changes
 
--- the rows of a table after the changes of these units, in order
+-- the rows of a table after the changes of some units, in order
 abbrev pub after_units : TableDef → List Unit → Rows → Rows
 after_units def [] rows = rows
 after_units def (u ∷ us) rows = after_units def us (after_changes def (unplaced u.changes) rows)
@@ -29,7 +29,3 @@ units_between low high log = filter (λ u. nat_lt low u.head.seq && nat_le u.hea
 -- the rows of a table after all units up to a point, from no rows
 unfoldable pub source_at : TableDef → List LogRecord → ℕ → Rows
 source_at def log point = after_units def (units_up_to point log) empty
-
--- the time of the last unit up to a point
-unfoldable pub time_at : List LogRecord → ℕ → ℕ
-time_at log point = last_time (units_up_to point log)

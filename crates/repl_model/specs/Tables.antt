@@ -50,18 +50,18 @@ inverse (Delete table row) = Insert table row
 inverse (Start table) = Start table
 inverse (Stop table) = Stop table
 
--- what stands at a key is just this row
+-- what stands at a key is this row
 abbrev pub is_row : Values → Option Values → Bool
 is_row row None = false
 is_row row (Some found) = same_values found row
 
--- the rows hold just this row at its key
+-- the rows hold this row at its key
 abbrev pub holds : TableDef → Values → Rows → Bool
 holds def row rows = is_row row (get rows (key_of def row))
 
--- whether a change applies to the rows of its own table: an insert where its key is absent, a delete where
--- the row of its key is its row, and an update where the row of the before-image's key is the before-image
--- and the new key is the same or absent
+-- whether a change applies to the rows of its own table: an insert if its key is absent, a delete if the
+-- row of its key is its row, and an update if the row of the before-image's key is the before-image and
+-- the new key is the same or absent
 abbrev pub applies_here : TableDef → Change → Rows → Bool
 applies_here def (Insert table row) rows = is_none (get rows (key_of def row))
 applies_here def (Update table before after) rows = holds def before rows

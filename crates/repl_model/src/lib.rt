@@ -1,11 +1,18 @@
 //! What a source log means: its units, the rows of a table at each point, the change rows of a
 //! registration, and which records are applicable.
 //!
-//! It has no code of its own. The definitions stand in `specs/`, where the contracts of the crates
-//! above find them, and the functions here state what follows from them, for every log.
+//! It stands on `repl_types`. `row_changes` and `copy_lists` stand on it, and their contracts name
+//! its definitions, which stand in `specs/`. The functions here have no code: their contracts are
+//! laws about the definitions, for every log. Six of them serve the proofs of `copy_lists`; `undo`,
+//! `capture_by_pieces`, `worked_log` and `worked_mixed_log` are stated for readers, and no proof of
+//! another crate uses them.
+//!
+//! For example, the log of the lines `insert 1 items 1 'pen'` and `commit 1 ann 100` has one unit,
+//! whose seq is 2, and the copy of `items` at the point 2 has the row `(1, 'pen')`.
 #![tactic(auto)]
 
-ghost use Rattle.std.specs.Prelude.{◌≡◌, ◌∷◌, [], ◌++◌, ◌+◌, ◌<◌, ◌≤◌, ◌==◌, ℕ, IsTrue, List, length, map, take, codes, Option, if◌then◌else◌};
+ghost use Rattle.std.specs.Prelude.{◌≡◌, ◌∷◌, [], ◌++◌, ◌+◌, ◌<◌, ◌≤◌, ◌==◌, ℕ, IsTrue, List};
+ghost use Rattle.std.specs.Prelude.{length, map, take, codes, Option, if◌then◌else◌};
 ghost use Rattle.std.specs.List.{AllByRecursion, flat_map};
 ghost use Rattle.std.specs.FinMap.{empty, insert};
 ghost use Rattle.repl_types.specs.declared.record.Change.{Change};
@@ -22,7 +29,8 @@ ghost use Rattle.repl_model.specs.SourceAt.{unplaced, after_units, source_at};
 ghost use Rattle.repl_model.specs.ChangeRows.{change_rows, changes_between, after_change_rows};
 ghost use Rattle.repl_model.specs.Applicable.{is_applicable};
 ghost use Rattle.repl_model.specs.Copies.{copy_at, KeepsWholeRows, LeavesKeys, is_key_fixed};
-ghost use Rattle.repl_model.specs.Worked.{items, item_key, item, plain_log, mixed_log, as_they_come, taken_apart, change_row};
+ghost use Rattle.repl_model.specs.Worked.{items, item_key, item, plain_log, mixed_log};
+ghost use Rattle.repl_model.specs.Worked.{as_they_come, taken_apart, change_row};
 
 /// The empty log has no units, nothing in flight, no commit and no rows.
 pub fn empty_log()
@@ -68,7 +76,7 @@ pub fn in_flight_grows()
 {}
 
 /// What one more record does to the rows of a table: a commit makes the changes that its
-/// transaction has in flight, and all else leaves them. The rows at an earlier point stay for good.
+/// transaction has in flight, and all else leaves them. The rows at an earlier point never change.
 pub fn source_grows()
     ensures change { (def : TableDef) (tx : ℕ) (change : Change) (log : List LogRecord)
         → source_at def (log ++ records.Change tx change ∷ [])
@@ -93,7 +101,7 @@ pub fn up_to_last_commit()
         → changes_between log reg 0 (last_commit log) ≡ flat_map (change_rows reg) (units log) }
 {}
 
-/// Change rows may be captured piece by piece, and those up to a point stay for good.
+/// Change rows may be captured piece by piece, and those up to a point never change.
 pub fn capture_by_pieces()
     ensures joined { (log : List LogRecord) (reg : Registration) (low mid high : ℕ) → low ≤ mid
         → mid ≤ high → changes_between log reg low high ≡ changes_between log reg low mid
@@ -103,9 +111,9 @@ pub fn capture_by_pieces()
         ≡ changes_between log reg low high }
 {}
 
-/// A copy that is kept by the change rows of a registration alone, whole rows as they come, is the
+/// A copy that is kept only by the change rows of a registration, whole rows as they come, is the
 /// source: from no rows up to the last commit, and from a copy at one point up to a later one. The
-/// log's changes leave the keys, as they do where the key is fixed and each record was applicable.
+/// log's changes leave the keys, as they do if the key is fixed and each record was applicable.
 pub fn copy_by_change_rows()
     ensures whole { (def : TableDef) (reg : Registration) (log : List LogRecord)
         → KeepsWholeRows def reg → LeavesKeys def log
@@ -120,7 +128,7 @@ pub fn copy_by_change_rows()
         → LeavesKeys def (log ++ r ∷ []) }
 {}
 
-/// Where a change applies, the change and then its inverse leave the rows as they were.
+/// If a change applies, the change and then its inverse leave the rows as they were.
 pub fn undo()
     ensures { (def : TableDef) (change : Change) (rows : Rows) → IsTrue (applies def change rows)
         → after_change def (inverse change) (after_change def change rows) ≡ rows }

@@ -18,7 +18,7 @@ IsChangeRow r = IsRow r.after × IsRow r.before
 abbrev pub HasChangeRowSpelling : ChangeRow → Type 0
 HasChangeRowSpelling r = IsCounted r.after × IsCounted r.before
 
--- the rejection codes of units, 0 for a unit that stands
+-- the valid rejection codes of units: 0 for a unit that isn't rejected, and 1 to 4
 abbrev pub IsCode : ℕ → Type 0
 IsCode code = code ≤ 4
 
@@ -26,7 +26,7 @@ IsCode code = code ≤ 4
 abbrev pub uow_spelling : UowRow → List ℕ
 uow_spelling r = b64 r.time ++ short_text r.authid ++ origin r.origin ++ b8 r.code
 
--- captured units whose time has eight bytes, whose names are names, and whose code is one
+-- captured units whose time has eight bytes, whose names are names, and whose code is a valid code
 abbrev pub IsUow : UowRow → Type 0
 IsUow r = Is64 r.time × IsName r.authid × IsOrigin r.origin × IsCode r.code
 

@@ -22,10 +22,10 @@ decided_spelling r = b64 r.t ++ b64 r.d
 abbrev pub IsDecided : Decided → Type 0
 IsDecided r = Is64 r.t × Is64 r.d
 
--- a rejected unit is its code, which isn't 0
+-- the record of a rejected unit: its code
 abbrev pub rejected_spelling : RejectedUnit → List ℕ
 rejected_spelling r = b8 r.code
 
--- the rejected units whose code says so
+-- the rejected units whose code is a valid code other than 0
 abbrev pub IsRejected : RejectedUnit → Type 0
 IsRejected r = (1 ≤ r.code) × IsCode r.code

@@ -11,11 +11,11 @@ use Rattle.repl_records.specs.declared.record_keys.MemberKey.{MemberKey}
 use Rattle.repl_types.specs.Sequence.{sequence_cmp}
 use Rattle.row_codec.specs.Spelling.{Is32, Is64, IsSequence, b32, b64, sequence_spelling}
 
--- the key of a table that has one record is one byte, which says nothing
+-- the key of a table that has one record: one byte, always the same
 abbrev pub single_spelling : Single → List ℕ
-single_spelling key = 0 ∷ []
+single_spelling key = 0x00 ∷ []
 
--- there is one such key
+-- the one key of such a table ties with itself
 abbrev pub single_cmp : Single → Single → Ordering
 single_cmp k l = Equal
 
@@ -23,7 +23,7 @@ single_cmp k l = Equal
 abbrev pub in_flight_key_spelling : InFlightKey → List ℕ
 in_flight_key_spelling key = b32 key.tx ++ b64 key.pos
 
--- the keys whose numbers have their bytes
+-- the keys whose numbers fit in their bytes
 abbrev pub IsInFlightKey : InFlightKey → Type 0
 IsInFlightKey key = Is32 key.tx × Is64 key.pos
 
@@ -35,7 +35,7 @@ in_flight_key_cmp k l = ordering_then (nat_cmp k.tx l.tx) (nat_cmp k.pos l.pos)
 abbrev pub change_key_spelling : CdKey → List ℕ
 change_key_spelling key = b64 key.commitseq ++ sequence_spelling key.intentseq
 
--- the keys whose numbers have their bytes
+-- the keys whose numbers fit in their bytes
 abbrev pub IsChangeKey : CdKey → Type 0
 IsChangeKey key = Is64 key.commitseq × IsSequence key.intentseq
 
@@ -47,7 +47,7 @@ change_key_cmp k l = ordering_then (nat_cmp k.commitseq l.commitseq) (sequence_c
 abbrev pub unit_key_spelling : UnitKey → List ℕ
 unit_key_spelling key = b32 key.set ++ b64 key.seq
 
--- the keys whose numbers have their bytes
+-- the keys whose numbers fit in their bytes
 abbrev pub IsUnitKey : UnitKey → Type 0
 IsUnitKey key = Is32 key.set × Is64 key.seq
 
@@ -59,7 +59,7 @@ unit_key_cmp k l = ordering_then (nat_cmp k.set l.set) (nat_cmp k.seq l.seq)
 abbrev pub member_key_spelling : MemberKey → List ℕ
 member_key_spelling key = b32 key.set ++ b32 key.member
 
--- the keys whose numbers have their bytes
+-- the keys whose numbers fit in their bytes
 abbrev pub IsMemberKey : MemberKey → Type 0
 IsMemberKey key = Is32 key.set × Is32 key.member
 

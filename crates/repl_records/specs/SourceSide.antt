@@ -17,9 +17,9 @@ IsSourceRow r = IsRow r.row
 abbrev pub HasSourceRowSpelling : SourceRow → Type 0
 HasSourceRowSpelling r = IsCounted r.row
 
--- that a change is in flight is one byte, which says nothing more
+-- the record of a change in flight: one byte, always the same, since its key says all
 abbrev pub in_flight_spelling : InFlight → List ℕ
-in_flight_spelling r = 0 ∷ []
+in_flight_spelling r = 0x00 ∷ []
 
 -- the end of a log: its last position, its last commit and that commit's time
 abbrev pub head_spelling : Head → List ℕ

@@ -50,7 +50,7 @@ HasAggregateSpelling r = IsCounted r.row
 abbrev pub recorded_spelling : Sequence → Op → ℕ → ℕ → Values → List ℕ
 recorded_spelling intentseq op commitseq time row = sequence_spelling intentseq ++ op_spelling op ++ b64 commitseq ++ b64 time ++ row_spelling row
 
--- changes whose numbers have their bytes, with rows that have a spelling
+-- changes whose numbers fit in their bytes, with rows that have a spelling
 abbrev pub IsRecorded : Sequence → ℕ → ℕ → Values → Type 0
 IsRecorded intentseq commitseq time row = IsSequence intentseq × Is64 commitseq × Is64 time × IsRow row
 
@@ -58,11 +58,11 @@ IsRecorded intentseq commitseq time row = IsSequence intentseq × Is64 commitseq
 abbrev pub history_spelling : HistoryRow → List ℕ
 history_spelling r = recorded_spelling r.intentseq r.op r.commitseq r.time r.row
 
--- such rows whose numbers have their bytes and whose values have a spelling
+-- rows of tables that keep every change whose numbers fit in their bytes and whose values have a spelling
 abbrev pub IsHistory : HistoryRow → Type 0
 IsHistory r = IsRecorded r.intentseq r.commitseq r.time r.row
 
--- such rows whose count has two bytes
+-- rows of tables that keep every change whose count has two bytes
 abbrev pub HasHistorySpelling : HistoryRow → Type 0
 HasHistorySpelling r = IsCounted r.row
 
@@ -70,10 +70,10 @@ HasHistorySpelling r = IsCounted r.row
 abbrev pub latest_spelling : LatestRow → List ℕ
 latest_spelling r = recorded_spelling r.intentseq r.op r.commitseq r.time r.row
 
--- such rows whose numbers have their bytes and whose values have a spelling
+-- rows that keep the latest change of their key whose numbers fit in their bytes and whose values have a spelling
 abbrev pub IsLatest : LatestRow → Type 0
 IsLatest r = IsRecorded r.intentseq r.commitseq r.time r.row
 
--- such rows whose count has two bytes
+-- rows that keep the latest change of their key whose count has two bytes
 abbrev pub HasLatestSpelling : LatestRow → Type 0
 HasLatestSpelling r = IsCounted r.row

@@ -4,21 +4,22 @@ use Rattle.repl_records.specs.declared.trail.TrailEntry.{TrailEntry}
 use Rattle.repl_records.specs.declared.trail.TrailEntry.TheVariants.{Refresh, Block, Load, Settle}
 use Rattle.row_codec.specs.Spelling.{Is64, b64}
 
--- the point of base aggregates: whether there is one, and the point, 0 where there is none
+-- the point of base aggregates: whether there is one, and the point, 0 if there is none
 abbrev pub base_spelling : Option ℕ → List ℕ
-base_spelling None = 0 ∷ b64 0
-base_spelling (Some q) = 1 ∷ b64 q
+base_spelling None = 0x00 ∷ b64 0
+base_spelling (Some q) = 0x01 ∷ b64 q
 
--- the points that have eight bytes, and none
+-- no point, or a point that has eight bytes
 abbrev pub IsBase : Option ℕ → Type 0
 IsBase base = IfSome base Is64
 
--- an entry of a trail: 1 for a refresh, 2 for a block, 3 for a load, 4 for a settling, and its numbers
+-- an entry of a trail: 0x01 for a refresh, 0x02 for a block, 0x03 for a load, 0x04 for a settling, and its
+-- numbers
 abbrev pub entry_spelling : TrailEntry → List ℕ
-entry_spelling (Refresh p rows base) = 1 ∷ (b64 p ++ b64 rows ++ base_spelling base)
-entry_spelling (Block from to inserts updates deletes base) = 2 ∷ (b64 from ++ b64 to ++ b64 inserts ++ b64 updates ++ b64 deletes ++ base_spelling base)
-entry_spelling (Load m f rows) = 3 ∷ (b64 m ++ b64 f ++ b64 rows)
-entry_spelling (Settle m f rejected applied) = 4 ∷ (b64 m ++ b64 f ++ b64 rejected ++ b64 applied)
+entry_spelling (Refresh p rows base) = 0x01 ∷ (b64 p ++ b64 rows ++ base_spelling base)
+entry_spelling (Block from to inserts updates deletes base) = 0x02 ∷ (b64 from ++ b64 to ++ b64 inserts ++ b64 updates ++ b64 deletes ++ base_spelling base)
+entry_spelling (Load m f rows) = 0x03 ∷ (b64 m ++ b64 f ++ b64 rows)
+entry_spelling (Settle m f rejected applied) = 0x04 ∷ (b64 m ++ b64 f ++ b64 rejected ++ b64 applied)
 
 -- the entries whose numbers have eight bytes
 abbrev pub IsEntry : TrailEntry → Type 0

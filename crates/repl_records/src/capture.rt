@@ -1,7 +1,12 @@
 //! What capture keeps at a source.
 
-ghost use Rattle.repl_records.specs.Capture.{IsChangeRow, HasChangeRowSpelling, change_row_spelling, IsUow, HasUowSpelling, uow_spelling, IsCapture, capture_spelling, IsRegistrationState, registration_state_spelling};
-ghost use Rattle.repl_records.specs.laws.Capture.{one_change_row, again_change_row, one_uow, again_uow, small_uow, one_capture, small_capture, one_registration_state, small_registration_state};
+ghost use Rattle.repl_records.specs.Capture.{IsChangeRow, HasChangeRowSpelling};
+ghost use Rattle.repl_records.specs.Capture.{change_row_spelling, IsUow, HasUowSpelling};
+ghost use Rattle.repl_records.specs.Capture.{uow_spelling, IsCapture, capture_spelling};
+ghost use Rattle.repl_records.specs.Capture.{IsRegistrationState, registration_state_spelling};
+ghost use Rattle.repl_records.specs.laws.Capture.{one_change_row, again_change_row, one_uow};
+ghost use Rattle.repl_records.specs.laws.Capture.{again_uow, small_uow, one_capture, small_capture};
+ghost use Rattle.repl_records.specs.laws.Capture.{one_registration_state, small_registration_state};
 ghost use Rattle.repl_types.specs.declared.area.Area.TheVariants as areas;
 ghost use Rattle.row_codec.specs.Spelling.{Any};
 ghost use Rattle.row_codec.specs.Storable.{IsStorable};

@@ -1,7 +1,9 @@
 //! What pruning and deciding keep at a source.
 
-ghost use Rattle.repl_records.specs.Prune.{IsMark, mark_spelling, IsDecided, decided_spelling, IsRejected, rejected_spelling};
-ghost use Rattle.repl_records.specs.laws.Prune.{one_mark, small_mark, one_decided, small_decided, one_rejected, small_rejected};
+ghost use Rattle.repl_records.specs.Prune.{IsMark, mark_spelling, IsDecided, decided_spelling};
+ghost use Rattle.repl_records.specs.Prune.{IsRejected, rejected_spelling};
+ghost use Rattle.repl_records.specs.laws.Prune.{one_mark, small_mark, one_decided, small_decided};
+ghost use Rattle.repl_records.specs.laws.Prune.{one_rejected, small_rejected};
 ghost use Rattle.repl_types.specs.declared.area.Area.TheVariants as areas;
 ghost use Rattle.row_codec.specs.Spelling.{Any};
 

@@ -1,7 +1,18 @@
 //! Keys of records.
 
-ghost use Rattle.repl_records.specs.RecordKeys.{single_spelling, single_cmp, in_flight_key_spelling, IsInFlightKey, in_flight_key_cmp, change_key_spelling, IsChangeKey, change_key_cmp, unit_key_spelling, IsUnitKey, unit_key_cmp, member_key_spelling, IsMemberKey, member_key_cmp};
-ghost use Rattle.repl_records.specs.laws.RecordKeys.{one_single, order_single, key_single, one_in_flight_key, order_in_flight_key, key_in_flight_key, one_change_key, order_change_key, key_change_key, one_unit_key, order_unit_key, key_unit_key, one_member_key, order_member_key, key_member_key};
+ghost use Rattle.repl_records.specs.RecordKeys.{single_spelling, single_cmp};
+ghost use Rattle.repl_records.specs.RecordKeys.{in_flight_key_spelling, IsInFlightKey};
+ghost use Rattle.repl_records.specs.RecordKeys.{in_flight_key_cmp, change_key_spelling};
+ghost use Rattle.repl_records.specs.RecordKeys.{IsChangeKey, change_key_cmp, unit_key_spelling};
+ghost use Rattle.repl_records.specs.RecordKeys.{IsUnitKey, unit_key_cmp, member_key_spelling};
+ghost use Rattle.repl_records.specs.RecordKeys.{IsMemberKey, member_key_cmp};
+ghost use Rattle.repl_records.specs.laws.RecordKeys.{one_single, order_single, key_single};
+ghost use Rattle.repl_records.specs.laws.RecordKeys.{one_in_flight_key, order_in_flight_key};
+ghost use Rattle.repl_records.specs.laws.RecordKeys.{key_in_flight_key, one_change_key};
+ghost use Rattle.repl_records.specs.laws.RecordKeys.{order_change_key, key_change_key};
+ghost use Rattle.repl_records.specs.laws.RecordKeys.{one_unit_key, order_unit_key, key_unit_key};
+ghost use Rattle.repl_records.specs.laws.RecordKeys.{one_member_key, order_member_key};
+ghost use Rattle.repl_records.specs.laws.RecordKeys.{key_member_key};
 ghost use Rattle.row_codec.specs.Spelling.{Any};
 
 use repl_types::Sequence;
@@ -24,12 +35,12 @@ impl Part for Single {
     ghost again = { λ _ _. tt };
 
     fn put_part(&self, out: &mut Vec<u8>) -> Result<(), AllocError> {
-        Ok(out.push(0)?)
+        Ok(out.push(0x00)?)
     }
 
     fn take_part(_: Global, bytes: &[u8]) -> Result<(Single, &[u8]), TakeError> {
         match bytes {
-            [0, rest @ ..] => Ok((Single, rest)),
+            [0x00, rest @ ..] => Ok((Single, rest)),
             _ => Err(TakeError::Spelling),
         }
     }
@@ -45,7 +56,7 @@ impl PartKey for Single {
     ghost small = { key_single };
 }
 
-/// What tells the changes in flight apart: the transaction, and the change's position.
+/// The key of a change in flight: the transaction, and the change's position.
 #[derive(Clone, Copy, Debug, PartialEq, Eq)]
 pub struct InFlightKey {
     pub tx: u32,
@@ -84,8 +95,8 @@ impl PartKey for InFlightKey {
     ghost small = { key_in_flight_key };
 }
 
-/// What tells the rows of a change-data table apart, in the order of the log's units and of the
-/// changes in each.
+/// The key of a row of a change-data table: the seq of its unit, and the place of its change. So
+/// rows are in the order of the log's units, and of the changes in each.
 #[derive(Clone, Copy, Debug, PartialEq, Eq)]
 pub struct CdKey {
     pub commitseq: u64,
@@ -130,7 +141,7 @@ impl PartKey for CdKey {
     ghost small = { key_change_key };
 }
 
-/// What tells the decided units of a source's sets apart.
+/// The key of a decided unit: the set's number at its source, and the unit's seq.
 #[derive(Clone, Copy, Debug, PartialEq, Eq)]
 pub struct UnitKey {
     pub set: u32,
@@ -169,7 +180,7 @@ impl PartKey for UnitKey {
     ghost small = { key_unit_key };
 }
 
-/// What tells the targets of a server's sets apart.
+/// The key of a target: the set's number at the server, and the member's place in the set.
 #[derive(Clone, Copy, Debug, PartialEq, Eq)]
 pub struct MemberKey {
     pub set: u32,

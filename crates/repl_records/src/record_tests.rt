@@ -6,7 +6,8 @@ ghost use Rattle.row_codec.specs.Spelling.{IsCounted};
 use crate::{
     AggregateRow, CaptureState, CdKey, ChangeRow, CopyRow, Decided, Head, HistoryRow, InFlight,
     InFlightKey, LastNumber, LatestRow, MemberKey, PointRow, RegState, RejectedUnit, SetState,
-    Single, SourceRow, SyncMark, TrailEntry, UnitKey, UowRow, records_of_64_values_are_storable,
+    Single, SourceRow, SyncMark, TrailEntry, UnitKey, UowRow, first_states_have_spellings,
+    records_of_64_values_are_storable,
 };
 use repl_types::{List, Name, Op, Row, Sequence, SetId, Value};
 use row_codec::{Key, Stored, TakeError};
@@ -469,6 +470,7 @@ fn bytes_that_are_no_record(rt: HostRuntime) {
 }
 
 #[test]
-fn the_law_is_called(_: HostRuntime) {
+fn the_laws_are_called(_: HostRuntime) {
     records_of_64_values_are_storable();
+    first_states_have_spellings();
 }

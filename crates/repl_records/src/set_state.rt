@@ -1,11 +1,13 @@
 //! How far sets are at their targets.
 
 ghost use Rattle.std.specs.Prelude.{◌≡◌, ◌++◌, ◌↔◌, IsTrue, IfOk};
-ghost use Rattle.repl_records.specs.SetState.{HasNumbers, IsState, ZeroWhereAbsent, state_spelling, IsLastNumber, last_number_spelling};
-ghost use Rattle.repl_records.specs.laws.SetState.{one_state, small_state, one_last_number, small_last_number};
+ghost use Rattle.repl_records.specs.SetState.{HasNumbers, IsState, ZeroIfAbsent, state_spelling};
+ghost use Rattle.repl_records.specs.SetState.{IsLastNumber, last_number_spelling};
+ghost use Rattle.repl_records.specs.laws.SetState.{one_state, small_state, one_last_number};
+ghost use Rattle.repl_records.specs.laws.SetState.{small_last_number};
 ghost use Rattle.repl_types.specs.declared.area.Area.TheVariants as areas;
 ghost use Rattle.row_codec.specs.Spelling.{Any};
-ghost use Rattle.row_codec.specs.Takes.{NoFront};
+ghost use Rattle.row_codec.specs.Takes.{NoPrefix};
 
 use crate::record_keys::MemberKey;
 use repl_types::Area;
@@ -37,15 +39,15 @@ pub enum SetState {
     },
 }
 
-/// What the spelling of a read-only set's state begins with.
-const READ_ONLY: u8 = 1;
-/// What the spelling of a replica set's state begins with.
-const REPLICA: u8 = 2;
+/// The tag of a read-only set's state.
+const READ_ONLY: u8 = 0x01;
+/// The tag of a replica set's state.
+const REPLICA: u8 = 0x02;
 
 impl Part for SetState {
     ghost fits = { IsState };
 
-    ghost has_spelling = { ZeroWhereAbsent };
+    ghost has_spelling = { ZeroIfAbsent };
 
     ghost spelling = { state_spelling };
 
@@ -91,7 +93,7 @@ impl Part for SetState {
     #[tactic(auto, using(crate::specs::laws::SetState::no_other_state))]
     fn take_part(alloc: Global, bytes: &[u8]) -> Result<(SetState, &[u8]), TakeError> {
         let (state, rest) = take_state(alloc, bytes)?;
-        if !is_zero_where_absent(&state) {
+        if !is_zero_if_absent(&state) {
             return Err(TakeError::Spelling);
         }
         Ok((state, rest))
@@ -99,8 +101,8 @@ impl Part for SetState {
 }
 
 /// Whether the numbers of absent points are 0.
-fn is_zero_where_absent(state: &SetState) -> bool
-    ensures { IsTrue result ↔ ZeroWhereAbsent state.now }
+fn is_zero_if_absent(state: &SetState) -> bool
+    ensures { IsTrue result ↔ ZeroIfAbsent state.now }
 {
     match state {
         SetState::ReadOnly {
@@ -119,14 +121,14 @@ fn is_zero_where_absent(state: &SetState) -> bool
     }
 }
 
-/// A state of a set from the start of the bytes, whatever stands in the place of absent points, and
-/// the bytes after it.
+/// A state of a set from the start of the bytes, with any numbers in the place of absent points,
+/// and the bytes after it.
 #[tactic(auto, using(crate::specs::laws::SetState::only_read_only, crate::specs::laws::SetState::only_replica))]
 fn take_state(alloc: Global, bytes: &[u8]) -> Result<(SetState, &[u8]), TakeError>
     ensures ok { IfOk result (λ part. HasNumbers part.0
         × (bytes.now ≡ state_spelling part.0 ++ part.1.now)) }
     ensures spelling { result ≡ Err TakeError.Spelling
-        → NoFront HasNumbers state_spelling bytes.now }
+        → NoPrefix HasNumbers state_spelling bytes.now }
 {
     match bytes {
         [READ_ONLY, rest @ ..] => {
@@ -165,7 +167,7 @@ impl Stored for SetState {
 
     ghost AREA = { areas.SetState };
 
-    ghost storable = { ZeroWhereAbsent };
+    ghost storable = { ZeroIfAbsent };
 
     ghost spelled = { λ _ storable. storable };
 

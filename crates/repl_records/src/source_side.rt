@@ -1,7 +1,11 @@
 //! Records of a source: its tables, its changes in flight, and the end of its log.
 
-ghost use Rattle.repl_records.specs.SourceSide.{IsSourceRow, HasSourceRowSpelling, source_row_spelling, in_flight_spelling, IsHead, head_spelling};
-ghost use Rattle.repl_records.specs.laws.SourceSide.{one_source_row, again_source_row, one_in_flight, small_in_flight, one_head, small_head};
+ghost use Rattle.repl_records.specs.SourceSide.{IsSourceRow, HasSourceRowSpelling};
+ghost use Rattle.repl_records.specs.SourceSide.{source_row_spelling, in_flight_spelling, IsHead};
+ghost use Rattle.repl_records.specs.SourceSide.{head_spelling};
+ghost use Rattle.repl_records.specs.laws.SourceSide.{one_source_row, again_source_row};
+ghost use Rattle.repl_records.specs.laws.SourceSide.{one_in_flight, small_in_flight, one_head};
+ghost use Rattle.repl_records.specs.laws.SourceSide.{small_head};
 ghost use Rattle.repl_types.specs.declared.area.Area.TheVariants as areas;
 ghost use Rattle.row_codec.specs.Spelling.{Any};
 ghost use Rattle.row_codec.specs.Storable.{IsStorable};
@@ -56,7 +60,7 @@ impl Stored for SourceRow {
     ghost again_stored = { λ x fits sized. (again_source_row x fits, sized) };
 }
 
-/// That a change of a transaction in flight stands at a position of the log.
+/// The record of a change of a transaction in flight. Its key says all.
 #[derive(Clone, Copy, Debug, PartialEq, Eq)]
 pub struct InFlight;
 
@@ -72,12 +76,12 @@ impl Part for InFlight {
     ghost again = { λ _ _. tt };
 
     fn put_part(&self, out: &mut Vec<u8>) -> Result<(), AllocError> {
-        Ok(out.push(0)?)
+        Ok(out.push(0x00)?)
     }
 
     fn take_part(_: Global, bytes: &[u8]) -> Result<(InFlight, &[u8]), TakeError> {
         match bytes {
-            [0, rest @ ..] => Ok((InFlight, rest)),
+            [0x00, rest @ ..] => Ok((InFlight, rest)),
             _ => Err(TakeError::Spelling),
         }
     }

@@ -1,8 +1,15 @@
 //! Rows of targets.
 
 ghost use Rattle.std.specs.Prelude.{◌≡◌, ◌++◌, OnOk};
-ghost use Rattle.repl_records.specs.TargetSide.{IsCopy, HasCopySpelling, copy_spelling, IsPoint, HasPointSpelling, point_spelling, IsAggregate, HasAggregateSpelling, aggregate_spelling, IsRecorded, recorded_spelling, IsHistory, HasHistorySpelling, history_spelling, IsLatest, HasLatestSpelling, latest_spelling};
-ghost use Rattle.repl_records.specs.laws.TargetSide.{one_copy, again_copy, one_point, again_point, one_aggregate, again_aggregate, one_history, again_history, one_latest, again_latest};
+ghost use Rattle.repl_records.specs.TargetSide.{IsCopy, HasCopySpelling, copy_spelling, IsPoint};
+ghost use Rattle.repl_records.specs.TargetSide.{HasPointSpelling, point_spelling, IsAggregate};
+ghost use Rattle.repl_records.specs.TargetSide.{HasAggregateSpelling, aggregate_spelling};
+ghost use Rattle.repl_records.specs.TargetSide.{IsRecorded, recorded_spelling, IsHistory};
+ghost use Rattle.repl_records.specs.TargetSide.{HasHistorySpelling, history_spelling, IsLatest};
+ghost use Rattle.repl_records.specs.TargetSide.{HasLatestSpelling, latest_spelling};
+ghost use Rattle.repl_records.specs.laws.TargetSide.{one_copy, again_copy, one_point, again_point};
+ghost use Rattle.repl_records.specs.laws.TargetSide.{one_aggregate, again_aggregate, one_history};
+ghost use Rattle.repl_records.specs.laws.TargetSide.{again_history, one_latest, again_latest};
 ghost use Rattle.repl_types.specs.declared.area.Area.TheVariants as areas;
 ghost use Rattle.row_codec.specs.Spelling.{IsCounted};
 ghost use Rattle.row_codec.specs.Storable.{IsStorable};

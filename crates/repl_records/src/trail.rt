@@ -5,7 +5,7 @@ ghost use Rattle.repl_records.specs.Trail.{IsBase, base_spelling, IsEntry, entry
 ghost use Rattle.repl_records.specs.laws.Trail.{one_base, one_entry, small_entry};
 ghost use Rattle.repl_types.specs.declared.area.Area.TheVariants as areas;
 ghost use Rattle.row_codec.specs.Spelling.{Any, b64};
-ghost use Rattle.row_codec.specs.Takes.{NoFront};
+ghost use Rattle.row_codec.specs.Takes.{NoPrefix};
 
 use repl_types::Area;
 use row_codec::{Part, Stored, TakeError, take_four, take_six, take_three};
@@ -44,8 +44,8 @@ impl Part for Base {
     #[tactic(auto, unfolding(row_codec::specs::Spelling::b64))]
     fn take_part(alloc: Global, bytes: &[u8]) -> Result<(Base, &[u8]), TakeError> {
         match bytes {
-            [0, 0, 0, 0, 0, 0, 0, 0, 0, rest @ ..] => Ok((Base { point: None }, rest)),
-            [1, rest @ ..] => {
+            [0x00, 0, 0, 0, 0, 0, 0, 0, 0, rest @ ..] => Ok((Base { point: None }, rest)),
+            [0x01, rest @ ..] => {
                 let (point, rest) = u64::take_part(alloc, rest)?;
                 Ok((Base { point: Some(point) }, rest))
             }
@@ -63,14 +63,14 @@ fn put_base(point: Option<u64>, out: &mut Vec<u8>) -> Result<(), AllocError>
     point.unwrap_or(0).put_part(out)
 }
 
-/// What the spelling of a refresh's entry begins with.
-const REFRESH: u8 = 1;
-/// What the spelling of a block's entry begins with.
-const BLOCK: u8 = 2;
-/// What the spelling of a load's entry begins with.
-const LOAD: u8 = 3;
-/// What the spelling of a settling's entry begins with.
-const SETTLE: u8 = 4;
+/// The tag of a refresh's entry.
+const REFRESH: u8 = 0x01;
+/// The tag of a block's entry.
+const BLOCK: u8 = 0x02;
+/// The tag of a load's entry.
+const LOAD: u8 = 0x03;
+/// The tag of a settling's entry.
+const SETTLE: u8 = 0x04;
 
 /// What a set's trail keeps of a step, under its number, which counts from 1. `base` is the point
 /// of base aggregates, if some were read.
@@ -196,9 +196,9 @@ fn put_three(first: u64, second: u64, third: u64, out: &mut Vec<u8>) -> Result<(
 #[tactic(auto, using(crate::specs::laws::Trail::only_block))]
 fn take_block(alloc: Global, bytes: &[u8]) -> Result<(TrailEntry, &[u8]), TakeError>
     ensures ok { IfOk result
-        (λ taken. IsEntry taken.0 × (2 ∷ bytes.now ≡ entry_spelling taken.0 ++ taken.1.now)) }
+        (λ taken. IsEntry taken.0 × (0x02 ∷ bytes.now ≡ entry_spelling taken.0 ++ taken.1.now)) }
     ensures spelling { result ≡ Err TakeError.Spelling
-        → NoFront IsEntry entry_spelling (2 ∷ bytes.now) }
+        → NoPrefix IsEntry entry_spelling (0x02 ∷ bytes.now) }
 {
     let (from, to, inserts, updates, deletes, base, rest) = take_six::<
         u64,

@@ -19,6 +19,10 @@ area_number areas.Target = 11
 area_number areas.SetState = 12
 area_number areas.Trail = 13
 
--- two areas are one
+-- one more than the highest number of an area
+abbrev pub area_numbers_end : ℕ
+area_numbers_end = 14
+
+-- whether two areas are the same
 abbrev pub same_area : Area → Area → Bool
 same_area a b = area_number a == area_number b

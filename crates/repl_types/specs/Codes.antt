@@ -7,26 +7,26 @@ use Rattle.repl_types.specs.declared.value.Value.{Value}
 use Rattle.repl_types.specs.declared.value.Value.TheVariants.{Null, Int, Text}
 
 -- which variant a value is, and what it holds
-abbrev pub split : Value → Unit {0} ⊎ (ℤ ⊎ List ℕ)
-split Null = inl tt
-split (Int n) = inr (inl n)
-split (Text t) = inr (inr t)
+abbrev pub variant_of : Value → Unit {0} ⊎ (ℤ ⊎ List ℕ)
+variant_of Null = inl tt
+variant_of (Int n) = inr (inl n)
+variant_of (Text t) = inr (inr t)
 
 -- the value of such a variant
-abbrev pub joined : Unit {0} ⊎ (ℤ ⊎ List ℕ) → Value
-joined (inl _) = Null
-joined (inr (inl n)) = Int n
-joined (inr (inr t)) = Text t
+abbrev pub value_of_variant : Unit {0} ⊎ (ℤ ⊎ List ℕ) → Value
+value_of_variant (inl _) = Null
+value_of_variant (inr (inl n)) = Int n
+value_of_variant (inr (inr t)) = Text t
 
 -- a value that is taken apart and put together again is the same
-pub joined-split : (v : Value) → joined (split v) ≡ v
-joined-split Null = refl
-joined-split (Int n) = refl
-joined-split (Text t) = refl
+pub value_of_variant-variant_of : (v : Value) → value_of_variant (variant_of v) ≡ v
+value_of_variant-variant_of Null = refl
+value_of_variant-variant_of (Int n) = refl
+value_of_variant-variant_of (Text t) = refl
 
 -- a value as plain data
 abbrev pub coded_value : Coded Value
-coded_value = code_by (Unit {0} ⊎ (ℤ ⊎ List ℕ)) (coded⊎ coded_unit (coded⊎ coded_ℤ (coded_list coded_ℕ))) split joined joined-split
+coded_value = code_by (Unit {0} ⊎ (ℤ ⊎ List ℕ)) (coded⊎ coded_unit (coded⊎ coded_ℤ (coded_list coded_ℕ))) variant_of value_of_variant value_of_variant-variant_of
 
 -- a row as plain data
 abbrev pub coded_row : Coded (List Value)

@@ -3,7 +3,7 @@ use Rattle.std.specs.Prelude.{ℕ, ◌-◌, ◌^◌, ℤ, pos, negsuc, Bool, ◌
 use Rattle.std.specs.Str.{all_ascii_digits}
 use Rattle.std.specs.Str.Parse.{digits_value}
 
--- digits, the first of them not 0 but in `0` itself
+-- decimal digits, the first of which isn't 0 except in `0` itself
 abbrev pub is_numeral : List ℕ → Bool
 is_numeral word = nat_lt 0 (length word) && all_ascii_digits word && (not (slice_index word 0 == 48) || length word == 1)
 

@@ -8,11 +8,12 @@ use Rattle.repl_types.specs.declared.sequence.Sequence.{Sequence}
 abbrev pub sequence_cmp : Sequence → Sequence → Ordering
 sequence_cmp s t = ordering_then (nat_cmp s.position t.position) (nat_cmp s.sub t.sub)
 
--- a hexadecimal digit
+-- the hexadecimal digit of a number below 16
 abbrev pub hex_digit : ℕ → ℕ
 hex_digit n = slice_index (codes "0123456789abcdef") n
 
--- the last digits of a number in hexadecimal, so many, with zeros in front
+-- the last hexadecimal digits of a number: as many as the count says, with zeros before them if it has
+-- fewer
 unfoldable pub hex_digits : ℕ → ℕ → List ℕ
 hex_digits zero n = []
 hex_digits (suc count) n = hex_digits count (n / 16) ++ hex_digit (n % 16) ∷ []

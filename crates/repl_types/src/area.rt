@@ -1,7 +1,7 @@
 //! What a server stores, by kind.
 
 ghost use Rattle.std.specs.Prelude.{◌≡◌, ◌<◌};
-ghost use Rattle.repl_types.specs.Area.{area_number};
+ghost use Rattle.repl_types.specs.Area.{area_number, area_numbers_end};
 
 /// What a server stores, by kind. Stored keys begin with the number of their area.
 #[derive(Clone, Copy, Debug, PartialEq, Eq)]
@@ -22,13 +22,13 @@ pub enum Area {
 }
 
 impl Area {
-    /// How many numbers there are: those of areas are from 1 on, and below this.
+    /// One more than the highest number of an area. The lowest is 1.
     pub const NUMBERS: usize = 14;
 
     /// The area's number.
     pub fn number(self) -> u8
         ensures number { result ≡ area_number self }
-        ensures small { result < 14 }
+        ensures small { result < area_numbers_end }
     {
         self as u8
     }

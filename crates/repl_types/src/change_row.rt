@@ -24,8 +24,11 @@ pub struct Registration {
 /// What a change row does to its key.
 #[derive(Clone, Copy, Debug, PartialEq, Eq)]
 pub enum Op {
+    /// An insert.
     I,
+    /// An update.
     U,
+    /// A delete.
     D,
 }
 

@@ -1,16 +1,15 @@
 //! Names of servers, tables, columns, sets and users.
 
 ghost use Rattle.std.specs.Prelude.{◌≡◌, IfOk, IsTrue};
-ghost use Rattle.repl_types.specs.Name.{is_name, is_name as is_name_lem, is_name_byte as is_name_byte_lem, name_of};
+ghost use Rattle.repl_types.specs.Name.{is_name, is_name as is_name_lem};
+ghost use Rattle.repl_types.specs.Name.{is_name_byte as is_name_byte_lem, name_of};
 
+use crate::sizes::NAME_LIMIT;
 use crate::text::Text;
 use std::alloc::{AllocError, Global};
 use std::marker::Model;
 use std::str;
 use thiserror::Error;
-
-/// The most bytes that a name may have.
-const NAME_LIMIT: usize = 32;
 
 /// Why a text gave no name.
 #[derive(Clone, Copy, Debug, PartialEq, Eq, Error)]
@@ -42,8 +41,8 @@ impl Model for Name {
 }
 
 impl Name {
-    /// The name that a text is. `Spelling` comes just where it is none, and `Memory` where there is
-    /// no memory for a copy.
+    /// The name that a text is. `Spelling` is returned only if it isn't a name, and `Memory` only
+    /// if it is one and there is no memory for a copy.
     pub fn new(alloc: Global, text: &str) -> Result<Name, NameError>
         ensures ok { IfOk result (λ name. IsTrue (is_name text.now) × (name ≡ text.now)) }
         ensures spelling { result ≡ Err NameError.Spelling → ¬ (IsTrue (is_name text.now)) }
@@ -57,7 +56,7 @@ impl Name {
         })
     }
 
-    /// The name that these bytes are, where they are one.
+    /// The name that these bytes are, if they are one.
     pub fn read(alloc: Global, bytes: &[u8]) -> Result<Option<Name>, AllocError>
         ensures { IfOk result (λ name. name ≡ name_of bytes.now) }
     {
@@ -72,6 +71,7 @@ impl Name {
         }))
     }
 
+    /// The name as a string.
     pub fn as_str(&self) -> &str
         ensures text { result.now ≡ self.now }
         ensures name { IsTrue (is_name self.now) }
@@ -80,12 +80,14 @@ impl Name {
     }
 }
 
+/// Whether a byte may stand in a name.
 fn is_name_byte(byte: u8) -> bool
     ensures { result ≡ is_name_byte_lem byte }
 {
     matches!(byte, b'a'..=b'z' | b'0'..=b'9' | b'_')
 }
 
+/// Whether bytes are a name.
 fn is_name(bytes: &[u8]) -> bool
     ensures { result ≡ is_name_lem bytes.now }
 {

@@ -11,7 +11,7 @@ pub struct SetId {
 }
 
 /// What a change record says. A start or a stop makes the registration of a table active or
-/// inactive; the program alone writes these two.
+/// inactive; only the program writes these two.
 #[derive(Clone, Debug, Drop, PartialEq, Eq)]
 pub enum Change {
     Insert {
@@ -37,7 +37,7 @@ pub enum Change {
 
 /// A record of a log: a change of a transaction, or the transaction's end. A transaction is named
 /// by its number `tx`; 0 is the program's own. The time of a commit is in whole seconds, and its
-/// origin is the set that made the unit, where one did.
+/// origin is the set that made the unit, if a set did.
 #[derive(Clone, Debug, Drop, PartialEq, Eq)]
 pub enum LogRecord {
     Change {

@@ -22,6 +22,7 @@ pub fn sequence_order(first: &Sequence, second: &Sequence) -> Ordering
     first.cmp(second)
 }
 
+/// The hexadecimal digits, from 0 on.
 const HEX_DIGITS: &[u8; 16] = b"0123456789abcdef";
 
 /// Appends the text of a sequence: 20 hexadecimal digits, 16 of the position and 4 of the
@@ -33,7 +34,7 @@ pub fn write_sequence(sequence: &Sequence, out: &mut Vec<u8>) -> Result<(), Allo
     write_hex(u64::from(sequence.sub), 4, out)
 }
 
-/// Appends the last digits of a number, so many, with zeros in front.
+/// Appends the last `count` hexadecimal digits of a number, with zeros before them if it has fewer.
 fn write_hex(number: u64, count: u32, out: &mut Vec<u8>) -> Result<(), AllocError>
     ensures ok { OnOk result (out.new.items ≡ out.old.items ++ hex_digits count number) }
 {

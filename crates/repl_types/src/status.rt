@@ -31,7 +31,7 @@ pub enum Status {
     InputFault,
     /// A write to the output failed.
     OutputFault,
-    /// There was no memory.
+    /// The run was out of memory.
     Memory,
     /// The input has over 4,294,967,296 bytes.
     InputTooLong,

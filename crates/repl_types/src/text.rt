@@ -1,17 +1,16 @@
 //! Texts of values.
 
 ghost use Rattle.std.specs.Prelude.{◌≡◌, ℕ, ◌≤◌, length, string_bytes, string_len, refl};
-ghost use Rattle.std.specs.Ordering.{nat_cmp};
 ghost use Rattle.std.specs.Str.{IsUtf8, bytes_eq};
 ghost use Rattle.std.specs.Cmp.{partial_equiv_from_equiv};
-ghost use Rattle.std.specs.Cmp.Lexicographic.{slice_cmp, nat_list_eq_equiv, nat_list_cmp_total, texts_ties, texts_po};
+ghost use Rattle.std.specs.Cmp.Lexicographic.{nat_list_eq_equiv, nat_list_cmp_total, texts_ties};
+ghost use Rattle.std.specs.Cmp.Lexicographic.{texts_po};
+ghost use Rattle.repl_types.specs.Bytes.{bytes_cmp};
+ghost use Rattle.repl_types.specs.Sizes.{text_limit};
 
 use std::alloc::AllocError;
 use std::cmp::Ordering;
 use std::marker::Model;
-
-/// The most bytes that a text may have.
-pub const TEXT_LIMIT: usize = 1000;
 
 /// A text of at most 1,000 bytes of UTF-8. A clause sees its bytes, and texts are in the order of
 /// their bytes.
@@ -22,26 +21,28 @@ pub struct Text {
 
 impl Model for Text {
     ghost use Rattle.std.specs.Prelude.{List, ℕ, ◌≤◌, length, string_bytes};
+    ghost use Rattle.repl_types.specs.Sizes.{text_limit};
 
     ghost Value = { List ℕ };
 
     ghost view = { λ t. string_bytes t.text };
 
-    ghost invariant = { λ t. length (string_bytes t.text) ≤ 1000 };
+    ghost invariant = { λ t. length (string_bytes t.text) ≤ text_limit };
 }
 
 impl Text {
-    /// It takes no memory.
+    /// The text of a string. It takes no memory.
     pub fn new(text: String) -> Self
-        requires { string_len text ≤ 1000 }
+        requires { string_len text ≤ text_limit }
         ensures { result ≡ string_bytes text }
     {
         Text { text }
     }
 
+    /// The text as a string.
     pub fn as_str(&self) -> &str
         ensures text { result.now ≡ self.now }
-        ensures short { length self.now ≤ 1000 }
+        ensures short { length self.now ≤ text_limit }
     {
         self.text.as_str()
     }
@@ -64,7 +65,7 @@ impl Eq for Text {
 impl PartialOrd for Text {
     ghost use Rattle.std.specs.Prelude.{Some};
 
-    ghost partial_cmp = { λ x y. Some (slice_cmp nat_cmp x y) };
+    ghost partial_cmp = { λ x y. Some (bytes_cmp x y) };
 
     ghost laws = { texts_po };
 
@@ -74,7 +75,7 @@ impl PartialOrd for Text {
 }
 
 impl Ord for Text {
-    ghost cmp = { slice_cmp nat_cmp };
+    ghost cmp = { bytes_cmp };
 
     ghost total = { nat_list_cmp_total };
 

@@ -12,7 +12,7 @@ pub struct Placed {
 }
 
 /// What a commit record says of its unit. `seq` is the record's position; `code` is the rejection
-/// code that is shown for the unit, 0 where none is.
+/// code that is shown for the unit, 0 if none is.
 #[derive(Clone, Debug, Drop, PartialEq, Eq)]
 pub struct UnitHead {
     pub seq: u64,

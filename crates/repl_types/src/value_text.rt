@@ -2,15 +2,19 @@
 
 ghost use Rattle.std.specs.Prelude.{◌≡◌, ◌++◌, MatchOption, OnOk, IfOk};
 ghost use Rattle.std.specs.Option.{option_map, option_and_then};
-ghost use Rattle.repl_types.specs.Numbers.{is_numeral as is_numeral_lem, is_integer as is_integer_lem, number_of, integer_of};
-ghost use Rattle.repl_types.specs.ValueText.{escaped_byte, value_text, value_of, unescaped, closed, IsNext, text_value};
+ghost use Rattle.repl_types.specs.Numbers.{is_numeral as is_numeral_lem};
+ghost use Rattle.repl_types.specs.Numbers.{is_integer as is_integer_lem, number_of, integer_of};
+ghost use Rattle.repl_types.specs.ValueText.{escaped_byte, value_text, value_of, unescaped};
+ghost use Rattle.repl_types.specs.ValueText.{text_at_end, IsNextByte, text_value};
 
-use crate::text::{TEXT_LIMIT, Text};
+use crate::sizes::TEXT_LIMIT;
+use crate::text::Text;
 use crate::value::Value;
 use itoa::Buffer;
 use std::alloc::{AllocError, Global};
 use std::str;
 
+/// Whether a word is decimal digits, the first of which isn't 0 except in `0` itself.
 fn is_numeral(word: &[u8]) -> bool
     ensures { result ≡ is_numeral_lem word.now }
 {
@@ -21,8 +25,8 @@ fn is_numeral(word: &[u8]) -> bool
     }
 }
 
-/// The number from `low` to `high` that a word spells: decimal digits, of which the first isn't 0
-/// but in `0` itself.
+/// The number from `low` to `high` that a word spells: decimal digits, the first of which isn't 0
+/// except in `0` itself.
 pub fn read_number(word: &[u8], low: u64, high: u64) -> Option<u64>
     ensures { result ≡ number_of low high word.now }
 {
@@ -60,11 +64,11 @@ fn read_integer(word: &[u8]) -> Option<i64>
     text.parse::<i64>().ok()
 }
 
-/// The byte that stands first between quotes, and what follows it; None at the closing quote, and
-/// where no byte may stand so.
+/// The first byte that the bytes after an opening quote say, and the bytes that follow it; None if
+/// these begin with the closing quote, or with nothing that says a byte.
 fn next_byte(quoted: &[u8]) -> Option<(u8, &[u8])>
-    ensures { MatchOption result (unescaped quoted.now ≡ closed quoted.now)
-        (λ next. IsNext quoted.now next.0 next.1.now) }
+    ensures { MatchOption result (unescaped quoted.now ≡ text_at_end quoted.now)
+        (λ next. IsNextByte quoted.now next.0 next.1.now) }
 {
     let (first, after) = quoted.split_first()?;
     match first {
@@ -82,7 +86,7 @@ fn next_byte(quoted: &[u8]) -> Option<(u8, &[u8])>
     }
 }
 
-/// What the bytes after an opening quote say, where the closing quote is the last of them.
+/// What the bytes after an opening quote say, if the closing quote is the last of them.
 fn unescape(alloc: Global, quoted: &[u8]) -> Result<Option<Vec<u8>>, AllocError>
     ensures { IfOk result (λ text. option_map (λ t. t.items) text ≡ unescaped quoted.now) }
 {
@@ -98,6 +102,7 @@ fn unescape(alloc: Global, quoted: &[u8]) -> Result<Option<Vec<u8>>, AllocError>
     }
 }
 
+/// The value of the text that the bytes after an opening quote say, if they say one.
 fn read_text(alloc: Global, quoted: &[u8]) -> Result<Option<Value>, AllocError>
     ensures { IfOk result (λ value. value ≡ option_and_then text_value (unescaped quoted.now)) }
 {
@@ -128,6 +133,7 @@ pub fn read_value(alloc: Global, word: &[u8]) -> Result<Option<Value>, AllocErro
     }
 }
 
+/// Appends a byte of a text as it stands between quotes.
 fn write_byte(byte: u8, out: &mut Vec<u8>) -> Result<(), AllocError>
     ensures { OnOk result (out.new.items ≡ out.old.items ++ escaped_byte byte) }
 {
@@ -139,6 +145,7 @@ fn write_byte(byte: u8, out: &mut Vec<u8>) -> Result<(), AllocError>
     }
 }
 
+/// Appends a text in quotes.
 fn write_text(text: &Text, out: &mut Vec<u8>) -> Result<(), AllocError>
     ensures { OnOk result (out.new.items ≡ out.old.items ++ value_text (Value.Text text.now)) }
 {

@@ -1,9 +1,13 @@
 //! The change rows of changes, and what change rows do to the rows of a table.
 
 ghost use Rattle.std.specs.Prelude.{◌≡◌, ◌∷◌, [], ◌++◌, if◌then◌else◌, IfOk, OnOk};
-ghost use Rattle.repl_model.specs.ChangeRows.{no_befores as no_befores_lem, shows_nothing as shows_nothing_lem};
-ghost use Rattle.repl_model.specs.ChangeRows.{insert_row as insert_row_lem, delete_row as delete_row_lem, update_row as update_row_lem};
-ghost use Rattle.repl_model.specs.ChangeRows.{change_rows as change_rows_lem, rows_of_placed, after_change_row, after_change_rows};
+ghost use Rattle.repl_model.specs.ChangeRows.{no_befores as no_befores_lem};
+ghost use Rattle.repl_model.specs.ChangeRows.{shows_nothing as shows_nothing_lem};
+ghost use Rattle.repl_model.specs.ChangeRows.{insert_row as insert_row_lem};
+ghost use Rattle.repl_model.specs.ChangeRows.{delete_row as delete_row_lem};
+ghost use Rattle.repl_model.specs.ChangeRows.{update_row as update_row_lem};
+ghost use Rattle.repl_model.specs.ChangeRows.{change_rows as change_rows_lem, rows_of_placed};
+ghost use Rattle.repl_model.specs.ChangeRows.{after_change_row, after_change_rows};
 
 use crate::changes::{images, key_of, same_values, table_of};
 use crate::rows::Rows;
@@ -109,8 +113,8 @@ fn update_row(
     })
 }
 
-/// Appends the change rows of an update: none, a delete and an insert, or one. Out of memory, some
-/// may be appended.
+/// Appends the change rows of an update: none, a delete and an insert, or one. If memory runs out,
+/// some may be appended.
 fn change_rows_of_update(
     alloc: Global,
     reg: &Registration,
@@ -140,7 +144,7 @@ fn change_rows_of_update(
 }
 
 /// Appends the change rows of one change of a unit with this seq: none if it is of another table
-/// than the registration. Out of memory, some may be appended.
+/// than the registration. If memory runs out, some may be appended.
 pub fn change_rows_of_change(
     alloc: Global,
     reg: &Registration,
@@ -165,8 +169,8 @@ pub fn change_rows_of_change(
     Ok(())
 }
 
-/// Appends the change rows of a unit, those of its changes in order. Out of memory, some may be
-/// appended.
+/// Appends the change rows of a unit, those of its changes in order. If memory runs out, some may
+/// be appended.
 #[tactic(auto, unfolding(repl_model::specs::ChangeRows::change_rows))]
 pub fn change_rows_of_unit(
     alloc: Global,
@@ -182,8 +186,8 @@ pub fn change_rows_of_unit(
     Ok(())
 }
 
-/// Does to the rows of a table what a change row says, whose after-images are a whole row. Out of
-/// memory, the rows are unspecified.
+/// Does to the rows of a table what a change row says, whose after-images are a whole row. If
+/// memory runs out, the rows are unspecified.
 pub fn apply_change_row(
     alloc: Global,
     def: &TableDef,
@@ -200,8 +204,8 @@ pub fn apply_change_row(
     Ok(())
 }
 
-/// Does what change rows say, one after another, whose after-images are whole rows. Out of memory,
-/// the rows are unspecified.
+/// Does what change rows say, one after another, whose after-images are whole rows. If memory runs
+/// out, the rows are unspecified.
 pub fn apply_change_rows(
     alloc: Global,
     def: &TableDef,

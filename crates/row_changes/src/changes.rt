@@ -1,13 +1,19 @@
 //! Changes: which fit their table, which apply, and what they do to its rows.
 
-ghost use Rattle.std.specs.Prelude.{◌≡◌, ◌≤◌, ◌&&◌, ◌||◌, IsTrue, IfOk, if◌then◌else◌, nat_le, sum_by, is_none};
+ghost use Rattle.std.specs.Prelude.{◌≡◌, ◌≤◌, ◌&&◌, ◌||◌, IsTrue, IfOk, if◌then◌else◌, nat_le};
+ghost use Rattle.std.specs.Prelude.{sum_by, is_none};
 ghost use Rattle.std.specs.List.{list_all, zip};
 ghost use Rattle.std.specs.FinMap.{get, insert, remove};
 ghost use Rattle.repl_model.specs.Tables.{key_of as key_of_lem, same_values as same_values_lem};
-ghost use Rattle.repl_model.specs.Tables.{table_of as table_of_lem, is_row, holds as holds_lem, after_change, applies, after_changes, all_apply};
+ghost use Rattle.repl_model.specs.Tables.{table_of as table_of_lem, is_row, holds as holds_lem};
+ghost use Rattle.repl_model.specs.Tables.{after_change, applies, after_changes, all_apply};
 ghost use Rattle.repl_types.specs.Sizes.{key_limit};
 ghost use Rattle.repl_types.specs.Value.{images as images_lem, spelled_len as spelled_len_lem};
-ghost use Rattle.repl_model.specs.Applicable.{fits_column as fits_column_lem, fits_columns as fits_columns_lem, fits as fits_lem, change_fits as change_fits_lem, is_change_applicable as is_change_applicable_lem};
+ghost use Rattle.repl_types.specs.Value.{spelled_limit};
+ghost use Rattle.repl_model.specs.Applicable.{fits_column as fits_column_lem};
+ghost use Rattle.repl_model.specs.Applicable.{fits_columns as fits_columns_lem, fits as fits_lem};
+ghost use Rattle.repl_model.specs.Applicable.{change_fits as change_fits_lem};
+ghost use Rattle.repl_model.specs.Applicable.{is_change_applicable as is_change_applicable_lem};
 ghost use Rattle.repl_model.specs.SourceAt.{unplaced};
 
 use crate::rows::Rows;
@@ -46,13 +52,14 @@ pub fn key_of(alloc: Global, def: &TableDef, row: &Row) -> Result<Row, AllocErro
     images(alloc, def.key.as_slice(), row)
 }
 
-/// Whether two lists of values are alike.
+/// Whether two lists of values are equal.
 pub fn same_values(a: &Row, b: &Row) -> bool
     ensures { result ≡ same_values_lem a.now b.now }
 {
     a.cmp(b).is_eq()
 }
 
+/// Whether a value may stand in a column.
 fn fits_column(column: &ColumnDef, value: &Value) -> bool
     ensures { result ≡ fits_column_lem column.now value.now }
 {
@@ -63,7 +70,7 @@ fn fits_column(column: &ColumnDef, value: &Value) -> bool
     }
 }
 
-/// Whether each value may stand in the column at its place, as far as there are both.
+/// Whether each value may stand in the column at its place, for each place that has both.
 fn fits_pairs(columns: &[ColumnDef], row: &[Value]) -> bool
     ensures { result ≡ list_all (λ pair. fits_column_lem pair.0 pair.1) (zip columns.now row.now) }
 {
@@ -80,10 +87,10 @@ fn fits_columns(columns: &[ColumnDef], row: &[Value]) -> bool
     columns.len() == row.len() && fits_pairs(columns, row)
 }
 
-/// The bytes that a value takes in a stored key.
+/// How many bytes a value takes in a stored key.
 fn spelled_len(value: &Value) -> usize
     ensures len { result ≡ spelled_len_lem value.now }
-    ensures short { result ≤ 2003 }
+    ensures short { result ≤ spelled_limit }
 {
     match value {
         Value::Null => 1,
@@ -122,7 +129,7 @@ pub fn fits(alloc: Global, def: &TableDef, row: &Row) -> Result<bool, AllocError
 }
 
 /// Whether a change fits its table: its rows do, and an update leaves the fixed columns. The
-/// program's own starts and stops are no user's changes.
+/// program's own starts and stops don't fit: they are no changes of a user.
 #[tactic(auto, unfolding(repl_model::specs::Applicable::change_fits))]
 fn change_fits(alloc: Global, def: &TableDef, change: &Change) -> Result<bool, AllocError>
     ensures { IfOk result (λ fit. fit ≡ change_fits_lem def.now change.now) }
@@ -157,7 +164,7 @@ pub fn is_change_applicable(
     change_fits(alloc, def, change)
 }
 
-/// Whether the rows hold just this row at this key.
+/// Whether the rows hold this row at this key.
 fn holds(rows: &Rows, key: &Row, row: &Row) -> bool
     ensures { result ≡ is_row row.now (get rows.now key.now) }
 {
@@ -236,8 +243,8 @@ fn update_row(
     Ok(true)
 }
 
-/// Makes a change if it applies, and answers whether it does; if it doesn't, the rows stay. Out of
-/// memory, they are unspecified.
+/// Makes a change if it applies, and answers whether it does; if it doesn't, the rows stay. If
+/// memory runs out, they are unspecified.
 #[tactic(auto, unfolding(repl_model::specs::Tables::applies, repl_model::specs::Tables::after_change))]
 pub fn apply_change(
     alloc: Global,
@@ -261,7 +268,7 @@ pub fn apply_change(
 }
 
 /// Makes changes one after another up to the first that doesn't apply, and answers whether all do.
-/// If one doesn't, or out of memory, the rows are unspecified.
+/// If one doesn't, or if memory runs out, the rows are unspecified.
 pub fn apply_changes(
     alloc: Global,
     def: &TableDef,

@@ -62,8 +62,8 @@ impl Rows {
         self.map.get(key)
     }
 
-    /// Puts a row under a key, in place of another if there is one. Out of memory, the rows are
-    /// unspecified.
+    /// Puts a row under a key, in place of another if there is one. If memory runs out, the rows
+    /// are unspecified.
     pub fn put(&mut self, key: Row, row: Row) -> Result<(), AllocError>
         ensures { OnOk result (self.new ≡ insert self.old key row) }
     {

@@ -13,8 +13,8 @@ marked-append [] t = refl
 marked-append (b ∷ s) t = ap (λ (rest : List ℕ). marked_byte b ++ rest) (marked-append s t) ∙ sym (append_assoc (marked_byte b) (zeros_marked s) (zeros_marked t))
 
 -- one byte more is written after the tag of a text
-pub marked_more : (front t : List ℕ) (i : ℕ) → i < length t → (front ++ 2 ∷ zeros_marked (take i t)) ++ marked_byte (get_or t i 0) ≡ front ++ 2 ∷ zeros_marked (take (i + 1) t)
-marked_more front t i lt = append_assoc front (2 ∷ zeros_marked (take i t)) (marked_byte (get_or t i 0)) ∙ ap (λ (e : List ℕ). front ++ 2 ∷ e) (sym one)
+pub marked_more : (before t : List ℕ) (i : ℕ) → i < length t → (before ++ 2 ∷ zeros_marked (take i t)) ++ marked_byte (get_or t i 0) ≡ before ++ 2 ∷ zeros_marked (take (i + 1) t)
+marked_more before t i lt = append_assoc before (2 ∷ zeros_marked (take i t)) (marked_byte (get_or t i 0)) ∙ ap (λ (e : List ℕ). before ++ 2 ∷ e) (sym one)
   where
     one : zeros_marked (take (i + 1) t) ≡ zeros_marked (take i t) ++ marked_byte (get_or t i 0)
     one = ap zeros_marked (take_more t i 0 lt) ∙ marked-append (take i t) (get_or t i 0 ∷ []) ∙ ap (λ (e : List ℕ). zeros_marked (take i t) ++ e) (append-nil (marked_byte (get_or t i 0)))
@@ -48,7 +48,7 @@ marked_no_end b x r e = elim (cases_eq b 0) [
     second : 0 ∷ 255 ∷ x ≡ 0 ∷ 0 ∷ r → ⊥
     second same = absurd cc
 
--- a marked byte tells the byte and what follows
+-- a marked byte determines the byte and what follows
 one_marked : (a b : ℕ) (x y : List ℕ) → marked_byte a ++ x ≡ marked_byte b ++ y → (a ≡ b) × (x ≡ y)
 one_marked a b x y e = elim (cases_eq a 0) [
   | inl za ↦ elim (cases_eq b 0) [
@@ -64,7 +64,7 @@ one_marked a b x y e = elim (cases_eq a 0) [
     ends : 0 ∷ 255 ∷ x ≡ 0 ∷ 255 ∷ y → x ≡ y
     ends same = cc
 
--- where neither a byte of a text nor its end comes next, there is no text
+-- if neither a byte of a text nor its end comes next, there is no text
 pub no_text : (s t left r : List ℕ) → ((b : ℕ) (after : List ℕ) → left ≢ marked_byte b ++ after) → ((rest : List ℕ) → left ≢ 0 ∷ 0 ∷ rest) → zeros_marked s ++ left ≢ zeros_marked t ++ 0 ∷ 0 ∷ r
 no_text [] [] left r next done e = done r e
 no_text [] (b ∷ t) left r next done e = next b (zeros_marked t ++ 0 ∷ 0 ∷ r) (e ∙ append_assoc (marked_byte b) (zeros_marked t) (0 ∷ 0 ∷ r))
@@ -72,6 +72,6 @@ no_text (a ∷ s) [] left r next done e = marked_no_end a (zeros_marked s ++ lef
 no_text (a ∷ s) (b ∷ t) left r next done e =
     no_text s t left r next done (one_marked a b (zeros_marked s ++ left) (zeros_marked t ++ 0 ∷ 0 ∷ r) (sym (append_assoc (marked_byte a) (zeros_marked s) left) ∙ e ∙ append_assoc (marked_byte b) (zeros_marked t) (0 ∷ 0 ∷ r))).1
 
--- where the bytes that are read are no text of a value, there is none
+-- if the bytes that are read are no text of a value, there is none
 pub no_other_text : (bytes text rest : List ℕ) → bytes ≡ zeros_marked text ++ 0 ∷ 0 ∷ rest → (IsText text → ⊥) → (other after : List ℕ) → IsText other → bytes ≢ zeros_marked other ++ 0 ∷ 0 ∷ after
 no_other_text bytes text rest is bad other after good e = bad (subst IsText (sym (one_text text other rest after (sym is ∙ e)).0) good)

@@ -9,20 +9,20 @@ use Rattle.row_codec.specs.Spelling.{Any, b16, Is16, flag, short_text, IsName, l
 
 -- ---- places
 
--- a count, and two bytes for each place of a column
+-- places of columns: their count, and each in two bytes
 abbrev pub places_spelling : List ℕ → List ℕ
 places_spelling = list_spelling b16
 
--- the places that have two bytes, in a list whose count has two
+-- the lists of places whose count and places have two bytes
 abbrev pub ArePlaces : List ℕ → Type 0
 ArePlaces = ListFits Is16
 
 -- ---- tables
 
--- 1 for integers, 2 for texts
+-- 0x01 for integers, 0x02 for texts
 abbrev pub kind_spelling : Kind → List ℕ
-kind_spelling Int = 1 ∷ []
-kind_spelling Text = 2 ∷ []
+kind_spelling Int = 0x01 ∷ []
+kind_spelling Text = 0x02 ∷ []
 
 -- a column: its name, its kind, and whether it may be NULL
 abbrev pub column_spelling : ColumnDef → List ℕ

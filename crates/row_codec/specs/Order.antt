@@ -5,7 +5,7 @@ use Rattle.std.specs.declared.cmp.Ordering.{Ordering}
 use Rattle.repl_types.specs.Bytes.{bytes_cmp}
 use Rattle.repl_types.specs.declared.record.SetId.{SetId}
 
--- spellings are in the order of what they spell; where that ties, what follows decides
+-- spellings are in the order of what they spell; if that ties, what follows decides
 abbrev pub Ordered : {X : Type 0} → (X → Type 0) → (X → List ℕ) → (X → X → Ordering) → Type 0
 Ordered {X} fits spelling cmp = (x y : X) (a b : List ℕ) → fits x → fits y → bytes_cmp (spelling x ++ a) (spelling y ++ b) ≡ ordering_then (cmp x y) (bytes_cmp a b)
 

@@ -11,25 +11,25 @@ use Rattle.repl_types.specs.declared.sequence.Sequence.{Sequence}
 use Rattle.repl_types.specs.declared.value.Value.{Value}
 use Rattle.repl_types.specs.declared.value.Value.TheVariants.{Null, Int, Text}
 
--- nothing is asked
+-- nothing is asked of a value
 abbrev pub Any : {X : Type 0} → X → Type 0
 Any x = Unit {0}
 
 -- ---- numbers and flags
 
--- a number of one byte
+-- a number in one byte
 abbrev pub b8 : ℕ → List ℕ
 b8 n = n ∷ []
 
--- a number of two bytes, the higher first
+-- a number in two bytes, the higher first
 unfoldable pub b16 : ℕ → List ℕ
 b16 n = to_be_bytes w16 n
 
--- a number of four bytes, the highest first
+-- a number in four bytes, the highest first
 unfoldable pub b32 : ℕ → List ℕ
 b32 n = to_be_bytes w32 n
 
--- a number of eight bytes, the highest first
+-- a number in eight bytes, the highest first
 unfoldable pub b64 : ℕ → List ℕ
 b64 n = to_be_bytes w64 n
 
@@ -49,10 +49,10 @@ Is32 n = n < 2 ^ 32
 abbrev pub Is64 : ℕ → Type 0
 Is64 n = n < 2 ^ 64
 
--- no is 0, yes is 1
+-- 0x00 for no, 0x01 for yes
 abbrev pub flag : Bool → List ℕ
-flag false = 0 ∷ []
-flag true = 1 ∷ []
+flag false = 0x00 ∷ []
+flag true = 0x01 ∷ []
 
 -- ---- names
 
@@ -60,7 +60,7 @@ flag true = 1 ∷ []
 abbrev pub IsName : List ℕ → Type 0
 IsName name = IsTrue (is_name name)
 
--- a byte of length, and the bytes
+-- the length in a byte, and the bytes
 abbrev pub short_text : List ℕ → List ℕ
 short_text text = length text ∷ text
 
@@ -72,16 +72,16 @@ set_spelling set = short_text set.qual ++ short_text set.name
 abbrev pub IsSet : SetId → Type 0
 IsSet set = IsName set.qual × IsName set.name
 
--- 0 for nothing, or 1 and the value
+-- 0x00 for nothing, or 0x01 and the value
 abbrev pub option_spelling : {X : Type 0} → (X → List ℕ) → Option X → List ℕ
-option_spelling spelling None = 0 ∷ []
-option_spelling spelling (Some x) = 1 ∷ spelling x
+option_spelling spelling None = 0x00 ∷ []
+option_spelling spelling (Some x) = 0x01 ∷ spelling x
 
 -- nothing, or a value that meets what is asked of it
 abbrev pub OptionFits : {X : Type 0} → (X → Type 0) → Option X → Type 0
 OptionFits fits x = IfSome x fits
 
--- the set that made a unit: 0 for none, or 1 and the set's name
+-- the set that made a unit: 0x00 for none, or 0x01 and the set's name
 abbrev pub origin : Option SetId → List ℕ
 origin = option_spelling set_spelling
 
@@ -91,11 +91,11 @@ IsOrigin = OptionFits IsSet
 
 -- ---- values
 
--- a byte of a text: a zero is followed by 255
+-- a byte of a text: 0x00 is followed by 0xff
 abbrev pub marked_byte : ℕ → List ℕ
-marked_byte b = if b == 0 then 0 ∷ 255 ∷ [] else b ∷ []
+marked_byte b = if b == 0x00 then 0x00 ∷ 0xff ∷ [] else b ∷ []
 
--- the bytes of a text, so that two zeros end it
+-- the bytes of a text, marked so that two zeros can end it
 abbrev pub zeros_marked : List ℕ → List ℕ
 zeros_marked [] = []
 zeros_marked (b ∷ bs) = marked_byte b ++ zeros_marked bs
@@ -105,13 +105,13 @@ abbrev pub shifted : ℤ → ℕ
 shifted (pos n) = n + 2 ^ 63
 shifted (negsuc n) = 2 ^ 63 - 1 - n
 
--- 0 for NULL; 1 and eight bytes for an integer; 2, the bytes and two zeros for a text
+-- 0x00 for NULL; 0x01 and eight bytes for an integer; 0x02, the marked bytes and two zeros for a text
 abbrev pub value_spelling : Value → List ℕ
-value_spelling Null = 0 ∷ []
-value_spelling (Int n) = 1 ∷ b64 (shifted n)
-value_spelling (Text t) = 2 ∷ zeros_marked t ++ 0 ∷ 0 ∷ []
+value_spelling Null = 0x00 ∷ []
+value_spelling (Int n) = 0x01 ∷ b64 (shifted n)
+value_spelling (Text t) = 0x02 ∷ zeros_marked t ++ 0x00 ∷ 0x00 ∷ []
 
--- a text has at most 1,000 bytes of UTF-8
+-- the texts of values: at most 1,000 bytes of UTF-8
 abbrev pub IsText : List ℕ → Type 0
 IsText text = IsValue (Text text)
 
@@ -125,7 +125,7 @@ list_spelling spelling xs = b16 (length xs) ++ flat_map spelling xs
 abbrev pub IsCounted : {X : Type 0} → List X → Type 0
 IsCounted xs = length xs < 2 ^ 16
 
--- such lists, of elements that meet what is asked of them
+-- the lists whose count has two bytes, and whose elements meet what is asked of them
 abbrev pub ListFits : {X : Type 0} → (X → Type 0) → List X → Type 0
 ListFits fits xs = IsCounted xs × AllByRecursion fits xs
 

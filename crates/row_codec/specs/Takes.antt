@@ -6,8 +6,8 @@ abbrev pub NoSpelling : {X : Type 0} → (X → Type 0) → (X → List ℕ) →
 NoSpelling {X} fits spelling bytes = (x : X) → fits x → bytes ≢ spelling x
 
 -- the bytes begin with no value's spelling
-abbrev pub NoFront : {X : Type 0} → (X → Type 0) → (X → List ℕ) → List ℕ → Type 0
-NoFront {X} fits spelling bytes = (x : X) (rest : List ℕ) → fits x → bytes ≢ spelling x ++ rest
+abbrev pub NoPrefix : {X : Type 0} → (X → Type 0) → (X → List ℕ) → List ℕ → Type 0
+NoPrefix {X} fits spelling bytes = (x : X) (rest : List ℕ) → fits x → bytes ≢ spelling x ++ rest
 
 -- bytes begin with the spelling of at most one value
 abbrev pub One : {X : Type 0} → (X → Type 0) → (X → List ℕ) → Type 0

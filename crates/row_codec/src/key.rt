@@ -1,9 +1,9 @@
-//! Keys: what tells the records of one table apart.
+//! Keys: no two records of one table have the same.
 
 ghost use Rattle.std.specs.Prelude.{◌≡◌, ◌++◌, ℕ, List, OnOk, IfOk};
 ghost use Rattle.std.specs.Ordering.{nat_cmp};
-ghost use Rattle.std.specs.Cmp.Lexicographic.{slice_cmp};
 ghost use Rattle.std.specs.declared.cmp.Ordering.{Ordering};
+ghost use Rattle.repl_types.specs.Bytes.{bytes_cmp};
 ghost use Rattle.repl_types.specs.Sizes.{IsKeySize};
 ghost use Rattle.row_codec.specs.Order.{Ordered, name_cmp, set_cmp};
 ghost use Rattle.row_codec.specs.Spelling.{Any, short_text, set_spelling, IsName, IsSet};
@@ -18,14 +18,16 @@ use crate::take_error::TakeError;
 use repl_types::{Name, SetId};
 use std::alloc::{AllocError, Global};
 
-/// What the records of one table are told apart by. Byte order of spelled keys is the order of
-/// keys.
+/// The key of a record: no two records of one table have the same. Byte order of spelled keys is
+/// the order of keys.
 pub trait Key: Sized + Drop {
     /// Which of the values that a clause can speak of are keys.
     ghost fits: { Self → Type 0 };
 
+    /// The bytes of a key.
     ghost spelling: { Self → List ℕ };
 
+    /// The order of keys.
     ghost cmp: { Self → Self → Ordering };
 
     /// What a key must meet to be stored, beyond its type: nothing for kinds of bounded length.
@@ -36,7 +38,7 @@ pub trait Key: Sized + Drop {
         ensures ok { OnOk result (out.new.items ≡ out.old.items ++ spelling self.now) }
         ensures fits { OnOk result (fits self.now) };
 
-    /// The key whose spelling the bytes are. `Spelling` comes only if they are none.
+    /// The key whose spelling the bytes are. `Spelling` is returned only if they are no key's.
     fn take_key(alloc: Global, bytes: &[u8]) -> Result<Self, TakeError>
         ensures ok { IfOk result (λ key. fits key × (bytes.now ≡ spelling key)) }
         ensures spelling { result ≡ Err TakeError.Spelling → NoSpelling fits spelling bytes.now };
@@ -45,25 +47,28 @@ pub trait Key: Sized + Drop {
     ghost one: { (x y : Self) → fits x → fits y → spelling x ≡ spelling y → x ≡ y };
 
     /// Byte order of spelled keys is the order of keys.
-    ghost order: { (x y : Self) → fits x → fits y → slice_cmp nat_cmp (spelling x) (spelling y) ≡ cmp x y };
+    ghost order: { (x y : Self) → fits x → fits y → bytes_cmp (spelling x) (spelling y) ≡ cmp x y };
 
-    /// A key that may be stored has as many bytes as a stored key may have.
+    /// A key that may be stored has the size of a stored key.
     ghost sized: { (k : Self) → fits k → storable k → IsKeySize (spelling k) };
 
     /// A key that was taken from stored bytes can be stored again.
     ghost again: { (k : Self) → fits k → IsKeySize (spelling k) → storable k };
 }
 
-/// A part that is a key as it is: each of its values has a spelling of bounded length, and these
-/// lie in the order of the values whatever follows them.
+/// A part that is a key too: each of its values has a spelling of the size of a key, and these are
+/// in the order of the values, whatever follows them.
 pub trait PartKey: Part {
+    /// The order of values.
     ghost cmp: { Self → Self → Ordering };
 
     /// Each value has a spelling.
     ghost spelled: { (k : Self) → Self.has_spelling k };
 
+    /// Spellings are in the order of values, whatever follows them.
     ghost ordered: { Ordered Self.fits Self.spelling cmp };
 
+    /// Each spelling has the size of a stored key.
     ghost small: { (k : Self) → Self.fits k → IsKeySize (Self.spelling k) };
 }
 

@@ -3,13 +3,16 @@
 ghost use Rattle.std.specs.Prelude.{◌≡◌, ◌≤◌, ◌++◌, ◌∷◌, [], ℕ, List, length, pos};
 ghost use Rattle.std.specs.List.{sum_by};
 ghost use Rattle.repl_types.specs.Bytes.{bytes_cmp};
+ghost use Rattle.repl_types.specs.Sizes.{row_limit};
 ghost use Rattle.repl_types.specs.ValueText.{IsValue};
 ghost use Rattle.repl_types.specs.Value.{Values, value_cmp, key_cmp, images, spelled_len};
 ghost use Rattle.repl_types.specs.declared.value.Value.{Value};
 ghost use Rattle.repl_types.specs.declared.value.Value.TheVariants.{Null, Int, Text};
 ghost use Rattle.repl_types.specs.declared.record.LogRecord.{LogRecord};
-ghost use Rattle.row_codec.specs.LogRecords.{IsLogRecord, HasLogSpelling, HasShortRows, log_spelling};
-ghost use Rattle.row_codec.specs.Spelling.{IsCounted, IsKey, IsRow, b16, b32, b64, value_spelling, row_spelling, key_spelling};
+ghost use Rattle.row_codec.specs.LogRecords.{IsLogRecord, HasLogSpelling, HasShortRows};
+ghost use Rattle.row_codec.specs.LogRecords.{log_spelling};
+ghost use Rattle.row_codec.specs.Spelling.{IsCounted, IsKey, IsRow, b16, b32, b64, value_spelling};
+ghost use Rattle.row_codec.specs.Spelling.{row_spelling, key_spelling};
 ghost use Rattle.row_codec.specs.Storable.{IsStorable};
 
 /// Byte order of spelled keys is the order of keys: column by column, NULL first, then the integers
@@ -36,9 +39,10 @@ pub fn one_spelling_of_a_row()
 
 /// The row of a log record `insert 1 orders 1 'pen' 20`, worked out by hand.
 pub fn worked_row()
-    ensures { row_spelling (Int (pos 1) ∷ Text (112 ∷ 101 ∷ 110 ∷ []) ∷ Int (pos 20) ∷ [])
-        ≡ 0 ∷ 3 ∷ 1 ∷ 128 ∷ 0 ∷ 0 ∷ 0 ∷ 0 ∷ 0 ∷ 0 ∷ 1 ∷ 2 ∷ 112 ∷ 101 ∷ 110 ∷ 0 ∷ 0 ∷ 1 ∷ 128 ∷ 0
-        ∷ 0 ∷ 0 ∷ 0 ∷ 0 ∷ 0 ∷ 20 ∷ [] }
+    ensures { row_spelling (Int (pos 1) ∷ Text (0x70 ∷ 0x65 ∷ 0x6e ∷ []) ∷ Int (pos 20) ∷ [])
+        ≡ 0x00 ∷ 0x03 ∷ 0x01 ∷ 0x80 ∷ 0x00 ∷ 0x00 ∷ 0x00 ∷ 0x00 ∷ 0x00 ∷ 0x00 ∷ 0x01 ∷ 0x02 ∷ 0x70
+        ∷ 0x65 ∷ 0x6e ∷ 0x00 ∷ 0x00 ∷ 0x01 ∷ 0x80 ∷ 0x00 ∷ 0x00 ∷ 0x00 ∷ 0x00 ∷ 0x00 ∷ 0x00 ∷ 0x14
+        ∷ [] }
 {}
 
 /// How many bytes numbers take.
@@ -51,7 +55,7 @@ pub fn lengths_of_numbers()
 /// A row of at most 64 values may be stored, and so may a log record whose rows have at most 64
 /// values: a value takes at most 2,003 bytes, so two such rows take less than a stored value may.
 pub fn rows_of_64_values_are_storable()
-    ensures row { (row : Values) → IsKey row → length row ≤ 64
+    ensures row { (row : Values) → IsKey row → length row ≤ row_limit
         → IsStorable IsCounted row_spelling row }
     ensures log_record { (x : LogRecord) → IsLogRecord x → HasShortRows x
         → IsStorable HasLogSpelling log_spelling x }

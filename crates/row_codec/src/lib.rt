@@ -1,13 +1,15 @@
-//! Records as bytes: of each value, row, key and log record the one spelling, both ways.
+//! Records as bytes: the one spelling of each value, row, key and log record, written and read.
 //!
 //! What a server keeps is bytes in a map that is ordered by bytes. This crate says what a spelling
 //! is (`Part`), what a key is (`Key`), and what a kind of record is (`Stored`): the layers above
 //! put and take typed records and never see a byte. Each value has one spelling, bytes that aren't
-//! the spelling of a value are refused, and keys lie in byte order just as their values do.
+//! the spelling of a value are refused, and spelled keys are in the order of the keys.
 //!
-//! It stands on `repl_types` alone, and spells that crate's types. `repl_records` and
-//! `repl_definitions` have the other kinds of records, each with its spelling, and `site_store`
-//! keeps them.
+//! It stands on `repl_types` and spells that crate's types. `repl_records` and `repl_definitions`
+//! have the other kinds of records, each with its spelling, and `site_store` keeps them.
+//!
+//! For example, the key `(20, 'pen')` is spelled `01 8000000000000014 02 70656e 0000`, two
+//! hexadecimal digits a byte.
 #![tactic(auto)]
 
 mod key;

@@ -2,10 +2,12 @@
 
 ghost use Rattle.repl_types.specs.declared.area.Area.TheVariants as areas;
 ghost use Rattle.std.specs.Prelude.{◌≡◌, ◌∷◌, ◌++◌, IfOk, OnOk};
-ghost use Rattle.row_codec.specs.LogRecords.{change_spelling, IsChange, HasChangeSpelling, log_spelling, IsLogRecord, HasLogSpelling};
-ghost use Rattle.row_codec.specs.Spelling.{Is32, IsCounted, IsName, IsRow, b32, short_text, row_spelling};
+ghost use Rattle.row_codec.specs.LogRecords.{change_spelling, IsChange, HasChangeSpelling};
+ghost use Rattle.row_codec.specs.LogRecords.{log_spelling, IsLogRecord, HasLogSpelling};
+ghost use Rattle.row_codec.specs.Spelling.{Is32, IsCounted, IsName, IsRow, b32, short_text};
+ghost use Rattle.row_codec.specs.Spelling.{row_spelling};
 ghost use Rattle.row_codec.specs.Storable.{IsStorable};
-ghost use Rattle.row_codec.specs.Takes.{NoFront};
+ghost use Rattle.row_codec.specs.Takes.{NoPrefix};
 ghost use Rattle.row_codec.specs.laws.Again.{log_again};
 ghost use Rattle.row_codec.specs.laws.LogRecords.{one_log_record};
 
@@ -157,9 +159,9 @@ fn put_row_of(
 /// An update from the start of the bytes after its tag, and the bytes after it.
 fn take_update(alloc: Global, bytes: &[u8]) -> Result<(LogRecord, &[u8]), TakeError>
     ensures ok { IfOk result
-        (λ taken. IsLogRecord taken.0 × (18 ∷ bytes.now ≡ log_spelling taken.0 ++ taken.1.now)) }
+        (λ taken. IsLogRecord taken.0 × (0x12 ∷ bytes.now ≡ log_spelling taken.0 ++ taken.1.now)) }
     ensures spelling { result ≡ Err TakeError.Spelling
-        → NoFront IsLogRecord log_spelling (18 ∷ bytes.now) }
+        → NoPrefix IsLogRecord log_spelling (0x12 ∷ bytes.now) }
 {
     let (tx, table, before, after, rest) = take_four::<u32, Name, Row, Row>(alloc, bytes)?;
     let change = Change::Update {
@@ -173,9 +175,9 @@ fn take_update(alloc: Global, bytes: &[u8]) -> Result<(LogRecord, &[u8]), TakeEr
 /// A commit from the start of the bytes after its tag, and the bytes after it.
 fn take_commit(alloc: Global, bytes: &[u8]) -> Result<(LogRecord, &[u8]), TakeError>
     ensures ok { IfOk result
-        (λ taken. IsLogRecord taken.0 × (20 ∷ bytes.now ≡ log_spelling taken.0 ++ taken.1.now)) }
+        (λ taken. IsLogRecord taken.0 × (0x14 ∷ bytes.now ≡ log_spelling taken.0 ++ taken.1.now)) }
     ensures spelling { result ≡ Err TakeError.Spelling
-        → NoFront IsLogRecord log_spelling (20 ∷ bytes.now) }
+        → NoPrefix IsLogRecord log_spelling (0x14 ∷ bytes.now) }
 {
     let (tx, time, authid, origin, rest) = take_four::<u32, u64, Name, Option<SetId>>(
         alloc, bytes,

@@ -125,8 +125,8 @@ impl Part for bool {
 
     fn take_part(_: Global, bytes: &[u8]) -> Result<(bool, &[u8]), TakeError> {
         match bytes {
-            [0, rest @ ..] => Ok((false, rest)),
-            [1, rest @ ..] => Ok((true, rest)),
+            [0x00, rest @ ..] => Ok((false, rest)),
+            [0x01, rest @ ..] => Ok((true, rest)),
             _ => Err(TakeError::Spelling),
         }
     }

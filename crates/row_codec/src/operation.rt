@@ -1,4 +1,4 @@
-//! Operations of change rows.
+//! The operations of change rows, each spelled by its letter.
 
 ghost use Rattle.row_codec.specs.Spelling.{Any, op_spelling};
 ghost use Rattle.row_codec.specs.laws.Names.{one_op};

@@ -21,9 +21,9 @@ impl<T: Part> Part for Option<T> {
 
     fn put_part(&self, out: &mut Vec<u8>) -> Result<(), AllocError> {
         match self {
-            None => Ok(out.push(0)?),
+            None => Ok(out.push(0x00)?),
             Some(value) => {
-                out.push(1)?;
+                out.push(0x01)?;
                 value.put_part(out)
             }
         }
@@ -31,8 +31,8 @@ impl<T: Part> Part for Option<T> {
 
     fn take_part(alloc: Global, bytes: &[u8]) -> Result<(Option<T>, &[u8]), TakeError> {
         match bytes {
-            [0, rest @ ..] => Ok((None, rest)),
-            [1, rest @ ..] => {
+            [0x00, rest @ ..] => Ok((None, rest)),
+            [0x01, rest @ ..] => {
                 let (value, rest) = T::take_part(alloc, rest)?;
                 Ok((Some(value), rest))
             }

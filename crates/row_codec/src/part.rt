@@ -1,7 +1,7 @@
 //! Parts of records, read from the start of bytes.
 
 ghost use Rattle.std.specs.Prelude.{◌≡◌, ◌++◌, ℕ, List, OnOk, IfOk};
-ghost use Rattle.row_codec.specs.Takes.{NoFront, NoSpelling, One, PairFits, pair_spelling};
+ghost use Rattle.row_codec.specs.Takes.{NoPrefix, NoSpelling, One, PairFits, pair_spelling};
 ghost use Rattle.row_codec.specs.laws.Again.{pair_again};
 ghost use Rattle.row_codec.specs.laws.Ones.{one_pair};
 
@@ -17,6 +17,7 @@ pub trait Part: Sized + Drop {
     /// What a value of the type must meet to have a spelling.
     ghost has_spelling: { Self → Type 0 };
 
+    /// The bytes of a value.
     ghost spelling: { Self → List ℕ };
 
     /// Appends the spelling. If memory runs out, what `out` holds is unspecified.
@@ -25,12 +26,14 @@ pub trait Part: Sized + Drop {
         ensures ok { OnOk result (out.new.items ≡ out.old.items ++ spelling self.now) }
         ensures fits { OnOk result (fits self.now) };
 
-    /// The value whose spelling the bytes begin with, and the bytes after it.
+    /// The value whose spelling the bytes begin with, and the bytes after it. `Spelling` is
+    /// returned only if they begin with no value's.
     fn take_part(alloc: Global, bytes: &[u8]) -> Result<(Self, &[u8]), TakeError>
         ensures ok { IfOk result (λ part. fits part.0
             × (bytes.now ≡ spelling part.0 ++ part.1.now)) }
-        ensures spelling { result ≡ Err TakeError.Spelling → NoFront fits spelling bytes.now };
+        ensures spelling { result ≡ Err TakeError.Spelling → NoPrefix fits spelling bytes.now };
 
+    /// Bytes begin with the spelling of at most one value.
     ghost one: { One fits spelling };
 
     /// What was taken can be put again.
@@ -60,7 +63,8 @@ impl<A: Part, B: Part> Part for (A, B) {
     }
 }
 
-/// The value whose spelling the bytes are, up to the last.
+/// The value whose spelling the bytes are, up to the last. `Spelling` is returned only if they are
+/// no value's.
 pub fn take_whole<T: Part>(alloc: Global, bytes: &[u8]) -> Result<T, TakeError>
     ensures ok { IfOk result (λ value. T.fits value × (bytes.now ≡ T.spelling value)) }
     ensures spelling { result ≡ Err TakeError.Spelling → NoSpelling T.fits T.spelling bytes.now }

@@ -14,8 +14,8 @@ use crate::take_error::TakeError;
 use repl_types::{List, Row, Value};
 use std::alloc::{AllocError, Global};
 
-/// Appends the spelling of a row: the count of its values in two bytes, and the values. Without
-/// memory some of it may have been appended.
+/// Appends the spelling of a row: the count of its values in two bytes, and the values. If memory
+/// runs out, what `out` holds is unspecified.
 pub fn put_row(row: &Row, out: &mut Vec<u8>) -> Result<(), AllocError>
     requires { IsCounted row.now }
     ensures ok { OnOk result (out.new.items ≡ out.old.items ++ row_spelling row.now) }
@@ -39,7 +39,7 @@ pub fn put_key(row: &Row, key: &List<u32>, out: &mut Vec<u8>) -> Result<(), Allo
     Ok(())
 }
 
-/// The row whose spelling the bytes are. `Spelling` comes only if they are none.
+/// The row whose spelling the bytes are. `Spelling` is returned only if they are no row's.
 pub fn take_row(alloc: Global, bytes: &[u8]) -> Result<Row, TakeError>
     ensures ok { IfOk result (λ row. IsRow row × (bytes.now ≡ row_spelling row)) }
     ensures spelling { result ≡ Err TakeError.Spelling → NoSpelling IsRow row_spelling bytes.now }

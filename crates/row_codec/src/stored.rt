@@ -15,15 +15,16 @@ use std::alloc::{AllocError, Global};
 /// A kind of record: the area and the table where it is kept, its key and its value, each with one
 /// spelling.
 pub trait Stored: Part {
-    /// What the records of one table are told apart by.
+    /// The key of a record: no two records of one table have the same.
     type Key: Key;
 
     /// Which table of its area: a fixed one, or one by number.
     type Table: TableNumber;
 
-    /// Where records of this kind are kept.
+    /// The area where records of this kind are kept.
     const AREA: Area;
 
+    /// The same area, for clauses.
     ghost AREA: { Area };
 
     /// What a record must meet to be stored, beyond its type: nothing for kinds of bounded length,
@@ -48,7 +49,8 @@ pub trait Stored: Part {
         self.put_part(out)
     }
 
-    /// The record whose spelling the bytes are. `Spelling` comes only if they are none.
+    /// The record whose spelling the bytes are. `Spelling` is returned only if they are no
+    /// record's.
     final fn take(alloc: Global, bytes: &[u8]) -> Result<Self, TakeError>
         ensures ok { IfOk result (λ value. Self.fits value × (bytes.now ≡ Self.spelling value)) }
         ensures spelling { result ≡ Err TakeError.Spelling
@@ -65,7 +67,7 @@ pub trait Stored: Part {
         key.put_key(out)
     }
 
-    /// The key whose spelling the bytes are. `Spelling` comes only if they are none.
+    /// The key whose spelling the bytes are. `Spelling` is returned only if they are no key's.
     final fn take_key(alloc: Global, bytes: &[u8]) -> Result<Self::Key, TakeError>
         ensures ok { IfOk result (λ key. Self.Key.fits key × (bytes.now ≡ Self.Key.spelling key)) }
         ensures spelling { result ≡ Err TakeError.Spelling

@@ -2,9 +2,13 @@
 
 ghost use Rattle.std.specs.Prelude.{◌≡◌, ◌++◌, OnOk};
 ghost use Rattle.row_codec.specs.Spelling.{Any, b16, Is16, list_spelling, ListFits};
-ghost use Rattle.row_codec.specs.Definitions.{kind_spelling, column_spelling, IsColumn, table_spelling, IsTable, HasTableSpelling, registration_spelling, IsRegistration, HasRegistrationSpelling};
+ghost use Rattle.row_codec.specs.Definitions.{kind_spelling, column_spelling, IsColumn};
+ghost use Rattle.row_codec.specs.Definitions.{table_spelling, IsTable, HasTableSpelling};
+ghost use Rattle.row_codec.specs.Definitions.{registration_spelling, IsRegistration};
+ghost use Rattle.row_codec.specs.Definitions.{HasRegistrationSpelling};
 ghost use Rattle.row_codec.specs.laws.Again.{table_again, registration_again};
-ghost use Rattle.row_codec.specs.laws.Definitions.{one_places, one_kind, one_column, one_table, one_registration};
+ghost use Rattle.row_codec.specs.laws.Definitions.{one_places, one_kind, one_column, one_table};
+ghost use Rattle.row_codec.specs.laws.Definitions.{one_registration};
 
 use crate::part::Part;
 use crate::parts::{take_four, take_six, take_three};
@@ -77,16 +81,16 @@ impl Part for Kind {
 
     fn put_part(&self, out: &mut Vec<u8>) -> Result<(), AllocError> {
         let number = match self {
-            Kind::Int => 1,
-            Kind::Text => 2,
+            Kind::Int => 0x01,
+            Kind::Text => 0x02,
         };
         Ok(out.push(number)?)
     }
 
     fn take_part(_: Global, bytes: &[u8]) -> Result<(Kind, &[u8]), TakeError> {
         match bytes {
-            [1, rest @ ..] => Ok((Kind::Int, rest)),
-            [2, rest @ ..] => Ok((Kind::Text, rest)),
+            [0x01, rest @ ..] => Ok((Kind::Int, rest)),
+            [0x02, rest @ ..] => Ok((Kind::Text, rest)),
             _ => Err(TakeError::Spelling),
         }
     }

@@ -4,6 +4,7 @@ ghost use Rattle.std.specs.Prelude.{◌≡◌, ℕ};
 
 /// The number of a table in its area.
 pub trait TableNumber: Copy {
+    /// The number that a clause sees.
     ghost number: { Self → ℕ };
 
     /// The number.

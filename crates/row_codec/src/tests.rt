@@ -74,7 +74,7 @@ fn bytes_that_are_no_row(rt: HostRuntime) -> Result<(), Fail> {
     Ok(())
 }
 
-/// The spelling of a row of one text of so many bytes.
+/// The spelling of a row of one text of this length.
 fn long_text(alloc: Global, length: usize) -> Result<Vec<u8>, Fail> {
     let mut bytes = Vec::new(alloc);
     bytes.extend_from_slice(&[0, 1, 2])?;

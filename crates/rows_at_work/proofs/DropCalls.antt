@@ -2,7 +2,7 @@
 use Rattle.std.proofs.Common.{◌≡◌, ℕ, ◌+◌, ◌^◌, ◌<◌, ◌≤◌, List, [], length, sym, subst, ap, ◌∙◌, refl, arith}
 use Rattle.std.specs.Prelude.{Option, Some, None, IfSome}
 use Rattle.repl_types.specs.declared.area.Area.TheVariants as areas
-use Rattle.keep_core.specs.Contents.{Contents, Table, IsNext}
+use Rattle.keep_core.specs.Contents.{Contents, Table, IsNextKey}
 use Rattle.keep_core.specs.Kept.{Kept}
 use Rattle.repl_types.specs.Bytes.{bytes_cmp}
 use Rattle.std.specs.declared.cmp.Ordering.TheVariants.{Less}
@@ -13,36 +13,25 @@ use Rattle.repl_records.specs.declared.source_side.InFlight.{InFlight}
 use Rattle.site_store.specs.declared.sites.Sites.{Sites}
 use Rattle.site_store.specs.Views.{held, work, sees, IsOpenAt}
 use Rattle.site_store.specs.Works.{Works, Sets}
-use Rattle.site_store.specs.Calls.{both, reads_of_one, writes_of_one, Reads, Puts, Fails}
-use Rattle.site_store.specs.laws.Counts.{IsAtMost, at_most_itself, reads_more, reads_wider, writes_more, writes_wider, passes_within, passes_then}
+use Rattle.site_store.specs.Calls.{reads_of_one, writes_of_one, Reads, Puts, Fails}
+use Rattle.site_store.specs.laws.Counts.{at_most_itself, reads_and_writes_then, passes_then, passes_within}
 use Rattle.site_store.specs.laws.Transactions.{open_below, works_start, works_then, works_seen, seen_work}
 use Rattle.rows_at_work.specs.Dropping.{Row, in_flight_table, of_transaction, StandFrom, DropsTo, DropsNone, Drops, DropsNext, DropsAll, in_dropping, IsAbove}
 use Rattle.faults.specs.declared.fault.Fault.{Fault}
 use Rattle.site_store.specs.Damage.{Damages}
 use Rattle.rows_at_work.specs.Rules.{rules}
-use Rattle.rows_at_work.specs.Steps.{WorksOn}
-use Rattle.rows_at_work.proofs.Stepping.{changes_none, changes_remove, changes_then, works_none, works_on, works_fail}
+use Rattle.site_store.specs.Steps.{WorksOn}
+use Rattle.site_store.specs.laws.Steps.{changes_none, changes_remove, changes_then, works_none, works_on, works_fail}
 use Rattle.rows_at_work.proofs.DroppedRows.{key_at, stand_start, later_position, drop_row, others_all}
-
--- ---- bounds
-
--- accesses add up
-dropping_then : (i j m n x y s : ℕ) → i + m ≤ x → j + n ≤ y → IsAtMost (both (in_dropping i j s) (in_dropping m n s)) (in_dropping x y s)
-dropping_then i j m n x y s le more = record {
-  reads = λ q a. omega (arith, (reads_more i m s areas.Inflight).reads q a, (reads_wider (i + m) x s areas.Inflight le).reads q a);
-  writes = λ q a. omega (arith, (writes_more j n s areas.Inflight).writes q a, (writes_wider (j + n) y s areas.Inflight more).writes q a);
-}
-
--- so does one read
-pub read_in_dropping : (s : ℕ) → IsAtMost (reads_of_one 1 s areas.Inflight) (in_dropping 1 1 s)
-read_in_dropping s = record { reads = λ q a. omega arith; writes = λ q a. omega arith }
+use Rattle.site_store.specs.laws.Damage.{shown_before}
+use Rattle.rows_at_work.proofs.Evidence.{asks_nothing}
 
 -- ---- steps
 
 -- rows were dropped, and then more
 drops_then : (tx from mid pos m n : ℕ) (c d e : Contents) → DropsTo tx from mid m c d → DropsTo tx mid pos n d e → DropsTo tx from pos (m + n) c e
 drops_then tx from mid pos m n c d e first second = record {
-  elsewhere = changes_then areas.Inflight 0 c d e first.elsewhere second.elsewhere;
+  elsewhere = changes_then rules areas.Inflight 0 c d e first.elsewhere second.elsewhere;
   drops = λ rows stand.
       let a = first.drops rows stand in
       let b = second.drops a.0 a.1 in
@@ -52,7 +41,7 @@ drops_then tx from mid pos m n c d e first second = record {
 -- rows were dropped, and there are no more
 drops_end : (tx pos n : ℕ) (c d e : Contents) → tx < 2 ^ 32 → DropsTo tx 0 pos n c d → DropsNone tx pos d e → Drops tx n c e
 drops_end tx pos n c d e ft first second = record {
-  elsewhere = changes_then areas.Inflight 0 c d e first.elsewhere (changes_none areas.Inflight 0 d e second.same);
+  elsewhere = changes_then rules areas.Inflight 0 c d e first.elsewhere (changes_none rules areas.Inflight 0 d e second.same);
   drops = λ rows are has.
       let a = first.drops rows (stand_start tx c rows ft are has) in
       let none = second.none a.0 a.1 in (
@@ -70,7 +59,7 @@ module _ {K : Type 0} (kept : K → Kept) where
   -- ---- one call
 
   -- the next row of the transaction was removed
-  pub drop_one : (s0 s1 s2 : Sites K) (server tx after pos : ℕ) (e : InFlight) → IsOpenAt (work kept s0) server → tx < 2 ^ 32 → pos < 2 ^ 64 → after < pos → Reads kept s0 s1 server areas.Inflight → Puts kept s1 s2 server areas.Inflight 0 (key_at tx pos) None → IfSome (sees kept s0 server) (λ c. IsNext (c areas.Inflight 0) (key_at tx after) (key_at tx pos) (in_flight_spelling e)) → DropsNext kept s0 s2 server tx after (Some pos)
+  pub drop_one : (s0 s1 s2 : Sites K) (server tx after pos : ℕ) (e : InFlight) → IsOpenAt (work kept s0) server → tx < 2 ^ 32 → pos < 2 ^ 64 → after < pos → Reads kept s0 s1 server areas.Inflight → Puts kept s1 s2 server areas.Inflight 0 (key_at tx pos) None → IfSome (sees kept s0 server) (λ c. IsNextKey (c areas.Inflight 0) (key_at tx after) (key_at tx pos) (in_flight_spelling e)) → DropsNext kept s0 s2 server tx after (Some pos)
   drop_one s0 s1 s2 server tx after pos e open_at ft fp lt read put saw = record {
     passes = passes_then kept s0 s1 s2 (reads_of_one 1 server areas.Inflight) (writes_of_one 1 server areas.Inflight) (in_dropping 1 1 server) read.stays.passes put.passes (at_most_itself (in_dropping 1 1 server));
     held = put.held ∙ read.stays.held;
@@ -81,22 +70,22 @@ module _ {K : Type 0} (kept : K → Kept) where
       sets = Sets areas.Inflight 0 (key_at tx pos) None
 
       next : Contents → Type 0
-      next c = IsNext (c areas.Inflight 0) (key_at tx after) (key_at tx pos) (in_flight_spelling e)
+      next c = IsNextKey (c areas.Inflight 0) (key_at tx after) (key_at tx pos) (in_flight_spelling e)
 
       one : (c d : Contents) → next c → sets c d → DropsTo tx after pos 1 c d
       one c d is put_there = record {
-        elsewhere = changes_remove areas.Inflight 0 (key_at tx pos) c d put_there;
-        drops = λ rows stand. drop_row tx after pos c d e rows ft fp lt stand (subst (λ (t : Table). IsNext t (key_at tx after) (key_at tx pos) (in_flight_spelling e)) stand.table is) put_there;
+        elsewhere = changes_remove rules areas.Inflight 0 (key_at tx pos) c d put_there;
+        drops = λ rows stand. drop_row tx after pos c d e rows ft fp lt stand (subst (λ (t : Table). IsNextKey t (key_at tx after) (key_at tx pos) (in_flight_spelling e)) stand.table is) put_there;
       }
 
   -- so it was if the key that was found is the transaction's
-  pub drop_found : (s0 s1 s2 : Sites K) (server tx after : ℕ) (k : InFlightKey) (e : InFlight) → k.tx ≡ tx → IsOpenAt (work kept s0) server → after < 2 ^ 64 → IsInFlightKey k → bytes_cmp (key_at tx after) (in_flight_key_spelling k) ≡ Less → Reads kept s0 s1 server areas.Inflight → Puts kept s1 s2 server areas.Inflight 0 (in_flight_key_spelling k) None → IfSome (sees kept s0 server) (λ c. IsNext (c areas.Inflight 0) (key_at tx after) (in_flight_key_spelling k) (in_flight_spelling e)) → DropsNext kept s0 s2 server tx after (Some k.pos)
+  pub drop_found : (s0 s1 s2 : Sites K) (server tx after : ℕ) (k : InFlightKey) (e : InFlight) → k.tx ≡ tx → IsOpenAt (work kept s0) server → after < 2 ^ 64 → IsInFlightKey k → bytes_cmp (key_at tx after) (in_flight_key_spelling k) ≡ Less → Reads kept s0 s1 server areas.Inflight → Puts kept s1 s2 server areas.Inflight 0 (in_flight_key_spelling k) None → IfSome (sees kept s0 server) (λ c. IsNextKey (c areas.Inflight 0) (key_at tx after) (in_flight_key_spelling k) (in_flight_spelling e)) → DropsNext kept s0 s2 server tx after (Some k.pos)
   drop_found s0 s1 s2 server tx after k e own open_at fa fk above read put saw =
       let same : in_flight_key_spelling k ≡ key_at tx k.pos = ap (λ (n : ℕ). key_at n k.pos) own in
       let lt = position_above tx after k own fa fk above in
       drop_one s0 s1 s2 server tx after k.pos e open_at (subst (λ (n : ℕ). n < 2 ^ 32) own fk.0) fk.1 lt.0 read
       (subst (λ (b : List ℕ). Puts kept s1 s2 server areas.Inflight 0 b None) same put)
-      (subst (λ (b : List ℕ). IfSome (sees kept s0 server) (λ c. IsNext (c areas.Inflight 0) (key_at tx after) b (in_flight_spelling e))) same saw)
+      (subst (λ (b : List ℕ). IfSome (sees kept s0 server) (λ c. IsNextKey (c areas.Inflight 0) (key_at tx after) b (in_flight_spelling e))) same saw)
 
   -- what was read shows that there is none
   pub drop_nothing : (s0 s1 : Sites K) (server tx after : ℕ) (N : Contents → Type 0) → IsOpenAt (work kept s0) server → Reads kept s0 s1 server areas.Inflight → IfSome (sees kept s0 server) N → ((c : Contents) (rows : List Row) → N c → StandFrom tx after c rows → of_transaction tx rows ≡ []) → DropsNext kept s0 s1 server tx after None
@@ -119,7 +108,7 @@ module _ {K : Type 0} (kept : K → Kept) where
     small = omega arith;
     few = omega arith;
     drops = works_none kept s0 server (in_dropping 0 0 server) (DropsTo tx 0 0 0) open_at (λ c d same. record {
-      elsewhere = changes_none areas.Inflight 0 c d same;
+      elsewhere = changes_none rules areas.Inflight 0 c d same;
       drops = λ rows stand. (rows, record { are = stand.are; table = ap (λ (f : Contents). f areas.Inflight 0) same ∙ stand.table; later = stand.later }, record { others = refl; count = omega arith });
     });
   }
@@ -128,11 +117,11 @@ module _ {K : Type 0} (kept : K → Kept) where
   drops_on s0 s1 s2 server tx last count pos open_at lt fp first second = record {
     small = fp;
     few = omega (arith, first.few, lt);
-    drops = works_on kept s0 s1 s2 server (in_dropping count count server) (in_dropping 1 1 server) (in_dropping (count + 1) (count + 1) server) (DropsTo tx 0 last count) (DropsTo tx last pos 1) (DropsTo tx 0 pos (count + 1)) open_at (dropping_then count count 1 1 (count + 1) (count + 1) server (omega arith) (omega arith)) first.drops second (drops_then tx 0 last pos count 1);
+    drops = works_on kept s0 s1 s2 server (in_dropping count count server) (in_dropping 1 1 server) (in_dropping (count + 1) (count + 1) server) (DropsTo tx 0 last count) (DropsTo tx last pos 1) (DropsTo tx 0 pos (count + 1)) open_at (reads_and_writes_then count count 1 1 (count + 1) (count + 1) server areas.Inflight server areas.Inflight (omega arith) (omega arith)) first.drops second (drops_then tx 0 last pos count 1);
   }
 
   pub drops_all : (s0 s1 s2 : Sites K) (server tx last count : ℕ) → IsOpenAt (work kept s0) server → tx < 2 ^ 32 → HasDropped s0 s1 server tx last count → DropsNext kept s1 s2 server tx last None → DropsAll kept s0 s2 server tx count
-  drops_all s0 s1 s2 server tx last count open_at ft first second = works_on kept s0 s1 s2 server (in_dropping count count server) (in_dropping 1 0 server) (in_dropping (count + 1) count server) (DropsTo tx 0 last count) (DropsNone tx last) (Drops tx count) open_at (dropping_then count count 1 0 (count + 1) count server (omega arith) (omega arith)) first.drops second (λ c d e a b. drops_end tx last count c d e ft a b)
+  drops_all s0 s1 s2 server tx last count open_at ft first second = works_on kept s0 s1 s2 server (in_dropping count count server) (in_dropping 1 0 server) (in_dropping (count + 1) count server) (DropsTo tx 0 last count) (DropsNone tx last) (Drops tx count) open_at (reads_and_writes_then count count 1 0 (count + 1) count server areas.Inflight server areas.Inflight (omega arith) (omega arith)) first.drops second (λ c d e a b. drops_end tx last count c d e ft a b)
 
   pub drops_fail : (s0 s1 s2 : Sites K) (server tx last count : ℕ) (e : Fault) → IsOpenAt (work kept s0) server → HasDropped s0 s1 server tx last count → Fails kept s1 s2 (in_dropping 1 1 server) (Damages (λ s. s ≡ server) rules kept s1) e → Fails kept s0 s2 (in_dropping (2 ^ 64) (2 ^ 64) server) (Damages (λ s. s ≡ server) rules kept s0) e
-  drops_fail s0 s1 s2 server tx last count e open_at first f = works_fail kept s0 s1 s2 server server (in_dropping count count server) (in_dropping 1 1 server) (in_dropping (2 ^ 64) (2 ^ 64) server) (DropsTo tx 0 last count) e open_at (dropping_then count count 1 1 (2 ^ 64) (2 ^ 64) server (omega (arith, first.few, first.small)) (omega (arith, first.few, first.small))) (λ c d p. p.elsewhere.adds) first.drops f
+  drops_fail s0 s1 s2 server tx last count e open_at first f = works_fail kept (λ s. s ≡ server) rules s0 s1 s2 server (in_dropping count count server) (in_dropping 1 1 server) (in_dropping (2 ^ 64) (2 ^ 64) server) (DropsTo tx 0 last count) e open_at (reads_and_writes_then count count 1 1 (2 ^ 64) (2 ^ 64) server areas.Inflight server areas.Inflight (omega (arith, first.few, first.small)) (omega (arith, first.few, first.small))) (λ c d p. shown_before rules asks_nothing c d p.elsewhere.adds) first.drops f

@@ -1,6 +1,6 @@
 -- The rows of one transaction are removed, the first of them each time.
 use Rattle.std.proofs.Common.{◌≡◌, ℕ, ◌^◌, ◌<◌, Bool, true, false, cond, List, [], ◌∷◌, length, drop, refl, sym, ap, subst, ◌∙◌, arith}
-use Rattle.std.specs.Prelude.{Option, Some, None, ◌==◌, not, filter}
+use Rattle.std.specs.Prelude.{Option, Some, None, ◌==◌, not}
 use Rattle.std.specs.List.{AllByRecursion}
 use Rattle.std.specs.Ordering.{nat_cmp, ordering_then}
 use Rattle.std.specs.Cmp.{nat_cmp_is, ranked}
@@ -10,7 +10,7 @@ use Rattle.std.proofs.lemmas.Bool.{eq-eqb, eqb-true}
 use Rattle.std.proofs.lemmas.Cmp.{tied_itself, nat_cmp_total}
 use Rattle.repl_types.specs.Bytes.{bytes_cmp}
 use Rattle.repl_types.specs.declared.area.Area.TheVariants as areas
-use Rattle.keep_core.specs.Contents.{Contents, IsNext, IsLast, same_key, put_at}
+use Rattle.keep_core.specs.Contents.{Contents, IsNextKey, IsLastKey, same_key, put_at}
 use Rattle.row_codec.specs.Spelling.{b32, b64}
 use Rattle.row_codec.specs.laws.Numbers.{one32}
 use Rattle.row_codec.specs.laws.Ones.{one_whole}
@@ -23,41 +23,14 @@ use Rattle.repl_records.specs.declared.source_side.InFlight.{InFlight}
 use Rattle.rows_in_order.specs.Rows.{AllAfter, NoneAfter, IsRising, without_row, begins_with, with_prefix, SpellsApart, NextRow}
 use Rattle.rows_in_order.specs.laws.Before.{not_both}
 use Rattle.rows_in_order.specs.laws.Changed.{rises_without, without_absent, without_split}
-use Rattle.rows_in_order.specs.laws.Filtered.{all_weaker, all_filter, all_kept, filter_alike}
+use Rattle.repl_types.specs.laws.Lists.{all_weaker, all_filter, filter_alike}
+use Rattle.rows_in_order.specs.laws.Filtered.{all_kept, filters_commute, filter_others}
 use Rattle.rows_in_order.specs.laws.Fitting.{fits_each, fits_removed, fits_next}
 use Rattle.rows_in_order.specs.laws.Found.{first_row, no_first_row, next_of, row_of}
 use Rattle.rows_in_order.specs.laws.Prefixed.{begins_longer, begins_parts, prefix_next, prefix_last, prefix_past}
 use Rattle.rows_in_order.specs.laws.Rising.{filter_rises, no_row}
 use Rattle.rows_in_order.specs.laws.Written.{written_removed}
 use Rattle.rows_at_work.specs.Dropping.{Row, FitsRow, AreInFlight, in_flight_table, of_transaction, of_others, StandFrom, AreLeft}
-
--- ---- filters
-
--- two filters may be applied in either order
-filters_commute : {X : Type 0} (p q : X → Bool) (xs : List X) → filter p (filter q xs) ≡ filter q (filter p xs)
-filters_commute p q [] = refl
-filters_commute {X} p q (x ∷ xs) = pick (p x) refl (q x) refl (filters_commute p q xs)
-  where
-    first : (t : Bool) → p x ≡ t → filter p (x ∷ filter q xs) ≡ cond t (x ∷ filter p (filter q xs)) (filter p (filter q xs))
-    first t e = ap (λ (b : Bool). cond b (x ∷ filter p (filter q xs)) (filter p (filter q xs))) e
-
-    second : (t : Bool) → q x ≡ t → filter q (x ∷ filter p xs) ≡ cond t (x ∷ filter q (filter p xs)) (filter q (filter p xs))
-    second t e = ap (λ (b : Bool). cond b (x ∷ filter q (filter p xs)) (filter q (filter p xs))) e
-
-    pick : (s : Bool) → p x ≡ s → (t : Bool) → q x ≡ t → filter p (filter q xs) ≡ filter q (filter p xs) → filter p (cond t (x ∷ filter q xs) (filter q xs)) ≡ filter q (cond s (x ∷ filter p xs) (filter p xs))
-    pick true e true f rest = first true e ∙ ap (λ (l : List X). x ∷ l) rest ∙ sym (second true f)
-    pick true e false f rest = rest ∙ sym (second false f)
-    pick false e true f rest = first false e ∙ rest
-    pick false e false f rest = rest
-
--- if none passes a test, all pass the opposite
-all_others : {X : Type 0} (p : X → Bool) (xs : List X) → filter p xs ≡ [] → filter (λ x. not (p x)) xs ≡ xs
-all_others p [] none = refl
-all_others {X} p (x ∷ xs) none = pick (p x) none (all_others p xs)
-  where
-    pick : (t : Bool) → cond t (x ∷ filter p xs) (filter p xs) ≡ [] → (filter p xs ≡ [] → filter (λ y. not (p y)) xs ≡ xs) → cond (not t) (x ∷ filter (λ y. not (p y)) xs) (filter (λ y. not (p y)) xs) ≡ x ∷ xs
-    pick true none rest = absurd cc
-    pick false none rest = ap (λ (l : List X). x ∷ l) (rest none)
 
 -- ---- keys
 
@@ -132,7 +105,7 @@ absent tx pos rows ft fp fit = pick (in_flight_table (of_others tx rows) (key_at
     pick (Some v) e = absurd (found v e)
 
 -- the next row of the transaction is removed: the others are left, and so are its later ones
-pub drop_row : (tx after pos : ℕ) (c d : Contents) (e : InFlight) (rows : List Row) → tx < 2 ^ 32 → pos < 2 ^ 64 → after < pos → StandFrom tx after c rows → IsNext (in_flight_table rows) (key_at tx after) (key_at tx pos) (in_flight_spelling e) → d ≡ put_at c areas.Inflight 0 (key_at tx pos) None → (left : List Row) × StandFrom tx pos d left × AreLeft tx 1 rows left
+pub drop_row : (tx after pos : ℕ) (c d : Contents) (e : InFlight) (rows : List Row) → tx < 2 ^ 32 → pos < 2 ^ 64 → after < pos → StandFrom tx after c rows → IsNextKey (in_flight_table rows) (key_at tx after) (key_at tx pos) (in_flight_spelling e) → d ≡ put_at c areas.Inflight 0 (key_at tx pos) None → (left : List Row) × StandFrom tx pos d left × AreLeft tx 1 rows left
 drop_row tx after pos c d e rows ft fp lt stand read sets =
     let row : Row = (record { tx = tx; pos = pos }, e) in
     let own : Row → Bool = λ r. r.0.tx == tx in
@@ -158,19 +131,19 @@ none_after : (tx after : ℕ) (c : Contents) (rows : List Row) → tx < 2 ^ 32 �
 none_after tx after c rows ft stand none = no_first_row in_flight_key_spelling (of_transaction tx rows) (key_at tx after) (subst (NoneAfter in_flight_key_spelling (key_at tx after)) (prefix_is tx ft rows stand.are.fit) none) stand.later
 
 -- with no next key none is left
-pub none_last : (tx after : ℕ) (c : Contents) (rows : List Row) → tx < 2 ^ 32 → IsLast (c areas.Inflight 0) (key_at tx after) → StandFrom tx after c rows → of_transaction tx rows ≡ []
+pub none_last : (tx after : ℕ) (c : Contents) (rows : List Row) → tx < 2 ^ 32 → IsLastKey (c areas.Inflight 0) (key_at tx after) → StandFrom tx after c rows → of_transaction tx rows ≡ []
 none_last tx after c rows ft last stand =
-    let over = subst (λ (t : List ℕ → Option (List ℕ)). IsLast t (key_at tx after)) stand.table last in
+    let over = subst (λ (t : List ℕ → Option (List ℕ)). IsLastKey t (key_at tx after)) stand.table last in
     none_after tx after c rows ft stand (prefix_last in_flight_key_spelling (b32 tx) rows (key_at tx after) (no_row in_flight_key_spelling in_flight_spelling rows (key_at tx after) over))
 
 -- nor if the next key is another transaction's
-pub none_past : (tx after : ℕ) (k : InFlightKey) (e : InFlight) (c : Contents) (rows : List Row) → tx < 2 ^ 32 → IsInFlightKey k → (k.tx == tx) ≡ false → IsNext (c areas.Inflight 0) (key_at tx after) (in_flight_key_spelling k) (in_flight_spelling e) → StandFrom tx after c rows → of_transaction tx rows ≡ []
+pub none_past : (tx after : ℕ) (k : InFlightKey) (e : InFlight) (c : Contents) (rows : List Row) → tx < 2 ^ 32 → IsInFlightKey k → (k.tx == tx) ≡ false → IsNextKey (c areas.Inflight 0) (key_at tx after) (in_flight_key_spelling k) (in_flight_spelling e) → StandFrom tx after c rows → of_transaction tx rows ≡ []
 none_past tx after k e c rows ft fk ne read stand =
-    let here = subst (λ (t : List ℕ → Option (List ℕ)). IsNext t (key_at tx after) (in_flight_key_spelling k) (in_flight_spelling e)) stand.table read in
+    let here = subst (λ (t : List ℕ → Option (List ℕ)). IsNextKey t (key_at tx after) (in_flight_key_spelling k) (in_flight_spelling e)) stand.table read in
     let n = next_of in_flight_key_spelling in_flight_spelling rows (key_at tx after) (in_flight_key_spelling k) (in_flight_spelling e) stand.are.rise here in
     let past : begins_with (b32 tx) (in_flight_key_spelling n.0.0) ≡ false = ap (begins_with (b32 tx)) n.2 ∙ begins_own k tx fk.0 ft ∙ ne in
     none_after tx after c rows ft stand (prefix_past in_flight_key_spelling (b32 tx) rows (key_at tx after) n.0 n.1 (begins_longer (b32 tx) (b64 after)) past)
 
 -- if the transaction has none left, the others are all
 pub others_all : (tx : ℕ) (rows : List Row) → of_transaction tx rows ≡ [] → of_others tx rows ≡ rows
-others_all tx rows none = all_others (λ r. r.0.tx == tx) rows none
+others_all tx rows none = filter_others (λ r. r.0.tx == tx) rows none

@@ -2,4 +2,6 @@ pub mod AppliedRows
 pub mod ApplyCalls
 pub mod DropCalls
 pub mod DroppedRows
-pub mod Stepping
+pub mod Evidence
+pub mod HistoryCalls
+pub mod HistoryRows

@@ -5,25 +5,26 @@ use Rattle.repl_types.specs.declared.area.Area.TheVariants as areas
 use Rattle.keep_core.specs.Contents.{Contents, Table}
 use Rattle.keep_core.specs.Kept.{Kept}
 use Rattle.row_codec.specs.Spelling.{b64}
-use Rattle.rows_in_order.specs.Rows.{table_of}
+use Rattle.rows_in_order.specs.Rows.{table_from_rows}
 use Rattle.rows_in_order.specs.Numbers.{AllBelow, NumbersRise, numbers_between, with_number, without_number}
 use Rattle.site_store.specs.declared.sites.Sites.{Sites}
 use Rattle.site_store.specs.Views.{held}
-use Rattle.site_store.specs.Calls.{Bounds, reads_of_one, writes_of_one, both}
+use Rattle.site_store.specs.Calls.{Bounds, writes_of_one, reads_and_writes}
 use Rattle.rows_at_work.specs.declared.records.Change.{Change}
 use Rattle.rows_at_work.specs.declared.records.CopiedRow.{CopiedRow}
-use Rattle.rows_at_work.specs.Records.{change_spelling, FitsChange}
-use Rattle.rows_at_work.specs.Steps.{ChangesOne, WorksOn}
+use Rattle.rows_at_work.specs.Records.{numbered_change_spelling, FitsChange}
+use Rattle.site_store.specs.Steps.{ChangesOne, WorksOn}
+use Rattle.rows_at_work.specs.Rules.{rules}
 
 -- ---- rows
 
 -- the table of changes
 abbrev pub change_table : List (ℕ × Change) → Table
-change_table changes = table_of b64 change_spelling changes
+change_table changes = table_from_rows b64 numbered_change_spelling changes
 
 -- the table of rows of the copy
 abbrev pub copy_table : List (ℕ × CopiedRow) → Table
-copy_table rows = table_of b64 (λ row. b64 row.value) rows
+copy_table rows = table_from_rows b64 (λ row. b64 row.value) rows
 
 -- Changes in the order of their numbers, whose numbers have eight bytes.
 pub record AreChanges (changes : List (ℕ × Change)) : Type 0 where
@@ -37,13 +38,13 @@ pub record AreCopies (rows : List (ℕ × CopiedRow)) : Type 0 where
   pub below : AllBelow (2 ^ 64) rows
 
 -- the rows after a change: the row of its key is put, or removed
-abbrev pub after_change : Change → List (ℕ × CopiedRow) → List (ℕ × CopiedRow)
-after_change change rows = if change.keeps then with_number (change.key, record { value = change.value }) rows else without_number change.key rows
+abbrev pub after_one_change : Change → List (ℕ × CopiedRow) → List (ℕ × CopiedRow)
+after_one_change change rows = if change.keeps then with_number (change.key, record { value = change.value }) rows else without_number change.key rows
 
 -- the rows after changes, in turn
-abbrev pub after_changes : List (ℕ × Change) → List (ℕ × CopiedRow) → List (ℕ × CopiedRow)
-after_changes [] rows = rows
-after_changes (change ∷ changes) rows = after_changes changes (after_change change.1 rows)
+abbrev pub after_all_changes : List (ℕ × Change) → List (ℕ × CopiedRow) → List (ℕ × CopiedRow)
+after_all_changes [] rows = rows
+after_all_changes (change ∷ changes) rows = after_all_changes changes (after_one_change change.1 rows)
 
 -- ---- steps
 
@@ -53,8 +54,8 @@ MakesRows becomes c d = (rows : List (ℕ × CopiedRow)) → AreCopies rows → 
 
 -- The rows became those after a change, and no other table changed.
 pub record Makes (change : Change) (c d : Contents) : Type 0 where
-  pub elsewhere : ChangesOne areas.Target 0 c d
-  pub makes : MakesRows (after_change change) c d
+  pub elsewhere : ChangesOne rules areas.Target 0 c d
+  pub makes : MakesRows (after_one_change change) c d
 
 -- One server has these changes.
 pub record HasChanges (held : List (Option Contents)) (source : ℕ) (changes : List (ℕ × Change)) : Type 0 where
@@ -66,23 +67,23 @@ pub record HasChanges (held : List (Option Contents)) (source : ℕ) (changes : 
 -- The changes above one number and up to another, which the source has, were applied to the rows, and no
 -- other table changed.
 pub record Applies (held : List (Option Contents)) (source low high : ℕ) (c d : Contents) : Type 0 where
-  pub elsewhere : ChangesOne areas.Target 0 c d
-  pub applies : (changes : List (ℕ × Change)) → HasChanges held source changes → MakesRows (after_changes (numbers_between low high changes)) c d
+  pub elsewhere : ChangesOne rules areas.Target 0 c d
+  pub applies : (changes : List (ℕ × Change)) → HasChanges held source changes → MakesRows (after_all_changes (numbers_between low high changes)) c d
 
 -- a number above one and up to another
 abbrev pub IsWithinInterval : ℕ → ℕ → ℕ → Type 0
 IsWithinInterval after high number = (after < number) × (number ≤ high)
 
 -- how far changes were applied: up to the one that was found, or as there was none, to the end
-abbrev pub reached : ℕ → Option ℕ → ℕ
-reached high None = high
-reached high (Some number) = number
+abbrev pub applied_up_to : ℕ → Option ℕ → ℕ
+applied_up_to high None = high
+applied_up_to high (Some number) = number
 
 -- ---- calls
 
 -- how often the changes are read, and the rows written
 abbrev pub in_applying : ℕ → ℕ → ℕ → ℕ → Bounds
-in_applying reads writes source target = both (reads_of_one reads source areas.Log) (writes_of_one writes target areas.Target)
+in_applying reads writes source target = reads_and_writes reads source areas.Log writes target areas.Target
 
 -- what applying one change does
 abbrev pub AppliesOne : {K : Type 0} → (K → Kept) → Sites K → Sites K → ℕ → Change → Type 0
@@ -100,7 +101,7 @@ applied (Some number) = 1
 
 -- what one step of the loop does
 abbrev pub AppliesNext : {K : Type 0} → (K → Kept) → Sites K → Sites K → ℕ → ℕ → ℕ → ℕ → Option ℕ → Type 0
-AppliesNext kept old new source target after high next = AppliesOn kept old new source target after (reached high next) 1 (applied next)
+AppliesNext kept old new source target after high next = AppliesOn kept old new source target after (applied_up_to high next) 1 (applied next)
 
 -- what the whole loop does: it reads once more than there are changes in the interval
 abbrev pub AppliesAll : {K : Type 0} → (K → Kept) → Sites K → Sites K → ℕ → ℕ → ℕ → ℕ → Type 0

@@ -9,10 +9,11 @@ use Rattle.repl_records.specs.RecordKeys.{in_flight_key_spelling, IsInFlightKey}
 use Rattle.repl_records.specs.SourceSide.{in_flight_spelling}
 use Rattle.repl_records.specs.declared.record_keys.InFlightKey.{InFlightKey}
 use Rattle.repl_records.specs.declared.source_side.InFlight.{InFlight}
-use Rattle.rows_in_order.specs.Rows.{table_of, AllAfter, IsRising}
+use Rattle.rows_in_order.specs.Rows.{table_from_rows, AllAfter, IsRising}
 use Rattle.site_store.specs.declared.sites.Sites.{Sites}
-use Rattle.site_store.specs.Calls.{Bounds, reads_of_one, writes_of_one, both}
-use Rattle.rows_at_work.specs.Steps.{ChangesOne, WorksOn}
+use Rattle.site_store.specs.Calls.{Bounds, reads_and_writes}
+use Rattle.site_store.specs.Steps.{ChangesOne, WorksOn}
+use Rattle.rows_at_work.specs.Rules.{rules}
 
 -- a change in flight, under its transaction and position
 abbrev pub Row : Type 0
@@ -29,7 +30,7 @@ pub record AreInFlight (rows : List Row) : Type 0 where
 
 -- the table of changes in flight
 abbrev pub in_flight_table : List Row → Table
-in_flight_table rows = table_of in_flight_key_spelling in_flight_spelling rows
+in_flight_table rows = table_from_rows in_flight_key_spelling in_flight_spelling rows
 
 -- the changes that a transaction has in flight
 abbrev pub of_transaction : ℕ → List Row → List Row
@@ -41,7 +42,7 @@ of_others tx rows = filter (λ row. not (row.0.tx == tx)) rows
 
 -- The changes of a transaction were dropped, and no others, and this is how many they were.
 pub record Drops (tx count : ℕ) (c d : Contents) : Type 0 where
-  pub elsewhere : ChangesOne areas.Inflight 0 c d
+  pub elsewhere : ChangesOne rules areas.Inflight 0 c d
   pub drops : (rows : List Row) → AreInFlight rows → c areas.Inflight 0 ≡ in_flight_table rows → (d areas.Inflight 0 ≡ in_flight_table (of_others tx rows)) × (count ≡ length (of_transaction tx rows))
 
 -- ---- one after another
@@ -59,7 +60,7 @@ pub record AreLeft (tx gone : ℕ) (rows left : List Row) : Type 0 where
 
 -- The changes of a transaction up to a position were dropped.
 pub record DropsTo (tx after pos count : ℕ) (c d : Contents) : Type 0 where
-  pub elsewhere : ChangesOne areas.Inflight 0 c d
+  pub elsewhere : ChangesOne rules areas.Inflight 0 c d
   pub drops : (rows : List Row) → StandFrom tx after c rows → (left : List Row) × StandFrom tx pos d left × AreLeft tx count rows left
 
 -- The transaction has no changes left.
@@ -80,7 +81,7 @@ IsAbove after pos = (after < pos) × Is64 pos
 
 -- how often the changes in flight are read, and written
 abbrev pub in_dropping : ℕ → ℕ → ℕ → Bounds
-in_dropping reads writes server = both (reads_of_one reads server areas.Inflight) (writes_of_one writes server areas.Inflight)
+in_dropping reads writes server = reads_and_writes reads server areas.Inflight writes server areas.Inflight
 
 -- how many changes were dropped
 abbrev pub dropped : Option ℕ → ℕ

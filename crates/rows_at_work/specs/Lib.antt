@@ -1,6 +1,6 @@
 pub mod Applying
 pub mod Dropping
+pub mod History
 pub mod Records
 pub mod Rules
-pub mod Steps
 pub mod laws

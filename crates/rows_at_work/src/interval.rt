@@ -1,6 +1,7 @@
 //! The change rows of an interval are applied to a copy.
 
-ghost use Rattle.std.specs.Prelude.{◌≡◌, ◌≢◌, ◌<◌, ◌≤◌, ◌+◌, ◌-◌, length, OnOk, IfOk, IfErr, IfSome};
+ghost use Rattle.std.specs.Prelude.{◌≡◌, ◌≢◌, ◌<◌, ◌≤◌, ◌+◌, ◌-◌, length, OnOk, IfOk, IfErr};
+ghost use Rattle.std.specs.Prelude.{IfSome};
 ghost use Rattle.site_store.specs.Views.{names, work, IsOpenAt, IsClosedAt};
 ghost use Rattle.site_store.specs.Calls.{writes_of_one, AtServer, Fails};
 ghost use Rattle.site_store.specs.Damage.{Damages};

@@ -6,7 +6,7 @@ ghost use Rattle.row_codec.specs.Spelling.{b64, Is64, Any};
 ghost use Rattle.row_codec.specs.laws.Numbers.{one64};
 ghost use Rattle.row_codec.specs.laws.Ones.{one_by};
 ghost use Rattle.row_codec.specs.laws.Sizes.{value64};
-ghost use Rattle.rows_at_work.specs.Records.{change_spelling, FitsChange};
+ghost use Rattle.rows_at_work.specs.Records.{numbered_change_spelling, FitsChange};
 ghost use Rattle.rows_at_work.specs.laws.Records.{one_change, small_change};
 
 use repl_types::Area;
@@ -32,7 +32,7 @@ impl Part for Change {
 
     ghost has_spelling = { Any };
 
-    ghost spelling = { change_spelling };
+    ghost spelling = { numbered_change_spelling };
 
     ghost one = { one_change };
 
@@ -75,7 +75,8 @@ impl Part for CopiedRow {
 
     ghost spelling = { λ x. b64 x.value };
 
-    ghost one = { one_by Is64 b64 (λ x. Is64 x.value) (λ x. x.value) (λ x y e. ap (λ n. record { value = n }) e) (λ x fits. fits) one64 };
+    ghost one = { one_by Is64 b64 (λ x. Is64 x.value) (λ x. x.value)
+        (λ x y e. ap (λ n. record { value = n }) e) (λ x fits. fits) one64 };
 
     ghost again = { λ _ _. tt };
 

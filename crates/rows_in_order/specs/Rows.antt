@@ -15,9 +15,9 @@ abbrev pub IsUpTo : List ℕ → List ℕ → Type 0
 IsUpTo k l = is_before l k ≡ false
 
 -- the table that has each row's value at its key
-abbrev pub table_of : {A X : Type 0} → (A → List ℕ) → (X → List ℕ) → List (A × X) → Table
-table_of key value [] k = None
-table_of key value (r ∷ rs) k = if same_key (key r.0) k then Some (value r.1) else table_of key value rs k
+abbrev pub table_from_rows : {A X : Type 0} → (A → List ℕ) → (X → List ℕ) → List (A × X) → Table
+table_from_rows key value [] k = None
+table_from_rows key value (r ∷ rs) k = if same_key (key r.0) k then Some (value r.1) else table_from_rows key value rs k
 
 -- all these rows are before the key
 abbrev pub AllBefore : {A X : Type 0} → (A → List ℕ) → List ℕ → List (A × X) → Type 0
@@ -39,6 +39,10 @@ IsRising key (r ∷ rs) = AllAfter key (key r.0) rs × IsRising key rs
 -- the rows after one key, and up to another
 abbrev pub between : {A X : Type 0} → (A → List ℕ) → List ℕ → List ℕ → List (A × X) → List (A × X)
 between key low high rows = filter (λ r. is_before low (key r.0) && not (is_before high (key r.0))) rows
+
+-- the rows after a key
+abbrev pub rows_after : {A X : Type 0} → (A → List ℕ) → List ℕ → List (A × X) → List (A × X)
+rows_after key k rows = filter (λ r. is_before k (key r.0)) rows
 
 -- the rows with this one: in the place of the row at its key, or between those before and after it
 abbrev pub with_row : {A X : Type 0} → (A → List ℕ) → A × X → List (A × X) → List (A × X)

@@ -1,3 +1,4 @@
+pub mod After
 pub mod Before
 pub mod BetweenNumbers
 pub mod ByNumber
@@ -7,7 +8,6 @@ pub mod Filtered
 pub mod Fitting
 pub mod Found
 pub mod Numbered
-pub mod NumberedParts
 pub mod Prefixed
 pub mod Rising
 pub mod Unique

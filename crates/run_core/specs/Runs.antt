@@ -1,14 +1,14 @@
--- A run as the list of what it does: it commits worlds, and it writes lines.
+-- A run as the list of what it does: it commits worlds and writes lines.
 use Rattle.std.specs.Prelude.{◌≡◌, ℕ, List, [], ◌∷◌, ◌++◌, Option}
 use Rattle.keep_core.specs.Contents.{Contents}
-use Rattle.keep_core.specs.Told.{Takes}
+use Rattle.keep_core.specs.Revealed.{Takes}
 
--- What a run does, one thing after another. What a world is, each program says.
+-- One thing that a run does. What a world is, each program says.
 pub data Event (W : Type 0) : Type 0 where
   commits : W → Event W
   writes : List ℕ → Event W
 
--- the last world that was committed, or else this one
+-- the last world that was committed, or this one if none was
 abbrev pub last_world : {W : Type 0} → W → List (Event W) → W
 last_world w [] = w
 last_world w (commits v ∷ events) = last_world v events
@@ -20,18 +20,18 @@ lines_of [] = []
 lines_of (commits w ∷ events) = lines_of events
 lines_of (writes line ∷ events) = line ++ lines_of events
 
--- the bytes are a prefix of the line that comes next, and none if no line does
+-- the bytes are a prefix of the next line, or no bytes if no line comes next
 abbrev pub IsPartOf : {W : Type 0} → List ℕ → List (Event W) → Type 0
 IsPartOf part [] = part ≡ []
 IsPartOf part (commits w ∷ events) = part ≡ []
 IsPartOf part (writes line ∷ events) = (rest : List ℕ) × (line ≡ part ++ rest)
 
--- All these events happened: what is held stands for the last world, and the lines were taken.
+-- All events happened: what is held stands for the last world, and the sink took the lines.
 pub record Went {W : Type 0} (Stands : List (Option Contents) → W → Type 0) (events : List (Event W)) (w : W) (held : List (Option Contents)) (before now : Option (List ℕ)) : Type 0 where
   pub stands : Stands held (last_world w events)
   pub bytes : Takes before now (lines_of events)
 
--- Some of these events happened, from the first on, and of the next one at most a part of its line.
+-- The first of the events happened, and of the next one at most a part of its line.
 pub record Stopped {W : Type 0} (Stands : List (Option Contents) → W → Type 0) (events : List (Event W)) (w : W) (held : List (Option Contents)) (before now : Option (List ℕ)) : Type 0 where
   pub done : List (Event W)
   pub rest : List (Event W)
@@ -41,7 +41,7 @@ pub record Stopped {W : Type 0} (Stands : List (Option Contents) → W → Type 
   pub bytes : Takes before now (lines_of done ++ part)
   pub is_part : IsPartOf part rest
 
--- Some of these events happened, and from the world that they led to these are left.
+-- The first of the events happened, and the others are those left from the world that they led to.
 pub record Going {W : Type 0} (Stands : List (Option Contents) → W → Type 0) (events : List (Event W)) (w : W) (left : W → List (Event W)) (held : List (Option Contents)) (before now : Option (List ℕ)) : Type 0 where
   pub done : List (Event W)
   pub split : events ≡ done ++ left (last_world w done)

@@ -1,22 +1,24 @@
-//! The words for a run: what it does, one thing after another, and how far it came.
+//! Definitions for the contract of a run: the list of what it does, and how far it came.
+//!
+//! Below it is `keep_core`. Above it, `two_areas` states its run with these definitions. What a
+//! world is, and when contents represent it, is a parameter.
 //!
 //! A run commits worlds and writes lines (`Event`). Its contract says at `Ok` that all its events
-//! happened (`Went`), and at an error that some did, from the first on, and at most a part of the
-//! line that comes next (`Stopped`). A loop over its parts keeps `Going`, and the laws of
-//! `specs/laws` put parts together: `goes_on` past the events of one part, `stops_in` one of them,
-//! `going_end` when none is left. It stands on `keep_core`; `two_areas` shows its use. What a world
-//! is, and when contents stand for it, is a parameter.
+//! happened (`Went`), and at an error that the first of them did, and at most a part of the line
+//! that comes next (`Stopped`). A loop over parts of a run keeps `Going`, and the laws of
+//! `specs/laws` put parts together: `goes_on` after a part that ended, `stops_in` in a part that
+//! stopped, `going_end` when no part is left.
 //!
-//! For example, a call that commits `next w` and then writes `line` has the events
-//! `commits (next w) ∷ writes line ∷ []`; if the write fails, it stopped after the commit with a
-//! part of the line, so the line never comes before its commit.
+//! For example, a call that commits `next w` and then writes `line` has the events `commits (next
+//! w) ∷ writes line ∷ []`. If the write fails, the call stopped after the commit with a part of the
+//! line, so the line never comes before its commit.
 #![tactic(auto)]
 
 ghost use Rattle.std.specs.Prelude.{◌≡◌, ◌++◌, List};
 ghost use Rattle.run_core.specs.Runs.{Event, last_world, lines_of};
 
-/// Events in a row lead to the world that the later ones lead to from that of the earlier ones, and
-/// write the lines of both.
+/// Two lists of events in turn. They lead to the world that the second leads to from the last world
+/// of the first, and write the lines of the first and then those of the second.
 pub fn events_in_a_row<W>()
     ensures world { (w : W) (first second : List (Event W))
         → last_world w (first ++ second) ≡ last_world (last_world w first) second }

@@ -1,1 +1,2 @@
+pub mod EarlyStatus
 pub mod Session

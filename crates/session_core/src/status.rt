@@ -1,12 +1,13 @@
-//! The status that a run ends by.
+//! The status that a run ends with.
 
 ghost use Rattle.std.specs.Prelude.{◌≡◌};
-ghost use Rattle.session_core.specs.Session.{status_of, status_of_early};
+ghost use Rattle.session_core.specs.Session.{status_of};
+ghost use Rattle.session_core.specs.EarlyStatus.{status_of_early};
 
 use copy_lists::{Early, Refused};
 use repl_types::Status;
 
-/// The status of a run to the end of its input.
+/// The status of a run that read its input to the end.
 pub fn done_status(refused: Option<Refused>) -> Status
     ensures { result ≡ status_of refused }
 {

@@ -1,5 +1,5 @@
 -- A call of one server's keeper, as all servers see it.
-use Rattle.std.proofs.Common.{◌≡◌, ℕ, ◌<◌, ◌≤◌, List, length, get_or, refl, sym, ap, subst, ◌∙◌, arith, inl, inr}
+use Rattle.std.proofs.Common.{◌≡◌, ℕ, ◌<◌, List, length, get_or, map, refl, sym, ap, subst, ◌∙◌, arith, inl, inr}
 use Rattle.std.specs.Prelude.{Option, Some, None, IsSome}
 use Rattle.std.specs.Option.{option_map}
 use Rattle.std.specs.Vec.{with_item}
@@ -10,12 +10,12 @@ use Rattle.faults.specs.declared.fault.Fault.{Fault}
 use Rattle.faults.specs.declared.fault.Fault.TheVariants as faults
 use Rattle.keep_core.specs.Contents.{Contents, put_at}
 use Rattle.keep_core.specs.Kept.{Kept, Closes, seen_of, seen, opened, committed, after_read, after_write, changed}
-use Rattle.keep_core.specs.Told.{Rises}
+use Rattle.keep_core.specs.Revealed.{Rises}
 use Rattle.site_store.specs.declared.site.Site.{Site}
 use Rattle.site_store.specs.declared.sites.Sites.{Sites}
 use Rattle.site_store.specs.Records.{NoDamage, BlamesOne, Halts, MayHalt}
-use Rattle.site_store.specs.Servers.{AreServers, AllClosed, names_of}
-use Rattle.site_store.specs.Views.{names, held, work, fault_counts, reads_in, writes_in, sees}
+use Rattle.site_store.specs.Servers.{AreServers, names_of}
+use Rattle.site_store.specs.Views.{names, held, work, fault_counts, reads_in, sees}
 use Rattle.site_store.specs.Calls.{Bounds, no_access, reads_of_one, writes_of_one, Passes, Reads, Puts, Begins, ClosesOne, ClosesAll, Commits, AtServer, Blames, Fails, InDoubt}
 use Rattle.site_store.specs.laws.Counts.{passes_then}
 use Rattle.site_store.specs.laws.Transactions.{works_set}
@@ -25,22 +25,6 @@ use Rattle.site_store.proofs.Counting.{Counts, rises_later, counted_rises, count
 -- the servers with a new keeper at one
 abbrev pub with_keeper : {K : Type 0} → (sites : Sites K) (s : ℕ) (site : Site K) (new : K) → AreServers (names_of (swapped sites.list.items s site new)) → Sites K
 with_keeper sites s site new servers = record { list = with_item sites.list s (record { name = site.name; keeper = new }); servers = servers }
-
--- all is closed at the end, where each server is closed by itself
-pub closes_all : {K : Type 0} (kept : K → Kept) (old new : Sites K) → names new ≡ names old → held kept new ≡ held kept old → ((s : ℕ) → get_or (fault_counts kept old) s 0 ≤ get_or (fault_counts kept new) s 0) → ((a : Area) → reads_in kept a new ≡ reads_in kept a old) → ((a : Area) → writes_in kept a new ≡ writes_in kept a old) → AllClosed (work kept new) → ClosesAll kept old new no_access
-closes_all kept old new names held faults reads writes closed = record {
-  passes = record {
-    names = names;
-    faults = faults;
-    reads = λ a s lt. omega (arith, ap (λ (l : List ℕ). get_or l s 0) (reads a));
-    within = record {
-      reads = λ s a. omega (arith, ap (λ (l : List ℕ). get_or l s 0) (reads a));
-      writes = λ s a. omega (arith, ap (λ (l : List ℕ). get_or l s 0) (writes a));
-    };
-  };
-  held = held;
-  closed = closed;
-}
 
 module _ {K : Type 0} (kept : K → Kept) (sites : Sites K) (s : ℕ) (site : Site K) (below : s < length (names sites)) (is : site ≡ get_or sites.list.items s site) (new : K) where
   -- the server is one of the list
@@ -70,11 +54,16 @@ module _ {K : Type 0} (kept : K → Kept) (sites : Sites K) (s : ℕ) (site : Si
       names = names_stay kept sites.list.items s site lt is new;
       faults = none_fell kept sites.list.items s site lt is new (λ k. k.faults) c.later;
       reads = λ a. none_back kept sites.list.items s site lt is new (λ k. k.reads a) (c.back a);
+      writes = λ a. none_back kept sites.list.items s site lt is new (λ k. k.writes a) (c.kept_up a);
       within = record {
         reads = λ q a. within kept sites.list.items s site lt is new (λ p. most.reads p a) (λ k. k.reads a) (c.reads a) q;
         writes = λ q a. within kept sites.list.items s site lt is new (λ p. most.writes p a) (λ k. k.writes a) (c.writes a) q;
       };
     }
+
+    -- a count that rose
+    rose : (f : Kept → ℕ) → Rises (f (kept site.keeper)) (f (kept new)) → Rises (get_or (map (λ x. f (kept x.keeper)) sites.list.items) s 0) (get_or (map (λ x. f (kept x.keeper)) next.list.items) s 0)
+    rose f here = subst (λ (p : ℕ × ℕ). Rises p.0 p.1) (λ i. (sym (had kept sites.list.items s site lt is new f 0) i, sym (has kept sites.list.items s site lt is new f 0) i)) here
 
     -- what is held stays
     held_stays : (kept new).held ≡ (kept site.keeper).held → held kept next ≡ held kept sites
@@ -90,7 +79,7 @@ module _ {K : Type 0} (kept : K → Kept) (sites : Sites K) (s : ℕ) (site : Si
         held = held_stays (ap (λ (k : Kept). k.held) e);
         work = stays kept sites.list.items s site lt is new (λ k. k.open_work) (ap (λ (k : Kept). k.open_work) e);
       };
-      rose = subst (λ (p : ℕ × ℕ). Rises p.0 p.1) (λ i. (sym (had kept sites.list.items s site lt is new (λ k. k.reads a) 0) i, sym (has kept sites.list.items s site lt is new (λ k. k.reads a) 0 ∙ ap (λ (k : Kept). k.reads a) e) i)) (counted_rises (kept site.keeper).reads a);
+      rose = rose (λ k. k.reads a) (subst (λ (k : Kept). Rises ((kept site.keeper).reads a) (k.reads a)) (sym e) (counted_rises (kept site.keeper).reads a));
     }
 
     -- a put, or a remove
@@ -99,6 +88,7 @@ module _ {K : Type 0} (kept : K → Kept) (sites : Sites K) (s : ℕ) (site : Si
       passes = passes (writes_of_one 1 s a) (counts_written s (kept site.keeper) (kept new) a (omega (arith, ap (λ (k : Kept). k.faults) e)) (ap (λ (k : Kept). k.reads) e) (ap (λ (k : Kept). k.writes) e));
       held = held_stays (ap (λ (k : Kept). k.held) e);
       works = works_set (work kept sites) (work kept next) s a t key v open_at (becomes kept sites.list.items s site lt is new (λ k. k.open_work) _ (ap (λ (k : Kept). k.open_work) e ∙ ap (λ (w : Option (Option Contents)). option_map (option_map (λ c. put_at c a t key v)) w) (sym work_was)));
+      rose = rose (λ k. k.writes a) (subst (λ (k : Kept). Rises ((kept site.keeper).writes a) (k.writes a)) (sym e) (counted_rises (kept site.keeper).writes a));
     }
 
     -- a begin
@@ -136,15 +126,9 @@ module _ {K : Type 0} (kept : K → Kept) (sites : Sites K) (s : ℕ) (site : Si
       blames : (damage : Area → DamageCause → Type 0) (e : Fault) → BlamesOne s (kept site.keeper) (kept new) damage e → Blames kept sites end (AtServer s damage) e
       blames damage faults.Memory h = tt
       blames damage (faults.Keeper q) h =
-          let failed : get_or (fault_counts kept sites) s 0 ≡ (kept site.keeper).faults = had kept sites.list.items s site lt is new (λ k. k.faults) 0 in
-          let fails : get_or (fault_counts kept next) s 0 ≡ (kept new).faults = has kept sites.list.items s site lt is new (λ k. k.faults) 0 in
-          let rose : Rises (get_or (fault_counts kept sites) s 0) (get_or (fault_counts kept next) s 0) = subst (λ (p : ℕ × ℕ). Rises p.0 p.1) (λ i. (sym failed i, sym fails i)) h.1 in
-          subst (λ (k : ℕ). Rises (get_or (fault_counts kept sites) k 0) (get_or (fault_counts kept end) k 0)) (sym h.0) (rises_later _ _ _ rose (λ small. c.passes.faults s))
+          subst (λ (k : ℕ). Rises (get_or (fault_counts kept sites) k 0) (get_or (fault_counts kept end) k 0)) (sym h.0) (rises_later _ _ _ (rose (λ k. k.faults) h.1) (λ small. c.passes.faults s))
       blames damage (faults.Damaged q a cause) h =
-          let before : get_or (reads_in kept a sites) s 0 ≡ (kept site.keeper).reads a = had kept sites.list.items s site lt is new (λ k. k.reads a) 0 in
-          let now : get_or (reads_in kept a next) s 0 ≡ (kept new).reads a = has kept sites.list.items s site lt is new (λ k. k.reads a) 0 in
-          let rose : Rises (get_or (reads_in kept a sites) s 0) (get_or (reads_in kept a next) s 0) = subst (λ (p : ℕ × ℕ). Rises p.0 p.1) (λ i. (sym before i, sym now i)) h.1 in
-          (λ read. subst (λ (k : ℕ). Rises (get_or (reads_in kept a sites) k 0) (get_or (reads_in kept a end) k 0)) (sym h.0) (rises_later _ _ _ rose (λ small. c.passes.reads a s small)), (h.0, h.2))
+          (λ read. subst (λ (k : ℕ). Rises (get_or (reads_in kept a sites) k 0) (get_or (reads_in kept a end) k 0)) (sym h.0) (rises_later _ _ _ (rose (λ k. k.reads a) h.1) (λ small. c.passes.reads a s small)), (h.0, h.2))
       blames damage (faults.Refused refusal) h = absurd h
 
       -- a call but a commit

@@ -33,7 +33,7 @@ name_before {K} xs n k site lt within =
     let long : k < length xs = omega arith in
     get_or-map (λ x. x.name) (take n xs) k site [] short ∙ ap (λ (x : Site K). x.name) (get_or-take n xs k site lt) ∙ sym (get_or-map (λ x. x.name) xs k site [] long)
 
--- where an earlier server has the name of a later one, not all are apart
+-- if an earlier server has the name of a later one, not all are apart
 pub not_apart : {K : Type 0} (xs : List (Site K)) (n k : ℕ) (site : Site K) → n < length xs → site ≡ get_or xs n site → IsPlace (names_of (take n xs)) site.name k → AreApart (names_of xs) → ⊥
 not_apart xs n k site lt is place apart =
     let low : k < n = omega (arith, place.within, length-map (take n xs) (λ x. x.name), length-take n xs) in
@@ -43,12 +43,12 @@ not_apart xs n k site lt is place apart =
 pub apart_more : {K : Type 0} (xs : List (Site K)) (n : ℕ) (site : Site K) → n < length xs → site ≡ get_or xs n site → HasNone (names_of (take n xs)) site.name → ((i j : ℕ) → i < j → j < n → get_or (names_of xs) i [] ≢ get_or (names_of xs) j []) → (i j : ℕ) → i < j → j < n + 1 → get_or (names_of xs) i [] ≢ get_or (names_of xs) j []
 apart_more xs n site lt is none before i j low high = below_more (λ q. i < q → get_or (names_of xs) i [] ≢ get_or (names_of xs) q []) n (λ q lq lo. before i q lo lq) (λ lo e. none i (rw (length-map, length-take) (omega arith)) (name_before xs n i site lo lt ∙ e ∙ name_at xs n site lt is)) j high low
 
--- what is known where something was found
+-- what is known if something was found
 pub at_some : (P : Type 0) (Q : ℕ → Type 0) (o : Option ℕ) → is_some o ≡ true → MatchOption o P Q → (k : ℕ) × Q k
 at_some P Q None e h = absurd cc
 at_some P Q (Some k) e h = (k, h)
 
--- what is known where nothing was found
+-- what is known if nothing was found
 pub at_none : (P : Type 0) (Q : ℕ → Type 0) (o : Option ℕ) → is_some o ≡ false → MatchOption o P Q → P
 at_none P Q None e h = h
 at_none P Q (Some k) e h = absurd cc

@@ -1,10 +1,11 @@
 -- One server's keeper is replaced.
-use Rattle.std.proofs.Common.{◌≡◌, ◌≢◌, ℕ, ◌+◌, ◌-◌, ◌^◌, ◌<◌, ◌≤◌, List, length, map, get_or, sym, ap, subst, ◌∙◌, arith, inl, inr}
+use Rattle.std.proofs.Common.{◌≡◌, ◌≢◌, ℕ, ◌+◌, ◌<◌, ◌≤◌, List, length, map, get_or, sym, ap, subst, ◌∙◌, arith, inl, inr}
 use Rattle.std.proofs.Math.ListN.{set}
 use Rattle.std.proofs.Math.Seq.{map-set_same}
 use Rattle.std.proofs.lemmas.Bool.{cases_eq}
 use Rattle.std.proofs.lemmas.List.{map-set, get_or-set_same, get_or-set_other, length-map, get_or-map}
 use Rattle.keep_core.specs.Kept.{Kept}
+use Rattle.keep_core.specs.Revealed.{count_max}
 use Rattle.site_store.specs.declared.site.Site.{Site}
 use Rattle.site_store.specs.Servers.{names_of}
 use Rattle.site_store.specs.Calls.{NoneFell, NoneBack}
@@ -25,7 +26,7 @@ module _ {K : Type 0} (kept : K → Kept) (xs : List (Site K)) (s : ℕ) (site :
   pub names_stay : names_of (swapped xs s site new) ≡ names_of xs
   names_stay = map-set_same (λ x. x.name) xs s _ site (ap (λ (x : Site K). x.name) is)
 
-  -- what the keepers have doesn't change where the new one has the same
+  -- what the keepers have doesn't change if the new one has the same
   pub stays : {X : Type 0} (f : Kept → X) → f (kept new) ≡ f (kept site.keeper) → map (λ x. f (kept x.keeper)) (swapped xs s site new) ≡ map (λ x. f (kept x.keeper)) xs
   stays f e = map-set_same (λ x. f (kept x.keeper)) xs s _ site (e ∙ ap (λ (x : Site K). f (kept x.keeper)) is)
 
@@ -56,8 +57,8 @@ module _ {K : Type 0} (kept : K → Kept) (xs : List (Site K)) (s : ℕ) (site :
   none_fell f here = grown (λ q m n. m ≤ n) f (λ q m. omega arith) here
 
   -- no count fell, or one has reached its maximum, if the server's did so
-  pub none_back : (f : Kept → ℕ) → (f (kept new) < 2 ^ 64 - 1 → f (kept site.keeper) ≤ f (kept new)) → NoneBack (map (λ x. f (kept x.keeper)) xs) (map (λ x. f (kept x.keeper)) (swapped xs s site new))
-  none_back f here = grown (λ q m n. n < 2 ^ 64 - 1 → m ≤ n) f (λ q m lt. omega arith) here
+  pub none_back : (f : Kept → ℕ) → (f (kept new) < count_max → f (kept site.keeper) ≤ f (kept new)) → NoneBack (map (λ x. f (kept x.keeper)) xs) (map (λ x. f (kept x.keeper)) (swapped xs s site new))
+  none_back f here = grown (λ q m n. n < count_max → m ≤ n) f (λ q m lt. omega arith) here
 
   -- each count rose by at most so much if the server's did
   pub within : (most : ℕ → ℕ) (f : Kept → ℕ) → f (kept new) ≤ f (kept site.keeper) + most s → (q : ℕ) → get_or (map (λ x. f (kept x.keeper)) (swapped xs s site new)) q 0 ≤ get_or (map (λ x. f (kept x.keeper)) xs) q 0 + most q

@@ -1,5 +1,5 @@
 -- What a call leaves at all servers, at Ok and at a fault.
-use Rattle.std.specs.Prelude.{◌≡◌, ◌⊎◌, ◌&&◌, ◌==◌, if◌then◌else◌, ℕ, ◌+◌, ◌-◌, ◌^◌, ◌<◌, ◌≤◌, List, Option, Some, None, slice_index_or, slice_set}
+use Rattle.std.specs.Prelude.{◌≡◌, ◌⊎◌, ◌&&◌, ◌==◌, if◌then◌else◌, ℕ, ◌+◌, ◌<◌, ◌≤◌, List, Option, Some, None, slice_index_or, slice_set}
 use Rattle.repl_types.specs.Area.{same_area}
 use Rattle.repl_types.specs.declared.area.Area.{Area}
 use Rattle.repl_types.specs.declared.status.DamageCause.{DamageCause}
@@ -7,7 +7,7 @@ use Rattle.repl_types.specs.declared.status.DamageCause.TheVariants as causes
 use Rattle.faults.specs.declared.fault.Fault.{Fault}
 use Rattle.faults.specs.declared.fault.Fault.TheVariants as faults
 use Rattle.keep_core.specs.Kept.{Kept}
-use Rattle.keep_core.specs.Told.{Rises}
+use Rattle.keep_core.specs.Revealed.{count_max, Rises}
 use Rattle.site_store.specs.Servers.{AllClosed}
 use Rattle.site_store.specs.Views.{names, held, work, fault_counts, reads_in, writes_in, sees}
 use Rattle.site_store.specs.Works.{Works, Sets}
@@ -21,7 +21,7 @@ NoneFell old new = (s : ℕ) → slice_index_or old s 0 ≤ slice_index_or new s
 
 -- no count fell, unless it has reached its maximum
 abbrev pub NoneBack : List ℕ → List ℕ → Type 0
-NoneBack old new = (s : ℕ) → slice_index_or new s 0 < 2 ^ 64 - 1 → slice_index_or old s 0 ≤ slice_index_or new s 0
+NoneBack old new = (s : ℕ) → slice_index_or new s 0 < count_max → slice_index_or old s 0 ≤ slice_index_or new s 0
 
 -- how often at most each area of each server is read, and written
 pub record Bounds : Type 0 where
@@ -48,17 +48,22 @@ writes_of_one n s a = record { reads = λ q b. 0; writes = only n s a }
 abbrev pub both : Bounds → Bounds → Bounds
 both x y = record { reads = λ s a. x.reads s a + y.reads s a; writes = λ s a. x.writes s a + y.writes s a }
 
+-- one area of one server is read at most so often, and one area of one server written
+abbrev pub reads_and_writes : ℕ → ℕ → Area → ℕ → ℕ → Area → Bounds
+reads_and_writes m s a n t b = both (reads_of_one m s a) (writes_of_one n t b)
+
 -- Each area of each server was read, and written, at most so often.
 pub record IsWithin {K : Type 0} (kept : K → Kept) (old new : Sites K) (most : Bounds) : Type 0 where
   pub reads : (s : ℕ) (a : Area) → slice_index_or (reads_in kept a new) s 0 ≤ slice_index_or (reads_in kept a old) s 0 + most.reads s a
   pub writes : (s : ℕ) (a : Area) → slice_index_or (writes_in kept a new) s 0 ≤ slice_index_or (writes_in kept a old) s 0 + most.writes s a
 
--- What every call keeps: the names stay, no count of faults falls, nor one of reads that is below its
--- maximum, and areas are read and written so often at most.
+-- What every call keeps: the names stay, no count of faults falls, nor one of reads or of writes that
+-- is below its maximum, and areas are read and written so often at most.
 pub record Passes {K : Type 0} (kept : K → Kept) (old new : Sites K) (most : Bounds) : Type 0 where
   pub names : names new ≡ names old
   pub faults : NoneFell (fault_counts kept old) (fault_counts kept new)
   pub reads : (a : Area) → NoneBack (reads_in kept a old) (reads_in kept a new)
+  pub writes : (a : Area) → NoneBack (writes_in kept a old) (writes_in kept a new)
   pub within : IsWithin kept old new most
 
 -- ---- what a call leaves
@@ -69,16 +74,17 @@ pub record Stays {K : Type 0} (kept : K → Kept) (old new : Sites K) (most : Bo
   pub held : held kept new ≡ held kept old
   pub work : work kept new ≡ work kept old
 
--- One area of one server was read once, and nothing else changed.
+-- One area of one server was read once, and the servers hold and their transactions see the same.
 pub record Reads {K : Type 0} (kept : K → Kept) (old new : Sites K) (s : ℕ) (a : Area) : Type 0 where
   pub stays : Stays kept old new (reads_of_one 1 s a)
   pub rose : Rises (slice_index_or (reads_in kept a old) s 0) (slice_index_or (reads_in kept a new) s 0)
 
--- The transaction of one server sees this at one key: it was written once, and nothing else changed.
+-- The transaction of one server sees this at one key: the area was written once, and what is held stays.
 pub record Puts {K : Type 0} (kept : K → Kept) (old new : Sites K) (s : ℕ) (a : Area) (t : ℕ) (key : List ℕ) (value : Option (List ℕ)) : Type 0 where
   pub passes : Passes kept old new (writes_of_one 1 s a)
   pub held : held kept new ≡ held kept old
   pub works : Works (work kept old) (work kept new) s (Sets a t key value)
+  pub rose : Rises (slice_index_or (writes_in kept a old) s 0) (slice_index_or (writes_in kept a new) s 0)
 
 -- One server has a transaction open, which sees what is held.
 pub record Begins {K : Type 0} (kept : K → Kept) (old new : Sites K) (s : ℕ) : Type 0 where

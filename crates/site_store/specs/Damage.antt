@@ -21,6 +21,10 @@ pub record Rules : Type 1 where
   -- in these contents a record with this key and this value doesn't fit
   pub is_unfit : Area → ℕ → List ℕ → List ℕ → Contents → Type 0
 
+-- no record is called for, and each one fits
+abbrev pub AsksForNothing : Rules → Type 0
+AsksForNothing rules = ((a : Area) (t : ℕ) (key : List ℕ) (c : Contents) → rules.is_needed a t key c → ⊥) × ((a : Area) (t : ℕ) (key value : List ℕ) (c : Contents) → rules.is_unfit a t key value c → ⊥)
+
 -- The bytes stand in the table as a key, and are none; or they stand there as a value, and are none.
 abbrev pub ShowsMisspelt : Rules → Area → List ℕ → Option Contents → Type 0
 ShowsMisspelt rules a bytes saw = (t : ℕ) × (((rules.is_key a t bytes → ⊥) × IfSome saw (λ c. (value : List ℕ) × (c a t bytes ≡ Some value))) ⊎ ((rules.is_value a t bytes → ⊥) × IfSome saw (λ c. (key : List ℕ) × (c a t key ≡ Some bytes))))

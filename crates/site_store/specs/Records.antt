@@ -1,8 +1,7 @@
 -- What one keeper gives as records, and why a call of it failed.
-use Rattle.std.specs.Prelude.{◌≡◌, ◌⊎◌, ℕ, ◌≤◌, false, List, [], Option, Some, None, IfSome}
+use Rattle.std.specs.Prelude.{◌≡◌, ◌⊎◌, ℕ, ◌≤◌, List, [], Option, Some, None, IfSome}
 use Rattle.std.specs.Option.{option_map}
 use Rattle.std.specs.declared.cmp.Ordering.TheVariants.{Less}
-use Rattle.repl_types.specs.Area.{same_area}
 use Rattle.repl_types.specs.Bytes.{bytes_cmp}
 use Rattle.repl_types.specs.Sizes.{IsKeySize, IsValueSize}
 use Rattle.repl_types.specs.declared.area.Area.{Area}
@@ -10,9 +9,9 @@ use Rattle.repl_types.specs.declared.status.DamageCause.{DamageCause}
 use Rattle.repl_types.specs.declared.status.DamageCause.TheVariants as causes
 use Rattle.faults.specs.declared.fault.Fault.{Fault}
 use Rattle.faults.specs.declared.fault.Fault.TheVariants as faults
-use Rattle.keep_core.specs.Contents.{Contents, IsNext, IsLast}
+use Rattle.keep_core.specs.Contents.{Contents, IsNextKey, IsLastKey}
 use Rattle.keep_core.specs.Kept.{Kept, seen}
-use Rattle.keep_core.specs.Told.{Rises}
+use Rattle.keep_core.specs.Revealed.{Rises}
 use Rattle.keep_core.specs.declared.keeper.KeepError.{KeepError}
 use Rattle.keep_core.specs.declared.keeper.KeepError.TheVariants as keep
 use Rattle.row_codec.specs.Takes.{NoSpelling}
@@ -24,16 +23,16 @@ abbrev pub RowIs : {X : Type 0} → (X → List ℕ) → Area → ℕ → List �
 RowIs spelling a t key row c = c a t key ≡ option_map spelling row
 
 -- a record of the kind, whose spelling has the size of a value
-pub record IsRow {X : Type 0} (row_fits : X → Type 0) (spelling : X → List ℕ) (row : X) : Type 0 where
+pub record IsRecord {X : Type 0} (row_fits : X → Type 0) (spelling : X → List ℕ) (row : X) : Type 0 where
   pub fits : row_fits row
   pub size : IsValueSize (spelling row)
 
--- the bytes, or where there are none those of a first state
+-- the bytes, or if there are none those of a first state
 abbrev pub or_first : {X : Type 0} → (X → List ℕ) → X → Option (List ℕ) → List ℕ
 or_first spelling first None = spelling first
 or_first spelling first (Some bytes) = bytes
 
--- the record is what the contents have at the key, and where they have nothing it is the first state
+-- the record is what the contents have at the key, and if they have nothing it is the first state
 abbrev pub StateIs : {X : Type 0} → (X → List ℕ) → Area → ℕ → List ℕ → X → X → Contents → Type 0
 StateIs spelling a t key first state c = spelling state ≡ or_first spelling first (c a t key)
 
@@ -44,15 +43,15 @@ after_key spelling (Some key) = spelling key
 
 -- this is the next record in key order, or there is none
 abbrev pub NextRowIs : {Y X : Type 0} → (Y → List ℕ) → (X → List ℕ) → Area → ℕ → List ℕ → Option (Y × X) → Contents → Type 0
-NextRowIs key_spelling spelling a t after None c = IsLast (c a t) after
-NextRowIs key_spelling spelling a t after (Some entry) c = IsNext (c a t) after (key_spelling entry.0) (spelling entry.1)
+NextRowIs key_spelling spelling a t after None c = IsLastKey (c a t) after
+NextRowIs key_spelling spelling a t after (Some entry) c = IsNextKey (c a t) after (key_spelling entry.0) (spelling entry.1)
 
 -- a key that is above, with its record, both of the sizes that are stored
 pub record Follows {Y X : Type 0} (key_fits : Y → Type 0) (key_spelling : Y → List ℕ) (row_fits : X → Type 0) (spelling : X → List ℕ) (after : List ℕ) (entry : Y × X) : Type 0 where
   pub above : bytes_cmp after (key_spelling entry.0) ≡ Less
   pub fits : key_fits entry.0
   pub size : IsKeySize (key_spelling entry.0)
-  pub row : IsRow row_fits spelling entry.1
+  pub row : IsRecord row_fits spelling entry.1
 
 -- ---- damage
 
@@ -85,12 +84,12 @@ Misspelt fits spelling a t key saw bytes = NoSpelling fits spelling bytes × IfS
 -- bytes are no key's, and are the next key of what was seen; or they are no record's, and are its value
 abbrev pub MisspeltNext : {Y X : Type 0} → (Y → Type 0) → (Y → List ℕ) → (X → Type 0) → (X → List ℕ) → Area → ℕ → List ℕ → Option Contents → List ℕ → Type 0
 MisspeltNext key_fits key_spelling fits spelling a t after saw bytes =
-    (NoSpelling key_fits key_spelling bytes × IfSome saw (λ c. (value : List ℕ) × IsNext (c a t) after bytes value))
-    ⊎ (NoSpelling fits spelling bytes × IfSome saw (λ c. (key : List ℕ) × IsNext (c a t) after key bytes))
+    (NoSpelling key_fits key_spelling bytes × IfSome saw (λ c. (value : List ℕ) × IsNextKey (c a t) after bytes value))
+    ⊎ (NoSpelling fits spelling bytes × IfSome saw (λ c. (key : List ℕ) × IsNextKey (c a t) after key bytes))
 
 -- ---- why a call of one keeper failed
 
--- Who is to blame: nobody for want of memory; the server, if its keeper's count of faults rose; or what
+-- Who is to blame: nobody if memory ran out; the server, if its keeper's count of faults rose; or what
 -- was read of an area, if that shows damage. No call of a keeper refuses.
 abbrev pub BlamesOne : ℕ → Kept → Kept → (Area → DamageCause → Type 0) → Fault → Type 0
 BlamesOne server old new damage faults.Memory = Unit {0}
@@ -118,9 +117,3 @@ pub record MayHalt (server : ℕ) (old new : Kept) (e : Fault) : Type 0 where
 abbrev pub fault_from : ℕ → KeepError → Fault
 fault_from server keep.Memory = faults.Memory
 fault_from server keep.Failed = faults.Keeper server
-
--- ---- areas
-
--- the one area isn't the other
-abbrev pub Other : Area → Area → Type 0
-Other a b = same_area a b ≡ false

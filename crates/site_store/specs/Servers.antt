@@ -6,12 +6,12 @@ use Rattle.keep_core.specs.Kept.{Kept}
 use Rattle.site_store.specs.declared.site.Site.{Site}
 
 -- the name of a server
-abbrev pub name_of : {K : Type 0} → Site K → List ℕ
-name_of site = site.name
+abbrev pub site_name : {K : Type 0} → Site K → List ℕ
+site_name site = site.name
 
 -- the keeper of a server
-abbrev pub keeper_of : {K : Type 0} → Site K → K
-keeper_of site = site.keeper
+abbrev pub site_keeper : {K : Type 0} → Site K → K
+site_keeper site = site.keeper
 
 -- the names of the servers
 abbrev pub names_of : {K : Type 0} → List (Site K) → List (List ℕ)
@@ -22,11 +22,11 @@ module _ {K : Type 0} (kept : K → Kept) where
   abbrev pub state : Site K → Kept
   state site = kept site.keeper
 
-  -- what each server holds, where it tells
+  -- what each server holds, if its keeper reveals it
   abbrev pub held_of : List (Site K) → List (Option Contents)
   held_of xs = map (λ site. (kept site.keeper).held) xs
 
-  -- what each server's open transaction sees
+  -- what each server's open transaction sees, and None if none is open
   abbrev pub work_of : List (Site K) → List (Option (Option Contents))
   work_of xs = map (λ site. (kept site.keeper).open_work) xs
 

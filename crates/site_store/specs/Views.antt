@@ -16,11 +16,11 @@ abbrev pub names : {K : Type 0} → Sites K → List (List ℕ)
 names sites = names_of sites.list.items
 
 module _ {K : Type 0} (kept : K → Kept) where
-  -- what each server holds, where it tells
+  -- what each server holds, if its keeper reveals it
   abbrev pub held : Sites K → List (Option Contents)
   held sites = held_of kept sites.list.items
 
-  -- what each server's open transaction sees
+  -- what each server's open transaction sees, and None if none is open
   abbrev pub work : Sites K → List (Option (Option Contents))
   work sites = work_of kept sites.list.items
 

@@ -1,3 +1,5 @@
 pub mod Counts
 pub mod Damage
+pub mod Numbers
+pub mod Steps
 pub mod Transactions

@@ -5,10 +5,17 @@
 //! transaction a server. Any fault of `Sites` leaves no transaction open at any server, so a layer
 //! above that hands a fault on by `?` knows what stands: each server holds what it held.
 //!
+//! For example, `sites.put::<InFlight>(alloc, server, Table0, &key, &row)?` puts a record into the
+//! table of changes in flight, and `sites.get::<InFlight>(alloc, server, Table0, &key)?` reads it.
+//!
 //! The crate's `specs/` have the words in which every layer above says what it changed: `Views` is
 //! what a clause sees of all servers, `Calls` is what a call leaves, at Ok and at a fault, `Works`
 //! what a transaction makes of what it sees, and `Damage` what shows that contents are damaged.
-//! `specs/laws` has the laws by which calls compose: `Counts`, `Transactions`, `Damage`.
+//! `specs/laws` has the laws by which calls compose: `Counts`, `Transactions`, `Damage`, `Steps`.
+//!
+//! It stands on `keep_core` for keepers, on `row_codec` and `repl_records` for records, on
+//! `rows_in_order` and on `faults`. The layers that work on servers stand on it; `two_areas` and
+//! `rows_at_work` show its use.
 #![tactic(auto)]
 
 #[cfg(test)]

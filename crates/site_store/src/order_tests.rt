@@ -40,7 +40,7 @@ fn one_server(alloc: Global) -> Result<Sites<MapKeeper>, Fail>
     Ok(Sites::new(list)?)
 }
 
-/// Puts a row without values at the key, where the key is one that a row may have.
+/// Puts a row without values at the key, if a row may have that key.
 #[tactic(auto, unfolding(row_codec::specs::Spelling::b16))]
 fn put_at(alloc: Global, sites: &mut Sites<MapKeeper>, key: &Row) -> Result<(), Fault>
     requires one { length (names sites.old) ≡ 1 }

@@ -6,8 +6,12 @@ ghost use Rattle.std.specs.Prelude.{◌≡◌, OnOk, IfOk, IfErr, IfSome};
 ghost use Rattle.std.specs.Option.{option_copied};
 ghost use Rattle.repl_types.specs.Sizes.{IsKeySize, IsValueSize};
 ghost use Rattle.repl_types.specs.declared.area.Area.TheVariants.{Spill};
-ghost use Rattle.keep_core.specs.Kept.{Kept, IsOpen, IsClosed, opened, committed, after_read, after_write, after_put, after_remove, seen, WasThere, NextIs, GivesNext};
-ghost use Rattle.site_store.specs.Records.{RowIs, IsRow, after_key, NextRowIs, Follows, NoDamage, Misread, Misspelt, MisspeltNext, fault_from, Halts, MayHalt};
+ghost use Rattle.keep_core.specs.Kept.{Kept, IsOpen, IsClosed, opened, committed, after_read};
+ghost use Rattle.keep_core.specs.Kept.{after_write, after_put, after_remove, seen, WasThere};
+ghost use Rattle.keep_core.specs.Kept.{NextIs, GivesNext};
+ghost use Rattle.site_store.specs.Records.{RowIs, IsRecord, after_key, NextRowIs, Follows};
+ghost use Rattle.site_store.specs.Records.{NoDamage, Misread, Misspelt, MisspeltNext, fault_from};
+ghost use Rattle.site_store.specs.Records.{Halts, MayHalt};
 
 use faults::Fault;
 use keep_core::{KeepError, Keeper};
@@ -38,7 +42,7 @@ fn misspelt(server: u32, area: Area, bytes: Vec<u8>) -> Fault
     }
 }
 
-/// The record at the key, where there is one.
+/// The record at the key, if there is one.
 pub(crate) fn get_record<K: Keeper, R: Stored>(
     alloc: Global,
     server: u32,
@@ -49,7 +53,7 @@ pub(crate) fn get_record<K: Keeper, R: Stored>(
     ensures ok { OnOk result (K.kept keeper.new ≡ after_read (K.kept keeper.old) R.AREA) }
     ensures row { IfOk result (λ row. IfSome (seen (K.kept keeper.old))
         (RowIs R.spelling R.AREA (R.Table.number table) (R.Key.spelling key.now) row)) }
-    ensures fits { IfOk result (λ row. IfSome row (IsRow R.fits R.spelling)) }
+    ensures fits { IfOk result (λ row. IfSome row (IsRecord R.fits R.spelling)) }
     ensures fault { let damaged = Misspelt R.fits R.spelling R.AREA (R.Table.number table)
         (R.Key.spelling key.now) (seen (K.kept keeper.old)) in
         IfErr result (Halts server (K.kept keeper.old) (after_read (K.kept keeper.old) R.AREA)
@@ -81,7 +85,7 @@ fn spell_after<R: Stored>(alloc: Global, after: Option<&R::Key>) -> Result<Vec<u
     Ok(spelled)
 }
 
-/// The first record whose key is above `after`, or of all where `after` is `None`.
+/// The first record whose key is above `after`, or of all if `after` is `None`.
 pub(crate) fn next_record<K: Keeper, R: Stored>(
     alloc: Global,
     server: u32,

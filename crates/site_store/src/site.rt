@@ -2,7 +2,9 @@
 
 ghost use Rattle.std.specs.Prelude.{◌≡◌, OnOk, IfOk, IfErr, OnErr, IfSome};
 ghost use Rattle.std.specs.Option.{option_copied};
-ghost use Rattle.keep_core.specs.Kept.{IsOpen, IsClosed, opened, committed, after_read, after_write, after_put, after_remove, seen, WasThere, Closes};
+ghost use Rattle.keep_core.specs.Kept.{IsOpen, IsClosed, opened, committed, after_read};
+ghost use Rattle.keep_core.specs.Kept.{after_write, after_put, after_remove, seen, WasThere};
+ghost use Rattle.keep_core.specs.Kept.{Closes};
 
 use crate::records::{begin_at, commit_at, get_record, next_record, put_record, remove_record};
 use faults::Fault;
@@ -19,14 +21,16 @@ pub struct Site<K> {
 }
 
 impl<K: Keeper> Site<K> {
-    ghost use Rattle.site_store.specs.Records.{RowIs, IsRow, after_key, NextRowIs, Follows, NoDamage, Misread, Misspelt, MisspeltNext, Halts, MayHalt};
-    ghost use Rattle.site_store.specs.Servers.{name_of, keeper_of, state};
+    ghost use Rattle.site_store.specs.Records.{RowIs, IsRecord, after_key, NextRowIs, Follows};
+    ghost use Rattle.site_store.specs.Records.{NoDamage, Misread, Misspelt, MisspeltNext, Halts};
+    ghost use Rattle.site_store.specs.Records.{MayHalt};
+    ghost use Rattle.site_store.specs.Servers.{site_name, site_keeper, state};
 
     /// It takes no memory.
     pub fn open_site(name: Name, keeper: K) -> Site<K>
         requires { IsClosed (K.kept keeper) }
-        ensures name { name_of result ≡ name }
-        ensures keeper { keeper_of result ≡ keeper }
+        ensures name { site_name result ≡ name }
+        ensures keeper { site_keeper result ≡ keeper }
     {
         Site { name, keeper }
     }
@@ -38,7 +42,7 @@ impl<K: Keeper> Site<K> {
         ensures fault { IfErr result (Halts 0 (state K.kept self.old) (state K.kept self.old)
             (state K.kept self.new) NoDamage) }
         ensures closed { OnErr result (IsClosed (state K.kept self.new)) }
-        ensures name { name_of self.new ≡ name_of self.old }
+        ensures name { site_name self.new ≡ site_name self.old }
     {
         match begin_at(0, &mut self.keeper) {
             Ok(()) => Ok(()),
@@ -56,7 +60,7 @@ impl<K: Keeper> Site<K> {
         ensures ok { OnOk result (state K.kept self.new ≡ committed (state K.kept self.old)) }
         ensures fault { IfErr result (MayHalt 0 (state K.kept self.old) (state K.kept self.new)) }
         ensures closed { OnErr result (IsClosed (state K.kept self.new)) }
-        ensures name { name_of self.new ≡ name_of self.old }
+        ensures name { site_name self.new ≡ site_name self.old }
     {
         match commit_at(0, &mut self.keeper) {
             Ok(()) => Ok(()),
@@ -70,12 +74,12 @@ impl<K: Keeper> Site<K> {
     /// No transaction is open, and what is held stays.
     pub fn rollback(&mut self)
         ensures closes { Closes (state K.kept self.old) (state K.kept self.new) }
-        ensures name { name_of self.new ≡ name_of self.old }
+        ensures name { site_name self.new ≡ site_name self.old }
     {
         self.keeper.rollback();
     }
 
-    /// The record at the key, where there is one. After a fault what is held is as before.
+    /// The record at the key, if there is one. After a fault what is held is as before.
     pub fn get<R: Stored>(
         &mut self,
         alloc: Global,
@@ -86,14 +90,14 @@ impl<K: Keeper> Site<K> {
             ≡ after_read (state K.kept self.old) R.AREA) }
         ensures row { IfOk result (λ row. IfSome (seen (state K.kept self.old))
             (RowIs R.spelling R.AREA (R.Table.number table) (R.Key.spelling key.now) row)) }
-        ensures fits { IfOk result (λ row. IfSome row (IsRow R.fits R.spelling)) }
+        ensures fits { IfOk result (λ row. IfSome row (IsRecord R.fits R.spelling)) }
         ensures fault { let damaged = Misspelt R.fits R.spelling R.AREA (R.Table.number table)
             (R.Key.spelling key.now) (seen (state K.kept self.old)) in
             IfErr result (Halts 0 (state K.kept self.old)
             (after_read (state K.kept self.old) R.AREA) (state K.kept self.new)
             (Misread R.AREA damaged)) }
         ensures closed { OnErr result (IsClosed (state K.kept self.new)) }
-        ensures name { name_of self.new ≡ name_of self.old }
+        ensures name { site_name self.new ≡ site_name self.old }
     {
         match get_record(alloc, 0, &mut self.keeper, table, key) {
             Ok(row) => Ok(row),
@@ -104,7 +108,7 @@ impl<K: Keeper> Site<K> {
         }
     }
 
-    /// The first record whose key is above `after`, or of all where `after` is `None`. After a
+    /// The first record whose key is above `after`, or of all if `after` is `None`. After a
     /// fault what is held is as before.
     pub fn next<R: Stored>(
         &mut self,
@@ -127,7 +131,7 @@ impl<K: Keeper> Site<K> {
             (after_read (state K.kept self.old) R.AREA) (state K.kept self.new)
             (Misread R.AREA damaged)) }
         ensures closed { OnErr result (IsClosed (state K.kept self.new)) }
-        ensures name { name_of self.new ≡ name_of self.old }
+        ensures name { site_name self.new ≡ site_name self.old }
     {
         match next_record(alloc, 0, &mut self.keeper, table, after) {
             Ok(row) => Ok(row),
@@ -155,7 +159,7 @@ impl<K: Keeper> Site<K> {
         ensures fault { IfErr result (Halts 0 (state K.kept self.old)
             (after_write (state K.kept self.old) R.AREA) (state K.kept self.new) NoDamage) }
         ensures closed { OnErr result (IsClosed (state K.kept self.new)) }
-        ensures name { name_of self.new ≡ name_of self.old }
+        ensures name { site_name self.new ≡ site_name self.old }
     {
         match put_record(alloc, 0, &mut self.keeper, table, key, value) {
             Ok(()) => Ok(()),
@@ -183,7 +187,7 @@ impl<K: Keeper> Site<K> {
         ensures fault { IfErr result (Halts 0 (state K.kept self.old)
             (after_write (state K.kept self.old) R.AREA) (state K.kept self.new) NoDamage) }
         ensures closed { OnErr result (IsClosed (state K.kept self.new)) }
-        ensures name { name_of self.new ≡ name_of self.old }
+        ensures name { site_name self.new ≡ site_name self.old }
     {
         match remove_record::<K, R>(alloc, 0, &mut self.keeper, table, key) {
             Ok(found) => Ok(found),
@@ -196,7 +200,7 @@ impl<K: Keeper> Site<K> {
 
     /// The keeper. It takes no memory.
     pub fn into_keeper(self) -> K
-        ensures { result ≡ keeper_of self }
+        ensures { result ≡ site_keeper self }
     {
         let Site { name: _, keeper } = self;
         keeper

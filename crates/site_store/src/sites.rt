@@ -1,8 +1,11 @@
 //! All servers, each at its number.
 
-ghost use Rattle.std.specs.Prelude.{◌≡◌, ◌<◌, ◌≤◌, ℕ, ◌^◌, ◌↔◌, IsTrue, [], slice_index_or, length, IfOk, IfErr, MatchOption, take};
+ghost use Rattle.std.specs.Prelude.{◌≡◌, ◌<◌, ◌≤◌, ℕ, ◌^◌, ◌↔◌, IsTrue, [], slice_index_or, length};
+ghost use Rattle.std.specs.Prelude.{IfOk, IfErr, MatchOption, take};
 ghost use Rattle.repl_types.specs.declared.area.Area.{Area};
-ghost use Rattle.site_store.specs.Servers.{names_of, held_of, work_of, faults_of, reads_of, writes_of, AllClosed, AreApart, AreServers, IsPlace, HasNone};
+ghost use Rattle.site_store.specs.Servers.{names_of, held_of, work_of, faults_of, reads_of};
+ghost use Rattle.site_store.specs.Servers.{writes_of, AllClosed, AreApart, AreServers, IsPlace};
+ghost use Rattle.site_store.specs.Servers.{HasNone};
 
 use crate::site::Site;
 use keep_core::Keeper;
@@ -78,8 +81,8 @@ impl<K: Keeper> Sites<K> {
     ghost use Rattle.site_store.specs.Views.{list_of, names};
     ghost use Rattle.site_store.specs.Calls.{ClosesOne, ClosesAll, no_access};
 
-    /// All servers of the list. `BadSites` comes just where there are none, more than 16, or two of
-    /// one name. It takes no memory.
+    /// All servers of the list. `BadSites` is returned if and only if there are none, more than 16,
+    /// or two of one name. It takes no memory.
     pub fn new(list: List<Site<K>>) -> Result<Sites<K>, SitesError>
     where
         K: Drop,
@@ -110,7 +113,7 @@ impl<K: Keeper> Sites<K> {
         &self.list[server as usize].name
     }
 
-    /// The server of that name. None comes just where there is none.
+    /// The server of that name, if there is one.
     pub fn find(&self, name: &Name) -> Option<u32>
         ensures { MatchOption result (HasNone (names self.now) name.now)
             (IsPlace (names self.now) name.now) }

@@ -16,8 +16,8 @@ use row_codec::{Part, Stored, Table0, TakeError};
 use std::alloc::{AllocError, Global};
 use std::test::Fail;
 
-/// A keeper of one slot, whatever the key. It doesn't tell what it holds, and its counts stand at
-/// their last values.
+/// A keeper of one slot, whatever the key. It doesn't reveal what it holds, and its counts have
+/// reached their maximum.
 #[derive(Drop)]
 struct Slot {
     open: bool,
@@ -25,7 +25,13 @@ struct Slot {
 }
 
 impl Keeper for Slot {
-    ghost kept = { λ slot. record { held = None; open_work = if slot.open then Some None else None; faults = 2 ^ 64 - 1; reads = λ a. 2 ^ 64 - 1; writes = λ a. 2 ^ 64 - 1 } };
+    ghost kept = { λ slot. record {
+      held = None;
+      open_work = if slot.open then Some None else None;
+      faults = 2 ^ 64 - 1;
+      reads = λ a. 2 ^ 64 - 1;
+      writes = λ a. 2 ^ 64 - 1;
+    } };
 
     fn begin(&mut self) -> Result<(), KeepError> {
         self.open = true;
@@ -99,7 +105,8 @@ impl Part for Count {
 
     ghost spelling = { λ x. b64 x.count };
 
-    ghost one = { one_by Is64 b64 (λ x. Is64 x.count) (λ x. x.count) (λ x y e. ap (λ n. record { count = n }) e) (λ x fits. fits) one64 };
+    ghost one = { one_by Is64 b64 (λ x. Is64 x.count) (λ x. x.count)
+        (λ x y e. ap (λ n. record { count = n }) e) (λ x fits. fits) one64 };
 
     ghost again = { λ _ _. tt };
 
@@ -149,7 +156,7 @@ fn sites_of(alloc: Global, names: &[&str]) -> Option<Result<Sites<Slot>, SitesEr
     Some(Sites::new(list))
 }
 
-/// How many servers the names give, and 0 where they give none.
+/// How many servers the names give, and 0 if they give none.
 fn count_of(alloc: Global, names: &[&str]) -> Option<u32> {
     match sites_of(alloc, names) {
         Some(Ok(sites)) => Some(sites.len()),

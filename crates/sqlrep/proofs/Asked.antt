@@ -20,13 +20,13 @@ sqlrep_is_free = refl
 pub of_sqlrep : (P : Kinds → Type 0) (app : App) (words : List (List ℕ)) → app ≡ sqlrep_app → (is_simple_and_free app ≡ true → P (fault_of app words)) → P (fault_of sqlrep_app words)
 of_sqlrep P app words same h = subst (λ (a : App). P (fault_of a words)) same (h (ap is_simple_and_free same ∙ sqlrep_is_free))
 
--- where every kind is shown, one of them is
+-- if every kind is shown, one of them is
 pub shown_of_all : (k : ErrorKind) (kinds : Kinds) → IsAmong k kinds → list_all is_shown kinds ≡ true → is_shown k ≡ true
 shown_of_all k [] h all = absurd h
 shown_of_all k (x ∷ xs) (inl e) all = ap is_shown e ∙ grind (arith, common_steps)
 shown_of_all k (x ∷ xs) (inr h) all = shown_of_all k xs h (grind (arith, common_steps))
 
--- where no kind is shown, one of them isn't
+-- if no kind is shown, one of them isn't
 pub not_shown_of_any : (k : ErrorKind) (kinds : Kinds) → IsAmong k kinds → list_any is_shown kinds ≡ false → is_shown k ≡ false
 not_shown_of_any k [] h none = absurd h
 not_shown_of_any k (x ∷ xs) (inl e) none = ap is_shown e ∙ grind (arith, common_steps)

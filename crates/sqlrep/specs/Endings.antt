@@ -16,13 +16,13 @@ code_of statuses.InputTooLong = 7
 code_of (statuses.Damaged server area cause) = 8
 
 -- the line on standard error
-abbrev pub line_of : Status → Option (List ℕ)
-line_of statuses.Ok = None
-line_of statuses.Refused = None
-line_of statuses.Usage = Some (codes "sqlrep: usage: sqlrep [--cells N] NAME=PATH... | sqlrep copy")
-line_of (statuses.KeeperFault server) = Some (codes "sqlrep: keeper fault")
-line_of statuses.InputFault = Some (codes "sqlrep: input fault")
-line_of statuses.OutputFault = Some (codes "sqlrep: output fault")
-line_of statuses.Memory = Some (codes "sqlrep: out of memory")
-line_of statuses.InputTooLong = Some (codes "sqlrep: input too long")
-line_of (statuses.Damaged server area cause) = Some (codes "sqlrep: damaged")
+abbrev pub status_line_of : Status → Option (List ℕ)
+status_line_of statuses.Ok = None
+status_line_of statuses.Refused = None
+status_line_of statuses.Usage = Some (codes "sqlrep: usage: sqlrep [--cells N] NAME=PATH... | sqlrep copy")
+status_line_of (statuses.KeeperFault server) = Some (codes "sqlrep: keeper fault")
+status_line_of statuses.InputFault = Some (codes "sqlrep: input fault")
+status_line_of statuses.OutputFault = Some (codes "sqlrep: output fault")
+status_line_of statuses.Memory = Some (codes "sqlrep: out of memory")
+status_line_of statuses.InputTooLong = Some (codes "sqlrep: input too long")
+status_line_of (statuses.Damaged server area cause) = Some (codes "sqlrep: damaged")

@@ -1,7 +1,7 @@
 //! How the program ends: the exit status, and the line on standard error.
 
 ghost use Rattle.std.specs.Prelude.{◌≡◌, ℕ, Option, option_map};
-ghost use Rattle.sqlrep.specs.Endings.{code_of, line_of};
+ghost use Rattle.sqlrep.specs.Endings.{code_of, status_line_of};
 
 use repl_types::Status;
 
@@ -24,7 +24,7 @@ pub fn exit_code(status: &Status) -> u8
 
 /// The line on standard error, which a run to the end of its input doesn't have.
 pub fn status_line(status: &Status) -> Option<&'static str>
-    ensures { option_map (λ line. line.now) result ≡ line_of status.now }
+    ensures { option_map (λ line. line.now) result ≡ status_line_of status.now }
 {
     match status {
         Status::Ok | Status::Refused => None,

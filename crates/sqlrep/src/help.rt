@@ -24,7 +24,7 @@ fn sqlrep_command<'a>(alloc: Global) -> Result<Command<'a>, AllocError>
         .subcommand(copy)
 }
 
-/// The text that the words of a command line ask for, where they ask for help or for the version.
+/// The text that the words of a command line ask for, if they ask for help or for the version.
 pub fn asked_text(alloc: Global, words: &[String]) -> Result<Option<String>, AllocError>
     ensures asked { IsTrue (asks_text (map string_bytes words.now))
         → IfOk result (λ text. IsSome text) }

@@ -2,10 +2,14 @@
 //!
 //! The program stands on `session_core`, whose `session` does the work and says what a run
 //! promises. What is here gives it the words of the command line and the standard streams, and
-//! tells its status to the caller. `sqlrep --help` says which words it takes.
+//! hands its status to the caller. `sqlrep --help` says which words it takes.
+//!
+//! For example, of the two lines `insert 1 items 1 'pen'` and `commit 1 ann 100` it prints
+//! `row 1 'pen'` and `ok rows 1`, and exits with 0.
 #![tactic(auto)]
 
-ghost use Rattle.std.specs.Prelude.{◌≡◌, ◌≢◌, ◌⊎◌, drop, map, string_bytes, true, false, IfErr, IsOk, IsTrue};
+ghost use Rattle.std.specs.Prelude.{◌≡◌, ◌≢◌, ◌⊎◌, drop, map, string_bytes, true, false, IfErr};
+ghost use Rattle.std.specs.Prelude.{IsOk, IsTrue};
 ghost use Rattle.session_core.specs.Session.{is_copy, is_of_server};
 ghost use Rattle.sqlrep.specs.Asked.{asks_text, asks_nothing};
 
@@ -49,7 +53,7 @@ fn after_name(words: &[String]) -> &[String]
 }
 
 /// The status of a run that only prints a text.
-fn printed(answer: Result<(), ReadError>) -> Status
+fn print_status(answer: Result<(), ReadError>) -> Status
     ensures ok { IsOk answer → result ≡ Status.Ok }
     ensures memory { answer ≡ Err ReadError.Memory → result ≡ Status.Memory }
     ensures failed { answer ≡ Err ReadError.Failed → result ≡ Status.OutputFault }
@@ -63,7 +67,7 @@ fn printed(answer: Result<(), ReadError>) -> Status
     }
 }
 
-/// Prints the help or the version where the words of a command line ask for it, and else answers
+/// Prints the help or the version if the words of a command line ask for it, and else answers
 /// `Usage`.
 fn run_help(rt: &HostRuntime, words: &[String]) -> Status
     ensures asked { IsTrue (asks_text (map string_bytes words.now)) → result ≢ Status.Usage }
@@ -72,7 +76,10 @@ fn run_help(rt: &HostRuntime, words: &[String]) -> Status
     ensures never { is_of_server result ≡ false }
 {
     match asked_text(rt.alloc(), words) {
-        Ok(Some(text)) => printed(write_line(&mut Writes::new(io::writer(rt)), text.as_bytes())),
+        Ok(Some(text)) => print_status(write_line(
+            &mut Writes::new(io::writer(rt)),
+            text.as_bytes(),
+        )),
         Ok(None) => Status::Usage,
         Err(_) => Status::Memory,
     }

@@ -3,7 +3,7 @@
 ghost use Rattle.std.specs.Prelude.{◌≡◌, ◌↔◌, ◌<◌, ◌≤◌, length, IfOk, None};
 ghost use Rattle.std.specs.IoError.{error_kind};
 ghost use Rattle.std.specs.Io.KnownBytes.{ReadConsumes, WriteAppends};
-ghost use Rattle.keep_core.specs.Told.{Rises};
+ghost use Rattle.keep_core.specs.Revealed.{Rises};
 ghost use Rattle.sqlrep.specs.Faults.{faults_of_error, faults_after};
 
 use keep_core::{ReadError, Sink, Source};
@@ -13,14 +13,14 @@ use std::io::ErrorKind;
 /// How often a call is made that a signal interrupts.
 const TRIES: usize = 16;
 
-/// A reader as a source. It doesn't tell its bytes.
+/// A reader as a source. It doesn't reveal its bytes.
 #[derive(Drop)]
 pub struct Reads<R> {
     reader: R,
     faults: u64,
 }
 
-/// A writer as a sink. It doesn't tell its bytes.
+/// A writer as a sink. It doesn't reveal its bytes.
 #[derive(Drop)]
 pub struct Writes<W> {
     writer: W,
@@ -40,7 +40,7 @@ fn read_error(error: io::Error, faults: &mut u64) -> ReadError
     ReadError::Failed
 }
 
-/// One read, tried again where a signal interrupts it.
+/// One read, tried again if a signal interrupts it.
 fn read_piece<R: io::Read>(reader: &mut R, buffer: &mut [u8]) -> io::Result<usize>
     ensures within { IfOk result (λ count. count ≤ length buffer.new) }
     ensures bytes { ReadConsumes (R.remaining reader.old)
@@ -55,7 +55,7 @@ fn read_piece<R: io::Read>(reader: &mut R, buffer: &mut [u8]) -> io::Result<usiz
     reader.read(buffer)
 }
 
-/// One write, tried again where a signal interrupts it.
+/// One write, tried again if a signal interrupts it.
 fn write_piece<W: io::Write>(writer: &mut W, piece: &[u8]) -> io::Result<usize>
     ensures within { IfOk result (λ count. count ≤ length piece.now) }
     ensures bytes { WriteAppends (W.contents writer.old) (W.contents writer.new) result piece.now }

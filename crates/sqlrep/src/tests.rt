@@ -1,12 +1,15 @@
 //! Runs of `session` over streams in memory: what is written, and how each failure ends a run.
 
-ghost use Rattle.std.specs.Prelude.{Some};
+ghost use Rattle.std.specs.Prelude.{◌≡◌, IfOk, Some};
 
+use crate::streams::{Reads, Writes};
 use keep_core::{ReadError, Sink, Source};
 use keep_map::{BytesSink, BytesSource};
 use repl_types::{List, Status};
 use session_core::session;
 use std::alloc::{AllocError, Global};
+use std::io;
+use std::io::ErrorKind;
 use std::test::Fail;
 
 /// Three units, of which the last two change what the first inserted.
@@ -51,6 +54,41 @@ impl Sink for Drip {
             Ok(()) => Ok(1),
             Err(_) => Err(ReadError::Memory),
         }
+    }
+}
+
+/// A standard stream whose first calls fail; then it is an empty input, and takes each piece whole.
+#[derive(Clone, Copy, Drop)]
+struct Failing {
+    kind: ErrorKind,
+    times: u64,
+}
+
+impl Failing {
+    fn answer(&mut self, count: usize) -> io::Result<usize>
+        ensures { IfOk result (λ n. n ≡ count) }
+    {
+        if self.times == 0 {
+            return Ok(count);
+        }
+        self.times -= 1;
+        Err(io::Error::from(self.kind))
+    }
+}
+
+impl io::Read for Failing {
+    fn read(&mut self, _buffer: &mut [u8]) -> io::Result<usize> {
+        self.answer(0)
+    }
+}
+
+impl io::Write for Failing {
+    fn write(&mut self, piece: &[u8]) -> io::Result<usize> {
+        self.answer(piece.len())
+    }
+
+    fn flush(&mut self) -> io::Result<()> {
+        Ok(())
     }
 }
 
@@ -148,4 +186,68 @@ fn other_words_are_usage_and_nothing_is_read_or_written(rt: HostRuntime) -> Resu
         assert_eq!(rt; input.read(&mut buffer), Ok(4), "at {line:?}");
     }
     Ok(())
+}
+
+#[test]
+fn a_failing_standard_stream_is_a_fault_but_out_of_memory_is_none(
+    rt: HostRuntime,
+) -> Result<(), Fail> {
+    let alloc = rt.alloc();
+    for (kind, error, input_status, output_status) in [
+        (
+            ErrorKind::OutOfMemory,
+            ReadError::Memory,
+            Status::Memory,
+            Status::Memory,
+        ),
+        (
+            ErrorKind::PermissionDenied,
+            ReadError::Failed,
+            Status::InputFault,
+            Status::OutputFault,
+        ),
+        (
+            ErrorKind::StorageFull,
+            ReadError::Failed,
+            Status::InputFault,
+            Status::OutputFault,
+        ),
+    ] {
+        let failing = Failing { kind, times: 1 };
+        let mut buffer = *b"....";
+        assert_eq!(rt;
+            Reads::new(failing).read(&mut buffer),
+            Err(error),
+            "at {kind:?}"
+        );
+        assert_eq!(rt;
+            Writes::new(failing).write(b"line"),
+            Err(error),
+            "at {kind:?}"
+        );
+
+        let mut sink = BytesSink::new(alloc);
+        let status = copy(alloc, &mut Reads::new(failing), &mut sink)?;
+        assert_eq!(rt; status, input_status, "at {kind:?}");
+        let mut source = source_of(alloc, THREE_UNITS)?;
+        let status = copy(alloc, &mut source, &mut Writes::new(failing))?;
+        assert_eq!(rt; status, output_status, "at {kind:?}");
+    }
+    Ok(())
+}
+
+#[test]
+fn an_interrupted_call_is_tried_sixteen_times(rt: HostRuntime) {
+    for (times, read, written) in [
+        (15, Ok(0), Ok(4)),
+        (16, Err(ReadError::Failed), Err(ReadError::Failed)),
+    ] {
+        let failing = Failing {
+            kind: ErrorKind::Interrupted,
+            times,
+        };
+        let mut buffer = *b"....";
+        assert_eq!(rt; Reads::new(failing).read(&mut buffer), read, "at {times}");
+        assert_eq!(rt; Writes::new(failing).write(b"line"), written, "at {times}");
+    }
 }

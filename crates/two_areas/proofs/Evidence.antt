@@ -1,27 +1,23 @@
 -- What the tables have is spelt, and what is misread is damage by the rules.
-use Rattle.std.proofs.Common.{◌≡◌, ℕ, zero, suc, ◌+◌, ◌^◌, ◌<◌, ◌≤◌, Bool, true, false, cond, List, [], ◌∷◌, ◌++◌, length, refl, sym, ap, subst, ◌∙◌, arith}
+use Rattle.std.proofs.Common.{◌≡◌, ℕ, zero, suc, ◌+◌, ◌^◌, ◌<◌, ◌≤◌, Bool, true, false, cond, List, [], ◌∷◌, length, refl, sym, ap, ◌∙◌, arith}
 use Rattle.std.specs.Prelude.{Option, Some, None, take}
 use Rattle.std.specs.List.{AllByRecursion, enumerate_from}
 use Rattle.std.proofs.lemmas.List.{length-take-le}
 use Rattle.repl_types.specs.declared.area.Area.{Area}
 use Rattle.repl_types.specs.declared.area.Area.TheVariants as areas
-use Rattle.repl_types.specs.declared.status.DamageCause.TheVariants as causes
 use Rattle.keep_core.specs.Contents.{Contents, Table, same_key}
 use Rattle.row_codec.specs.Spelling.{b64, Is64}
-use Rattle.row_codec.specs.laws.Orders.{order64, whole_order}
-use Rattle.std.specs.Ordering.{nat_cmp}
-use Rattle.rows_in_order.specs.Numbers.{SpellsInOrder}
 use Rattle.rows_in_order.specs.laws.Rising.{same_is}
 use Rattle.site_store.specs.Records.{or_first}
-use Rattle.site_store.specs.Damage.{IsSpelt, IsUndamaged, AddsOnlySpelt, ShownBefore}
-use Rattle.site_store.specs.laws.Damage.{rows_spelt, spelt_shows_none, misspelt_before}
+use Rattle.site_store.specs.Damage.{IsSpelt, AsksForNothing}
+use Rattle.site_store.specs.laws.Damage.{rows_spelt}
 use Rattle.two_areas.specs.declared.records.Number.{Number}
 use Rattle.two_areas.specs.declared.records.Taken.{Taken}
 use Rattle.two_areas.specs.World.{World, IsSound, source_tables, target_tables, with_count, shown, IsNumber, rules}
 
--- spelled numbers lie in the order of the numbers
-pub in_order : SpellsInOrder b64 (2 ^ 64)
-in_order a b la lb = whole_order Is64 b64 nat_cmp order64 a b la lb
+-- no record is called for, and each fits
+pub asks_nothing : AsksForNothing rules
+asks_nothing = (λ a t key c h. h, λ a t key value c h. h)
 
 -- ---- rows of numbers
 
@@ -74,20 +70,6 @@ target_spelt w c sound shows areas.Log zero k v has = absurd (some_none (sym has
     some_none e = cc
 target_spelt w c sound shows areas.Capture zero k v has = rows_spelt rules areas.Capture 0 b64 b64 ((0, w.taken) ∷ []) k v (count_fits w.taken (omega (arith, sound.taken, sound.short))) (sym (ap (λ (t : Table). t k) (shows areas.Capture 0)) ∙ counted (c areas.Capture 0) k v has)
 target_spelt w c sound shows a t k v has = (tt, tt)
-
--- contents that have only numbers show no damage
-pub undamaged : (c : Contents) → IsSpelt rules c → IsUndamaged rules c
-undamaged c spelt a (causes.Spelling bytes) h = spelt_shows_none rules c a bytes spelt h
-undamaged c spelt a (causes.Absent key) h = h.1.1
-undamaged c spelt a (causes.Unfit bytes) h = h.1.2
-undamaged c spelt a (causes.NoRest steps) h = h
-
--- damage that is shown after only numbers were added was shown before
-pub shown_before : (c d : Contents) → AddsOnlySpelt rules c d → ShownBefore rules c d
-shown_before c d adds a (causes.Spelling bytes) h = misspelt_before rules c d a bytes adds h
-shown_before c d adds a (causes.Absent key) h = absurd h.1.1
-shown_before c d adds a (causes.Unfit bytes) h = absurd h.1.2
-shown_before c d adds a (causes.NoRest steps) h = absurd h
 
 -- ---- records by the rules
 

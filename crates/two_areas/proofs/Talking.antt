@@ -11,7 +11,7 @@ talk_on : (most times done : ℕ) → done < times → (v : World) → talk most
 talk_on most times done lt v = let one : times - done ≡ suc (times - (done + 1)) = omega arith in ap (λ (n : ℕ). talk most n v) one
 
 module _ (S : List (Option Contents) → World → Type 0) (most times done : ℕ) (w : World) (h h2 : List (Option Contents)) (before now now2 : Option (List ℕ)) (lt : done < times) (going : Going S (talk most times w) w (talk most (times - done)) h before now) where
-  -- the run, with its next step in front
+  -- the run, beginning with its next step
   with_step : Going S (talk most times w) w (λ v. step_talk most v ++ talk most (times - (done + 1)) (last_world v (step_talk most v))) h before now
   with_step = subst (λ (left : World → List (Event World)). Going S (talk most times w) w left h before now) (λ i v. talk_on most times done lt v i) going
 

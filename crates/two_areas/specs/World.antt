@@ -8,14 +8,14 @@ use Rattle.faults.specs.declared.fault.Fault.{Fault}
 use Rattle.faults.specs.declared.fault.Fault.TheVariants as faults
 use Rattle.keep_core.specs.Contents.{Contents, Table, nothing, same_key, with_table}
 use Rattle.row_codec.specs.Spelling.{b64, Is64}
-use Rattle.rows_in_order.specs.Rows.{table_of}
+use Rattle.rows_in_order.specs.Rows.{table_from_rows}
 use Rattle.site_store.specs.Records.{or_first}
 use Rattle.keep_core.specs.Kept.{Kept}
 use Rattle.site_store.specs.declared.sites.Sites.{Sites}
-use Rattle.site_store.specs.Views.{held, work}
-use Rattle.site_store.specs.Works.{Works}
-use Rattle.site_store.specs.Calls.{Bounds, reads_of_one, writes_of_one, both, Passes}
+use Rattle.site_store.specs.Views.{held}
+use Rattle.site_store.specs.Calls.{Bounds, reads_of_one, writes_of_one, both, reads_and_writes}
 use Rattle.site_store.specs.Damage.{Rules, AddsOnlySpelt}
+use Rattle.site_store.specs.Steps.{WorksOn}
 use Rattle.run_core.specs.Runs.{Event, commits, writes}
 
 -- the numbers, and how many of them were copied
@@ -29,24 +29,24 @@ pub record IsSound (w : World) : Type 0 where
   pub small : AllByRecursion Is64 w.numbers
   pub taken : w.taken ≤ length w.numbers
 
--- the next numbers were copied, as far as there are so many
+-- the next numbers were copied, or as many as there are
 abbrev pub copied : ℕ → World → World
 copied most w = record w { taken = min (w.taken + most) (length w.numbers) }
 
 -- the numbers at their places, from 1 on
 abbrev pub numbered : List ℕ → Table
-numbered xs = table_of b64 b64 (enumerate_from 1 xs)
+numbered xs = table_from_rows b64 b64 (enumerate_from 1 xs)
 
 -- what the source has; a missing count stands for 0 there too
 abbrev pub source_tables : World → Area → ℕ → Table
 source_tables w areas.Log zero = numbered w.numbers
-source_tables w areas.Capture zero = table_of b64 b64 ((0, 0) ∷ [])
+source_tables w areas.Capture zero = table_from_rows b64 b64 ((0, 0) ∷ [])
 source_tables w a t = nothing a t
 
 -- what the target has
 abbrev pub target_tables : World → Area → ℕ → Table
 target_tables w areas.Target zero = numbered (take w.taken w.numbers)
-target_tables w areas.Capture zero = table_of b64 b64 ((0, w.taken) ∷ [])
+target_tables w areas.Capture zero = table_from_rows b64 b64 ((0, w.taken) ∷ [])
 target_tables w a t = nothing a t
 
 -- a table with the count that a missing record stands for
@@ -59,7 +59,7 @@ shown areas.Capture zero t = with_count t
 shown a n t = t
 
 -- one server's contents are these tables, and nothing else
-pub record Shows (held : List (Option Contents)) (server : ℕ) (tables : Area → ℕ → Table) : Type 0 where
+pub record HasTables (held : List (Option Contents)) (server : ℕ) (tables : Area → ℕ → Table) : Type 0 where
   pub contents : Contents
   pub is : slice_index_or held server None ≡ Some contents
   pub shows : (a : Area) (t : ℕ) → shown a t (contents a t) ≡ tables a t
@@ -67,8 +67,8 @@ pub record Shows (held : List (Option Contents)) (server : ℕ) (tables : Area �
 -- the servers stand for the world
 pub record Stands (source target : ℕ) (held : List (Option Contents)) (w : World) : Type 0 where
   pub sound : IsSound w
-  pub at_source : Shows held source (source_tables w)
-  pub at_target : Shows held target (target_tables w)
+  pub at_source : HasTables held source (source_tables w)
+  pub at_target : HasTables held target (target_tables w)
 
 -- After a fault the world is as before; only after one of the target's keeper it may be the next.
 abbrev pub StandsAfter : ℕ → ℕ → List (Option Contents) → List (Option Contents) → (World → World) → Fault → Type 0
@@ -104,7 +104,7 @@ OneOf source target s = (s ≡ source) ⊎ (s ≡ target)
 
 -- the numbers after one place and up to another were copied to where those before stood
 abbrev pub CopiesNumbers : List (Option Contents) → ℕ → ℕ → ℕ → Contents → Contents → Type 0
-CopiesNumbers held source from to c d = (w : World) → IsSound w → Shows held source (source_tables w) → from ≤ length w.numbers → c areas.Target 0 ≡ numbered (take from w.numbers) → (to ≤ length w.numbers) × (d ≡ with_table c areas.Target 0 (numbered (take to w.numbers)))
+CopiesNumbers held source from to c d = (w : World) → IsSound w → HasTables held source (source_tables w) → from ≤ length w.numbers → c areas.Target 0 ≡ numbered (take from w.numbers) → (to ≤ length w.numbers) × (d ≡ with_table c areas.Target 0 (numbered (take to w.numbers)))
 
 -- only records of their tables were added; and for each world that the source stands for, the numbers
 -- after one place and up to another were copied to where those before stood
@@ -112,9 +112,9 @@ pub record Copies (held : List (Option Contents)) (source from to : ℕ) (c d : 
   pub adds : AddsOnlySpelt rules c d
   pub copies : CopiesNumbers held source from to c d
 
--- how often a loop over so many numbers reads the one and writes the other
+-- how often a loop over n numbers reads the one and writes the other
 abbrev pub in_loop : ℕ → ℕ → ℕ → Bounds
-in_loop n source target = both (reads_of_one n source areas.Log) (writes_of_one n target areas.Target)
+in_loop n source target = reads_and_writes n source areas.Log n target areas.Target
 
 -- how often a step reads and writes at most
 abbrev pub in_step : ℕ → ℕ → ℕ → Bounds
@@ -125,13 +125,11 @@ abbrev pub reached : ℕ → Option ℕ → ℕ
 reached after None = after
 reached after (Some next) = next
 
--- Numbers were copied inside the target's transaction, from one place to another, and the next ones as
--- far as there were so many.
+-- Numbers were copied inside the target's transaction, from one place to another: the next ones, as many
+-- as were asked for, or as many as there are.
 pub record CopiesOn {K : Type 0} (kept : K → Kept) (old new : Sites K) (source target from to most : ℕ) : Type 0 where
-  pub passes : Passes kept old new (in_loop most source target)
-  pub works : Works (work kept old) (work kept new) target (Copies (held kept old) source from to)
-  pub reaches : (w : World) → IsSound w → Shows (held kept old) source (source_tables w) → from ≤ length w.numbers → to ≡ min (from + most) (length w.numbers)
-  pub held : held kept new ≡ held kept old
+  pub works : WorksOn kept old new target (in_loop most source target) (Copies (held kept old) source from to)
+  pub reaches : (w : World) → IsSound w → HasTables (held kept old) source (source_tables w) → from ≤ length w.numbers → to ≡ min (from + most) (length w.numbers)
 
 -- ---- a run
 
@@ -143,7 +141,7 @@ copied_line n = codes "copied " ++ decimal n ++ 10 ∷ []
 abbrev pub step_talk : ℕ → World → List (Event World)
 step_talk most w = commits (copied most w) ∷ writes (copied_line (copied most w).taken) ∷ []
 
--- what so many steps of a run do
+-- what n steps of a run do
 abbrev pub talk : ℕ → ℕ → World → List (Event World)
 talk most zero w = []
 talk most (suc n) w = step_talk most w ++ talk most n (copied most w)

@@ -63,7 +63,7 @@ fn copy_next<K: Keeper>(
     Ok(Some(place))
 }
 
-/// Copies the numbers after a place, at most so many, and answers the place of the last.
+/// Copies the numbers after a place, at most `most` of them, and answers the place of the last.
 pub(crate) fn copy_from<K: Keeper>(
     sites: &mut Sites<K>,
     alloc: Global,

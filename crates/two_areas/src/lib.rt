@@ -8,6 +8,9 @@
 //! commit that failed, for every world that stood before; how often they read; and that they never
 //! call contents damaged that stand for a world.
 //!
+//! For example, from the world of three numbers of which one is copied, `copy_numbers` with `most`
+//! 5 makes the world of which all three are copied, and answers 3.
+//!
 //! No program uses this crate. It shows that the words of `site_store`, `rows_in_order` and
 //! `run_core` suffice, and is proved as they are.
 #![tactic(auto)]

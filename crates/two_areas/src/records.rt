@@ -37,7 +37,8 @@ impl Part for Number {
 
     ghost spelling = { λ x. b64 x.number };
 
-    ghost one = { one_by Is64 b64 (λ x. Is64 x.number) (λ x. x.number) (λ x y e. ap (λ n. record { number = n }) e) (λ x fits. fits) one64 };
+    ghost one = { one_by Is64 b64 (λ x. Is64 x.number) (λ x. x.number)
+        (λ x y e. ap (λ n. record { number = n }) e) (λ x fits. fits) one64 };
 
     ghost again = { λ _ _. tt };
 
@@ -76,7 +77,8 @@ impl Part for Copied {
 
     ghost spelling = { λ x. b64 x.number };
 
-    ghost one = { one_by Is64 b64 (λ x. Is64 x.number) (λ x. x.number) (λ x y e. ap (λ n. record { number = n }) e) (λ x fits. fits) one64 };
+    ghost one = { one_by Is64 b64 (λ x. Is64 x.number) (λ x. x.number)
+        (λ x y e. ap (λ n. record { number = n }) e) (λ x fits. fits) one64 };
 
     ghost again = { λ _ _. tt };
 
@@ -115,7 +117,8 @@ impl Part for Taken {
 
     ghost spelling = { λ x. b64 x.count };
 
-    ghost one = { one_by Is64 b64 (λ x. Is64 x.count) (λ x. x.count) (λ x y e. ap (λ n. record { count = n }) e) (λ x fits. fits) one64 };
+    ghost one = { one_by Is64 b64 (λ x. Is64 x.count) (λ x. x.count)
+        (λ x y e. ap (λ n. record { count = n }) e) (λ x fits. fits) one64 };
 
     ghost again = { λ _ _. tt };
 

@@ -15,7 +15,7 @@ use row_codec::Table0;
 use site_store::Sites;
 use std::alloc::Global;
 
-/// Copies the next numbers, at most so many, in one commit, and answers how many are copied now.
+/// Copies the next numbers, at most `most` of them, in one commit, and answers how many are copied.
 /// After a fault none was copied; but after one of the target's keeper they may have been.
 pub fn copy_numbers<K: Keeper>(
     sites: &mut Sites<K>,

@@ -4,7 +4,8 @@ ghost use Rattle.std.specs.Prelude.{◌≡◌, ◌≢◌, ◌<◌, length, OnOk,
 ghost use Rattle.site_store.specs.Servers.{AllClosed};
 ghost use Rattle.site_store.specs.Views.{names, held, work};
 ghost use Rattle.run_core.specs.Runs.{Went, Stopped};
-ghost use Rattle.two_areas.specs.World.{World, Stands, copied_line as copied_line_lem, step_talk, talk};
+ghost use Rattle.two_areas.specs.World.{World, Stands, copied_line as copied_line_lem, step_talk};
+ghost use Rattle.two_areas.specs.World.{talk};
 
 use crate::step::copy_numbers;
 use faults::{Fault, ShowError};
@@ -57,7 +58,7 @@ fn step_and_tell<K: Keeper, O: Sink>(
     }
 }
 
-/// Copies the next numbers again and again, so many times, and writes how many are copied after
+/// Copies the next numbers again and again, `times` times, and writes how many are copied after
 /// each commit. No line is ahead of its commit.
 pub fn run<K: Keeper, O: Sink>(
     sites: &mut Sites<K>,

@@ -10,22 +10,22 @@ use row_changes::Rows;
 use std::alloc::Global;
 use std::test::Fail;
 
-/// A sink that keeps what it takes.
+/// A sink that keeps the bytes that it took.
 #[derive(Drop)]
-struct Kept {
+struct Written {
     bytes: Vec<u8>,
 }
 
-impl Kept {
-    fn new(alloc: Global) -> Kept {
-        Kept {
+impl Written {
+    fn new(alloc: Global) -> Written {
+        Written {
             bytes: Vec::new(alloc),
         }
     }
 }
 
-impl Sink for Kept {
-    ghost taken = { λ kept. Some kept.bytes.items };
+impl Sink for Written {
+    ghost taken = { λ written. Some written.bytes.items };
 
     ghost faults = { λ _. 0 };
 
@@ -49,7 +49,7 @@ fn rows_come_in_the_order_of_their_keys(rt: HostRuntime) -> Result<(), Fail> {
             List::from_vec(vec![in alloc; Value::Int(number), Value::Null, text]?),
         )?;
     }
-    let mut output = Kept::new(alloc);
+    let mut output = Written::new(alloc);
     assert_eq!(rt; write_rows(alloc, &mut output, &rows), Ok(()));
     let lines = b"row -5 null 'it''s \\\\ \\n'\nrow 2 null ''\nok rows 2\n";
     assert_eq!(rt; output.bytes.as_slice(), lines.as_slice());
@@ -58,7 +58,7 @@ fn rows_come_in_the_order_of_their_keys(rt: HostRuntime) -> Result<(), Fail> {
 
 #[test]
 fn no_rows_are_counted_too(rt: HostRuntime) {
-    let mut output = Kept::new(rt.alloc());
+    let mut output = Written::new(rt.alloc());
     assert_eq!(rt;
         write_rows(rt.alloc(), &mut output, &Rows::new(rt.alloc())),
         Ok(())
@@ -79,7 +79,7 @@ fn a_refusal_has_its_number_and_its_line(rt: HostRuntime) {
             b"refused 10 NotApplicable line 7\n".as_slice(),
         ),
     ] {
-        let mut output = Kept::new(rt.alloc());
+        let mut output = Written::new(rt.alloc());
         assert_eq!(rt;
             write_refused(rt.alloc(), &mut output, Refused { line: 7, cause }),
             Ok(())

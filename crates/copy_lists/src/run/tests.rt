@@ -1,6 +1,6 @@
 //! A copy that is made of change rows.
 
-use super::{change_rows_of_units, copied};
+use super::{change_rows_of_units, copy_of_units};
 use crate::items::{items_registration, items_table};
 use log_text::read_record;
 use repl_types::{List, LogRecord, Name, Op, Placed, Unit, UnitHead};
@@ -19,6 +19,7 @@ fn changes_of(alloc: Global, lines: &[&str]) -> Result<List<Placed>, AllocError>
     Ok(changes)
 }
 
+/// A unit with these changes.
 fn unit_of(authid: Name, changes: List<Placed>) -> Unit {
     Unit {
         head: UnitHead {
@@ -32,7 +33,7 @@ fn unit_of(authid: Name, changes: List<Placed>) -> Unit {
     }
 }
 
-/// What the change rows of a unit do, one after another.
+/// The operations of the change rows of units, in order.
 fn ops_of(alloc: Global, units: &[Unit]) -> Result<Vec<Op>, AllocError> {
     let change_rows = change_rows_of_units(alloc, &items_registration(alloc)?, units)?;
     let mut ops = Vec::new(alloc);
@@ -56,7 +57,7 @@ fn the_copy_is_made_of_a_change_row_for_each_change(rt: HostRuntime) -> Result<(
     let units = vec![in alloc; unit]?;
     let ops = ops_of(alloc, units.as_slice())?;
     assert_eq!(rt; ops.as_slice(), [Op::I, Op::I, Op::U, Op::D].as_slice());
-    let copy = copied(alloc, &table, units.as_slice())?;
+    let copy = copy_of_units(alloc, &table, units.as_slice())?;
     assert_eq!(rt; copy.len(), 1);
     Ok(())
 }

@@ -1,5 +1,5 @@
-//! A keeper in memory that commits, rolls back, hands out keys and fails as it is asked to. What
-//! isn't its own is called through the bound.
+//! A keeper in memory that commits, rolls back, gives keys in order and fails as planned. The
+//! helpers call it through the bound `Keeper`.
 
 ghost use Rattle.std.specs.Prelude.{OnOk};
 ghost use Rattle.repl_types.specs.Sizes.{IsValueSize};
@@ -11,7 +11,7 @@ use repl_types::{Area, List};
 use std::alloc::Global;
 use std::test::Fail;
 
-/// Whether the keeper gives this value at a key of the first table of targets, or none where it is
+/// Whether the keeper gives this value at a key of table 1 of targets, or none if the value is
 /// empty.
 fn gives<K: Keeper>(
     keeper: &mut K,
@@ -24,8 +24,8 @@ fn gives<K: Keeper>(
     Ok(found != value.is_empty() && out.as_slice() == value)
 }
 
-/// Whether the keys that the keeper hands out in a table of targets are these, one byte each.
-fn hands_out<K: Keeper>(
+/// Whether `next` gives these keys of a table of targets, one byte each, and no more.
+fn gives_keys<K: Keeper>(
     keeper: &mut K,
     alloc: Global,
     table: u32,
@@ -60,7 +60,7 @@ fn put<K: Keeper>(
     keeper.put(area, table, [key].as_slice(), value)
 }
 
-/// Two values are held.
+/// Commits two values.
 fn hold_two<K: Keeper>(keeper: &mut K) -> Result<(), KeepError>
     requires { IsClosed (K.kept keeper.old) }
     ensures { OnOk result (IsClosed (K.kept keeper.new)) }
@@ -71,8 +71,8 @@ fn hold_two<K: Keeper>(keeper: &mut K) -> Result<(), KeepError>
     keeper.commit()
 }
 
-/// A transaction is open that changed one value, added one and removed one. Tells whether the last
-/// was there.
+/// Opens a transaction that changes one value, adds one and removes one. Answers whether the
+/// removed value was there.
 fn change_both<K: Keeper>(keeper: &mut K) -> Result<bool, KeepError>
     requires { IsClosed (K.kept keeper.old) }
 {
@@ -82,7 +82,7 @@ fn change_both<K: Keeper>(keeper: &mut K) -> Result<bool, KeepError>
     keeper.remove(Area::Target, 1, b"b")
 }
 
-/// No transaction is open.
+/// Rolls the open transaction back.
 fn roll_back<K: Keeper>(keeper: &mut K)
     ensures { IsClosed (K.kept keeper.new) }
 {
@@ -100,7 +100,7 @@ fn put_each<K: Keeper>(keeper: &mut K, keys: &[u8]) -> Result<(), KeepError>
     Ok(())
 }
 
-/// Removes what stands at each key of one byte. Tells whether something stood at each.
+/// Removes the value at each key of one byte. Answers whether there was one at each.
 fn remove_each<K: Keeper>(keeper: &mut K, keys: &[u8]) -> Result<bool, KeepError>
     requires { IsOpen (K.kept keeper.old) }
 {
@@ -113,7 +113,7 @@ fn remove_each<K: Keeper>(keeper: &mut K, keys: &[u8]) -> Result<bool, KeepError
 }
 
 #[test]
-fn a_commit_that_fails_takes_place_only_where_doubt_says_so(rt: HostRuntime) -> Result<(), Fail> {
+fn a_commit_that_fails_takes_place_only_if_doubt_says_so(rt: HostRuntime) -> Result<(), Fail> {
     let alloc = rt.alloc();
     for (taken, value) in [(false, b"".as_slice()), (true, b"new".as_slice())] {
         let mut keeper = MapKeeper::new(alloc);
@@ -134,12 +134,12 @@ fn a_rollback_leaves_what_was_held(rt: HostRuntime) -> Result<(), Fail> {
     hold_two(&mut keeper)?;
     assert!(rt; change_both(&mut keeper)?);
     assert!(rt; gives(&mut keeper, alloc, b"a", b"new")?);
-    assert!(rt; hands_out(&mut keeper, alloc, 1, b"ac")?);
+    assert!(rt; gives_keys(&mut keeper, alloc, 1, b"ac")?);
     roll_back(&mut keeper);
     for (key, value) in [(b"a", b"old".as_slice()), (b"b", b"removed"), (b"c", b"")] {
         assert!(rt; gives(&mut keeper, alloc, key.as_slice(), value)?);
     }
-    assert!(rt; hands_out(&mut keeper, alloc, 1, b"ab")?);
+    assert!(rt; gives_keys(&mut keeper, alloc, 1, b"ab")?);
     Ok(())
 }
 
@@ -153,14 +153,14 @@ fn a_rollback_of_many_removes_leaves_each_row(rt: HostRuntime) -> Result<(), Fai
     keeper.commit()?;
     keeper.begin()?;
     assert!(rt; remove_each(&mut keeper, &keys)?);
-    assert!(rt; hands_out(&mut keeper, alloc, 1, b"")?);
+    assert!(rt; gives_keys(&mut keeper, alloc, 1, b"")?);
     keeper.rollback();
-    assert!(rt; hands_out(&mut keeper, alloc, 1, &keys)?);
+    assert!(rt; gives_keys(&mut keeper, alloc, 1, &keys)?);
     Ok(())
 }
 
 #[test]
-fn keys_come_in_byte_order_and_from_their_table_alone(rt: HostRuntime) -> Result<(), Fail> {
+fn keys_come_in_byte_order_and_from_one_table(rt: HostRuntime) -> Result<(), Fail> {
     let alloc = rt.alloc();
     let mut keeper = MapKeeper::new(alloc);
     keeper.begin()?;
@@ -171,7 +171,7 @@ fn keys_come_in_byte_order_and_from_their_table_alone(rt: HostRuntime) -> Result
     put(&mut keeper, Area::Target, 1, 255, b"5")?;
     keeper.commit()?;
     for (table, keys) in [(0, b"".as_slice()), (1, b"az\xff"), (2, b"c"), (3, b"")] {
-        assert!(rt; hands_out(&mut keeper, alloc, table, keys)?);
+        assert!(rt; gives_keys(&mut keeper, alloc, table, keys)?);
     }
     Ok(())
 }
@@ -185,7 +185,7 @@ fn reads_and_writes_count_at_ok_and_at_err(rt: HostRuntime) -> Result<(), Fail> 
     keeper.fail_at(List::from_vec(vec![in alloc; 1, 3]?));
     let written = put(&mut keeper, Area::Target, 1, b'b', b"2");
     assert_eq!(rt; written, Err(KeepError::Failed));
-    assert!(rt; hands_out(&mut keeper, alloc, 1, b"")?);
+    assert!(rt; gives_keys(&mut keeper, alloc, 1, b"")?);
     let read = gives(&mut keeper, alloc, b"a", b"1");
     assert_eq!(rt; read, Err(KeepError::Failed));
     for (area, reads, writes) in [(Area::Target, 2, 2), (Area::SetState, 0, 0)] {

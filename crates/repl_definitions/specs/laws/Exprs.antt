@@ -15,8 +15,8 @@ use Rattle.row_codec.specs.laws.Numbers.{one16}
 use Rattle.row_codec.specs.laws.Values.{one_value}
 use Rattle.repl_definitions.specs.Forests.{IsForest}
 use Rattle.repl_definitions.specs.laws.Forests.{Trees, one_tree, same_tree, one_nested, has_first}
-use Rattle.row_codec.specs.laws.Again.{each_again}
-use Rattle.repl_definitions.specs.Exprs.{ExprNode, expr_node_spelling, IsExprNode, HasExprNodeSpelling, layer_top, layer_below, expr_top, expr_nodes, expr_spelling, IsExpr, HasExprSpelling}
+use Rattle.repl_types.specs.laws.Lists.{all_weaker}
+use Rattle.repl_definitions.specs.Exprs.{ExprNode, expr_node_spelling, IsExprNode, HasExprNodeSpelling, expr_layer_top, expr_layer_below, expr_top, expr_nodes, expr_spelling, IsExpr, HasExprSpelling}
 
 -- nodes
 pub one_expr_node : One IsExprNode expr_node_spelling
@@ -64,17 +64,17 @@ joined_expr Concat left right = exprs.Concat left right
 -- a leaf's node
 at_leaf : (l : ExprLeaf) → expr_nodes (leaf_expr l) ≡ Single l ∷ []
 unfolding expr_nodes
-at_leaf (Column p) = ap expr_nodes (sym (exprs.rolls-Column p)) ∙ fold-roll-Expr (List ExprNode) (λ nodes. layer_top nodes ∷ layer_below nodes) (layer.Column p)
-at_leaf (Int n) = ap expr_nodes (sym (exprs.rolls-Int n)) ∙ fold-roll-Expr (List ExprNode) (λ nodes. layer_top nodes ∷ layer_below nodes) (layer.Int n)
-at_leaf (Text t) = ap expr_nodes (sym (exprs.rolls-Text t)) ∙ fold-roll-Expr (List ExprNode) (λ nodes. layer_top nodes ∷ layer_below nodes) (layer.Text t)
+at_leaf (Column p) = ap expr_nodes (sym (exprs.rolls-Column p)) ∙ fold-roll-Expr (List ExprNode) (λ nodes. expr_layer_top nodes ∷ expr_layer_below nodes) (layer.Column p)
+at_leaf (Int n) = ap expr_nodes (sym (exprs.rolls-Int n)) ∙ fold-roll-Expr (List ExprNode) (λ nodes. expr_layer_top nodes ∷ expr_layer_below nodes) (layer.Int n)
+at_leaf (Text t) = ap expr_nodes (sym (exprs.rolls-Text t)) ∙ fold-roll-Expr (List ExprNode) (λ nodes. expr_layer_top nodes ∷ expr_layer_below nodes) (layer.Text t)
 
 -- the nodes of two expressions, joined
 at_joined : (j : ExprJoint) (left right : Expr) → expr_nodes (joined_expr j left right) ≡ Joined j ∷ expr_nodes left ++ expr_nodes right
 unfolding expr_nodes
-at_joined Add left right = ap expr_nodes (sym (exprs.rolls-Add left right)) ∙ fold-roll-Expr (List ExprNode) (λ nodes. layer_top nodes ∷ layer_below nodes) (layer.Add left right)
-at_joined Sub left right = ap expr_nodes (sym (exprs.rolls-Sub left right)) ∙ fold-roll-Expr (List ExprNode) (λ nodes. layer_top nodes ∷ layer_below nodes) (layer.Sub left right)
-at_joined Mul left right = ap expr_nodes (sym (exprs.rolls-Mul left right)) ∙ fold-roll-Expr (List ExprNode) (λ nodes. layer_top nodes ∷ layer_below nodes) (layer.Mul left right)
-at_joined Concat left right = ap expr_nodes (sym (exprs.rolls-Concat left right)) ∙ fold-roll-Expr (List ExprNode) (λ nodes. layer_top nodes ∷ layer_below nodes) (layer.Concat left right)
+at_joined Add left right = ap expr_nodes (sym (exprs.rolls-Add left right)) ∙ fold-roll-Expr (List ExprNode) (λ nodes. expr_layer_top nodes ∷ expr_layer_below nodes) (layer.Add left right)
+at_joined Sub left right = ap expr_nodes (sym (exprs.rolls-Sub left right)) ∙ fold-roll-Expr (List ExprNode) (λ nodes. expr_layer_top nodes ∷ expr_layer_below nodes) (layer.Sub left right)
+at_joined Mul left right = ap expr_nodes (sym (exprs.rolls-Mul left right)) ∙ fold-roll-Expr (List ExprNode) (λ nodes. expr_layer_top nodes ∷ expr_layer_below nodes) (layer.Mul left right)
+at_joined Concat left right = ap expr_nodes (sym (exprs.rolls-Concat left right)) ∙ fold-roll-Expr (List ExprNode) (λ nodes. expr_layer_top nodes ∷ expr_layer_below nodes) (layer.Concat left right)
 
 -- an expression is a leaf or is joined of two
 each_step : (P : Expr → Type 0) → ((l : ExprLeaf) → P (leaf_expr l)) → ((j : ExprJoint) (left right : Expr) → P left → P right → P (joined_expr j left right)) → (x : Expr-F Expr) (y : Expr-F ((e : Expr) × P e)) → map-Expr ((e : Expr) × P e) Expr (λ e. e.0) y ≡ x → P (roll-Expr x)
@@ -89,17 +89,17 @@ each_step P on_leaf on_joined x (layer.Concat l r) e = subst (λ z. P (roll-Expr
 -- the node at the top of a leaf
 top_leaf : (l : ExprLeaf) → expr_top (leaf_expr l) ≡ Single l
 unfolding expr_top
-top_leaf (Column p) = ap layer_top (exprs.outs-Column p)
-top_leaf (Int n) = ap layer_top (exprs.outs-Int n)
-top_leaf (Text t) = ap layer_top (exprs.outs-Text t)
+top_leaf (Column p) = ap expr_layer_top (exprs.outs-Column p)
+top_leaf (Int n) = ap expr_layer_top (exprs.outs-Int n)
+top_leaf (Text t) = ap expr_layer_top (exprs.outs-Text t)
 
 -- the node at the top of two expressions, joined
 top_joined : (j : ExprJoint) (left right : Expr) → expr_top (joined_expr j left right) ≡ Joined j
 unfolding expr_top
-top_joined Add left right = ap layer_top (exprs.outs-Add left right)
-top_joined Sub left right = ap layer_top (exprs.outs-Sub left right)
-top_joined Mul left right = ap layer_top (exprs.outs-Mul left right)
-top_joined Concat left right = ap layer_top (exprs.outs-Concat left right)
+top_joined Add left right = ap expr_layer_top (exprs.outs-Add left right)
+top_joined Sub left right = ap expr_layer_top (exprs.outs-Sub left right)
+top_joined Mul left right = ap expr_layer_top (exprs.outs-Mul left right)
+top_joined Concat left right = ap expr_layer_top (exprs.outs-Concat left right)
 
 -- the node at the top of each kind of expression, and its nodes
 pub top_column : (p : ℕ) → expr_top (exprs.Column p) ≡ Single (Column p)
@@ -196,4 +196,4 @@ again_expr_node (Joined j) fits = tt
 
 -- expressions
 pub again_expr : (x : Expr) → IsExpr x → HasExprSpelling x
-again_expr x fits = each_again IsExprNode HasExprNodeSpelling again_expr_node (expr_nodes x) fits
+again_expr x fits = all_weaker IsExprNode HasExprNodeSpelling (expr_nodes x) again_expr_node fits

@@ -5,7 +5,7 @@ use Rattle.repl_definitions.specs.declared.nested.Root.TheVariants.{Single, Join
 use Rattle.row_codec.specs.Takes.{One}
 use Rattle.repl_definitions.specs.Forests.{IsForest, nodes_spelling, NodesFit}
 
--- bytes begin with the spellings of at most one list of so many trees
+-- bytes begin with the spellings of at most one list of this many trees
 pub one_forest : {L J : Type 0} (fits : Root L J → Type 0) (spelling : Root L J → List ℕ) → One fits spelling → (n : ℕ) (x y : List (Root L J)) (a b : List ℕ) → IsForest n x → IsForest n y → NodesFit fits x → NodesFit fits y → nodes_spelling spelling x ++ a ≡ nodes_spelling spelling y ++ b → (x ≡ y) × (a ≡ b)
 one_forest fits spelling one zero [] [] a b _ _ _ _ e = (refl, e)
 one_forest fits spelling one zero [] (v ∷ y) a b _ forest _ _ e = absurd forest

@@ -21,8 +21,8 @@ use Rattle.row_codec.specs.laws.Numbers.{one16}
 use Rattle.row_codec.specs.laws.Values.{one_value}
 use Rattle.repl_definitions.specs.Forests.{IsForest}
 use Rattle.repl_definitions.specs.laws.Forests.{Trees, one_tree, same_tree, one_nested, has_first}
-use Rattle.row_codec.specs.laws.Again.{each_again}
-use Rattle.repl_definitions.specs.Predicates.{compare_op_spelling, operand_spelling, IsOperand, HasOperandSpelling, PredicateNode, predicate_node_spelling, IsPredicateNode, HasPredicateNodeSpelling, layer_top, layer_below, predicate_top, predicate_nodes, predicate_spelling, IsPredicate, HasPredicateSpelling}
+use Rattle.repl_types.specs.laws.Lists.{all_weaker}
+use Rattle.repl_definitions.specs.Predicates.{compare_op_spelling, operand_spelling, IsOperand, HasOperandSpelling, PredicateNode, predicate_node_spelling, IsPredicateNode, HasPredicateNodeSpelling, predicate_layer_top, predicate_layer_below, predicate_top, predicate_nodes, predicate_spelling, IsPredicate, HasPredicateSpelling}
 
 -- comparisons
 pub one_compare_op : One Any compare_op_spelling
@@ -82,15 +82,15 @@ joined_predicate Or left right = predicates.Or left right
 -- a leaf's node
 at_leaf : (l : PredicateLeaf) → predicate_nodes (leaf_predicate l) ≡ Single l ∷ []
 unfolding predicate_nodes
-at_leaf (Compare l o r) = ap predicate_nodes (sym (predicates.rolls-Compare l o r)) ∙ fold-roll-Predicate (List PredicateNode) (λ nodes. layer_top nodes ∷ layer_below nodes) (layer.Compare l o r)
-at_leaf (IsNull p) = ap predicate_nodes (sym (predicates.rolls-IsNull p)) ∙ fold-roll-Predicate (List PredicateNode) (λ nodes. layer_top nodes ∷ layer_below nodes) (layer.IsNull p)
-at_leaf (IsNotNull p) = ap predicate_nodes (sym (predicates.rolls-IsNotNull p)) ∙ fold-roll-Predicate (List PredicateNode) (λ nodes. layer_top nodes ∷ layer_below nodes) (layer.IsNotNull p)
+at_leaf (Compare l o r) = ap predicate_nodes (sym (predicates.rolls-Compare l o r)) ∙ fold-roll-Predicate (List PredicateNode) (λ nodes. predicate_layer_top nodes ∷ predicate_layer_below nodes) (layer.Compare l o r)
+at_leaf (IsNull p) = ap predicate_nodes (sym (predicates.rolls-IsNull p)) ∙ fold-roll-Predicate (List PredicateNode) (λ nodes. predicate_layer_top nodes ∷ predicate_layer_below nodes) (layer.IsNull p)
+at_leaf (IsNotNull p) = ap predicate_nodes (sym (predicates.rolls-IsNotNull p)) ∙ fold-roll-Predicate (List PredicateNode) (λ nodes. predicate_layer_top nodes ∷ predicate_layer_below nodes) (layer.IsNotNull p)
 
 -- the nodes of two predicates, joined
 at_joined : (j : PredicateJoint) (left right : Predicate) → predicate_nodes (joined_predicate j left right) ≡ Joined j ∷ predicate_nodes left ++ predicate_nodes right
 unfolding predicate_nodes
-at_joined And left right = ap predicate_nodes (sym (predicates.rolls-And left right)) ∙ fold-roll-Predicate (List PredicateNode) (λ nodes. layer_top nodes ∷ layer_below nodes) (layer.And left right)
-at_joined Or left right = ap predicate_nodes (sym (predicates.rolls-Or left right)) ∙ fold-roll-Predicate (List PredicateNode) (λ nodes. layer_top nodes ∷ layer_below nodes) (layer.Or left right)
+at_joined And left right = ap predicate_nodes (sym (predicates.rolls-And left right)) ∙ fold-roll-Predicate (List PredicateNode) (λ nodes. predicate_layer_top nodes ∷ predicate_layer_below nodes) (layer.And left right)
+at_joined Or left right = ap predicate_nodes (sym (predicates.rolls-Or left right)) ∙ fold-roll-Predicate (List PredicateNode) (λ nodes. predicate_layer_top nodes ∷ predicate_layer_below nodes) (layer.Or left right)
 
 -- a predicate is a leaf or is joined of two
 each_step : (P : Predicate → Type 0) → ((l : PredicateLeaf) → P (leaf_predicate l)) → ((j : PredicateJoint) (left right : Predicate) → P left → P right → P (joined_predicate j left right)) → (x : Predicate-F Predicate) (y : Predicate-F ((e : Predicate) × P e)) → map-Predicate ((e : Predicate) × P e) Predicate (λ e. e.0) y ≡ x → P (roll-Predicate x)
@@ -103,15 +103,15 @@ each_step P on_leaf on_joined x (layer.Or l r) e = subst (λ z. P (roll-Predicat
 -- the node at the top of a leaf
 top_leaf : (l : PredicateLeaf) → predicate_top (leaf_predicate l) ≡ Single l
 unfolding predicate_top
-top_leaf (Compare l o r) = ap layer_top (predicates.outs-Compare l o r)
-top_leaf (IsNull p) = ap layer_top (predicates.outs-IsNull p)
-top_leaf (IsNotNull p) = ap layer_top (predicates.outs-IsNotNull p)
+top_leaf (Compare l o r) = ap predicate_layer_top (predicates.outs-Compare l o r)
+top_leaf (IsNull p) = ap predicate_layer_top (predicates.outs-IsNull p)
+top_leaf (IsNotNull p) = ap predicate_layer_top (predicates.outs-IsNotNull p)
 
 -- the node at the top of two predicates, joined
 top_joined : (j : PredicateJoint) (left right : Predicate) → predicate_top (joined_predicate j left right) ≡ Joined j
 unfolding predicate_top
-top_joined And left right = ap layer_top (predicates.outs-And left right)
-top_joined Or left right = ap layer_top (predicates.outs-Or left right)
+top_joined And left right = ap predicate_layer_top (predicates.outs-And left right)
+top_joined Or left right = ap predicate_layer_top (predicates.outs-Or left right)
 
 -- the node at the top of each kind of predicate, and its nodes
 pub top_compare : (l : Operand) (o : CompareOp) (r : Operand) → predicate_top (predicates.Compare l o r) ≡ Single (Compare l o r)
@@ -197,4 +197,4 @@ again_predicate_node (Joined j) fits = tt
 
 -- predicates
 pub again_predicate : (x : Predicate) → IsPredicate x → HasPredicateSpelling x
-again_predicate x fits = each_again IsPredicateNode HasPredicateNodeSpelling again_predicate_node (predicate_nodes x) fits
+again_predicate x fits = all_weaker IsPredicateNode HasPredicateNodeSpelling (predicate_nodes x) again_predicate_node fits

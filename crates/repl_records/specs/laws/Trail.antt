@@ -6,7 +6,7 @@ use Rattle.repl_records.specs.declared.trail.TrailEntry.TheVariants.{Refresh, Bl
 use Rattle.repl_records.specs.Trail.{IsBase, base_spelling, IsEntry, entry_spelling}
 use Rattle.repl_records.specs.laws.Numbers.{one_two_numbers, one_three_numbers}
 use Rattle.row_codec.specs.Spelling.{Any, Is64, b64}
-use Rattle.row_codec.specs.Takes.{One, NoFront, PairFits, pair_spelling}
+use Rattle.row_codec.specs.Takes.{One, NoPrefix, PairFits, pair_spelling}
 use Rattle.row_codec.specs.laws.Numbers.{one64, length64}
 use Rattle.row_codec.specs.laws.Ones.{one_pair}
 use Rattle.row_codec.specs.laws.Tags.{other_first}
@@ -73,29 +73,29 @@ one_entry (Settle m f j k) (Settle m' f' j' k') a b fx fy e =
     let same = one_settle (((m, f), j), k) (((m', f'), j'), k') a b (((fx.0, fx.1), fx.2), fx.3) (((fy.0, fy.1), fy.2), fy.3) (ap (drop 1) e) in
     (ap (λ (v : SettleFields). Settle v.0.0.0 v.0.0.1 v.0.1 v.1) same.0, same.1)
 
--- after a 1 there is the entry of a refresh, or none
-pub only_refresh : (bytes : List ℕ) → ((p rows : ℕ) (base : Option ℕ) (rest : List ℕ) → IsEntry (Refresh p rows base) → bytes ≢ (b64 p ++ b64 rows ++ base_spelling base) ++ rest) → NoFront IsEntry entry_spelling (1 ∷ bytes)
+-- after 0x01 there is the entry of a refresh, or none
+pub only_refresh : (bytes : List ℕ) → ((p rows : ℕ) (base : Option ℕ) (rest : List ℕ) → IsEntry (Refresh p rows base) → bytes ≢ (b64 p ++ b64 rows ++ base_spelling base) ++ rest) → NoPrefix IsEntry entry_spelling (0x01 ∷ bytes)
 only_refresh bytes none (Refresh p r q) rest fits e = none p r q rest fits (ap (drop 1) e)
 only_refresh bytes none (Block p t i u d q) rest fits e = other_first 1 2 _ _ (omega arith) e
 only_refresh bytes none (Load m f r) rest fits e = other_first 1 3 _ _ (omega arith) e
 only_refresh bytes none (Settle m f j k) rest fits e = other_first 1 4 _ _ (omega arith) e
 
--- after a 2 there is the entry of a block, or none
-pub only_block : (bytes : List ℕ) → ((from to inserts updates deletes : ℕ) (base : Option ℕ) (rest : List ℕ) → IsEntry (Block from to inserts updates deletes base) → bytes ≢ (b64 from ++ b64 to ++ b64 inserts ++ b64 updates ++ b64 deletes ++ base_spelling base) ++ rest) → NoFront IsEntry entry_spelling (2 ∷ bytes)
+-- after 0x02 there is the entry of a block, or none
+pub only_block : (bytes : List ℕ) → ((from to inserts updates deletes : ℕ) (base : Option ℕ) (rest : List ℕ) → IsEntry (Block from to inserts updates deletes base) → bytes ≢ (b64 from ++ b64 to ++ b64 inserts ++ b64 updates ++ b64 deletes ++ base_spelling base) ++ rest) → NoPrefix IsEntry entry_spelling (0x02 ∷ bytes)
 only_block bytes none (Refresh p r q) rest fits e = other_first 2 1 _ _ (omega arith) e
 only_block bytes none (Block p t i u d q) rest fits e = none p t i u d q rest fits (ap (drop 1) e)
 only_block bytes none (Load m f r) rest fits e = other_first 2 3 _ _ (omega arith) e
 only_block bytes none (Settle m f j k) rest fits e = other_first 2 4 _ _ (omega arith) e
 
--- after a 3 there is the entry of a load, or none
-pub only_load : (bytes : List ℕ) → ((m f rows : ℕ) (rest : List ℕ) → IsEntry (Load m f rows) → bytes ≢ (b64 m ++ b64 f ++ b64 rows) ++ rest) → NoFront IsEntry entry_spelling (3 ∷ bytes)
+-- after 0x03 there is the entry of a load, or none
+pub only_load : (bytes : List ℕ) → ((m f rows : ℕ) (rest : List ℕ) → IsEntry (Load m f rows) → bytes ≢ (b64 m ++ b64 f ++ b64 rows) ++ rest) → NoPrefix IsEntry entry_spelling (0x03 ∷ bytes)
 only_load bytes none (Refresh p r q) rest fits e = other_first 3 1 _ _ (omega arith) e
 only_load bytes none (Block p t i u d q) rest fits e = other_first 3 2 _ _ (omega arith) e
 only_load bytes none (Load m f r) rest fits e = none m f r rest fits (ap (drop 1) e)
 only_load bytes none (Settle m f j k) rest fits e = other_first 3 4 _ _ (omega arith) e
 
--- after a 4 there is the entry of a settling, or none
-pub only_settle : (bytes : List ℕ) → ((m f rejected applied : ℕ) (rest : List ℕ) → IsEntry (Settle m f rejected applied) → bytes ≢ (b64 m ++ b64 f ++ b64 rejected ++ b64 applied) ++ rest) → NoFront IsEntry entry_spelling (4 ∷ bytes)
+-- after 0x04 there is the entry of a settling, or none
+pub only_settle : (bytes : List ℕ) → ((m f rejected applied : ℕ) (rest : List ℕ) → IsEntry (Settle m f rejected applied) → bytes ≢ (b64 m ++ b64 f ++ b64 rejected ++ b64 applied) ++ rest) → NoPrefix IsEntry entry_spelling (0x04 ∷ bytes)
 only_settle bytes none (Refresh p r q) rest fits e = other_first 4 1 _ _ (omega arith) e
 only_settle bytes none (Block p t i u d q) rest fits e = other_first 4 2 _ _ (omega arith) e
 only_settle bytes none (Load m f r) rest fits e = other_first 4 3 _ _ (omega arith) e

@@ -8,11 +8,12 @@ use Rattle.std.proofs.lemmas.Option.{cond_some}
 use Rattle.std.proofs.lemmas.Str.{IsUtf8-nil, IsUtf8-from_ascii}
 use Rattle.std.proofs.lemmas.Str.Ascii.{IsAscii-nil, IsAscii-cons}
 use Rattle.repl_types.specs.Name.{is_letter, is_name_byte, is_name, name_of}
+use Rattle.repl_types.specs.Sizes.{name_limit}
 
 -- a letter and bytes of names are a name, if they are at most 32
-pub name_after_letter : (bytes : List ℕ) → 0 < length bytes → 97 ≤ get_or bytes 0 0 → get_or bytes 0 0 ≤ 122 → length bytes ≤ 32 → list_all is_name_byte (drop 1 bytes) ≡ is_name bytes
+pub name_after_letter : (bytes : List ℕ) → 0 < length bytes → 97 ≤ get_or bytes 0 0 → get_or bytes 0 0 ≤ 122 → length bytes ≤ name_limit → list_all is_name_byte (drop 1 bytes) ≡ is_name bytes
 name_after_letter [] some low high short = absurd (omega arith)
-name_after_letter (b ∷ bs) some low high short = rw (le-leb 97 b low, le-leb b 122 high, le-leb (length bs) 31 (omega arith)) refl
+name_after_letter (b ∷ bs) some low high short = rw (le-leb 97 b low, le-leb b 122 high, le-leb (length (b ∷ bs)) name_limit short) refl
 
 -- a byte of names is ASCII
 name_byte_small : (b : ℕ) → is_name_byte b ≡ true → b < 128

@@ -33,7 +33,7 @@ plain_numeral word some first = rw (lt-ltb 0 (length word) some, ne_eqb (get_or 
 own : IsNumeralModel (λ ds. all_ascii_digits ds ≡ true) (digits_value 10)
 own = numerals_by_value _ tells_all_ascii_digits
 
--- what a numeral is: digits, the first of them not 0 but in `0` itself
+-- what a numeral is: digits, the first of which isn't 0 except in `0` itself
 record Numeral (word : List ℕ) : Type 0 where
   some : 0 < length word
   digits : all_ascii_digits word ≡ true
@@ -121,7 +121,7 @@ negative (suc n) above = ap negsuc (omega arith)
 abbrev after_minus : List ℕ → Bool
 after_minus ds = is_numeral ds && ltb 0 (digits_value 10 ds) && leb (digits_value 10 ds) (2 ^ 63)
 
--- the integer of a word with `-` in front
+-- the integer of a word that begins with `-`
 integer_of_minus : (word : List ℕ) → get_or word 0 0 ≡ 45 → integer_of word ≡ cond (after_minus (drop 1 word)) (Some (negsuc (digits_value 10 (drop 1 word) - 1))) None
 integer_of_minus word is = rw (eq-eqb (get_or word 0 0) 45 is) refl
 

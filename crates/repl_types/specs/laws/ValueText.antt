@@ -15,6 +15,7 @@ use Rattle.repl_types.specs.declared.value.Value.{Value}
 use Rattle.repl_types.specs.declared.value.Value.TheVariants.{Null, Int, Text}
 use Rattle.repl_types.specs.ValueText.{escaped_byte, escaped, after_byte, unescaped, text_value, value_text, value_of, IsValue}
 use Rattle.repl_types.specs.Numbers.{integer_of}
+use Rattle.repl_types.specs.Sizes.{text_limit}
 use Rattle.repl_types.specs.laws.Numbers.{first_and_rest, decimal_first, integer_found, integer_again}
 use Rattle.repl_types.specs.laws.Unescaped.{says_itself}
 
@@ -24,19 +25,19 @@ escaped-append [] t = refl
 escaped-append (b ∷ bs) t = ap (λ (rest : List ℕ). escaped_byte b ++ rest) (escaped-append bs t) ∙ sym (append_assoc (escaped_byte b) (escaped bs) (escaped t))
 
 -- one more byte is written, after a quote
-pub escaped_more : (front t : List ℕ) (i : ℕ) → i < length t → (front ++ 39 ∷ escaped (take i t)) ++ escaped_byte (get_or t i 0) ≡ front ++ 39 ∷ escaped (take (i + 1) t)
-escaped_more front t i lt = append_assoc front (39 ∷ escaped (take i t)) (escaped_byte (get_or t i 0)) ∙ ap (λ (e : List ℕ). front ++ 39 ∷ e) (sym one)
+pub escaped_more : (before t : List ℕ) (i : ℕ) → i < length t → (before ++ 39 ∷ escaped (take i t)) ++ escaped_byte (get_or t i 0) ≡ before ++ 39 ∷ escaped (take (i + 1) t)
+escaped_more before t i lt = append_assoc before (39 ∷ escaped (take i t)) (escaped_byte (get_or t i 0)) ∙ ap (λ (e : List ℕ). before ++ 39 ∷ e) (sym one)
   where
     one : escaped (take (i + 1) t) ≡ escaped (take i t) ++ escaped_byte (get_or t i 0)
     one = ap escaped (take_more t i 0 lt) ∙ escaped-append (take i t) (get_or t i 0 ∷ []) ∙ ap (λ (e : List ℕ). escaped (take i t) ++ e) (append-nil (escaped_byte (get_or t i 0)))
 
--- where what is read is short UTF-8, it is the text of a value
-pub read_some : (quoted t : List ℕ) → unescaped quoted ≡ Some t → length t ≤ 1000 → IsUtf8 t → Some (Text t) ≡ option_and_then text_value (unescaped quoted)
-read_some quoted t says short utf8 = rw (says, le-leb (length t) 1000 short, is_utf8-from_IsUtf8 t utf8) refl
+-- if what is read is short UTF-8, it is the text of a value
+pub read_some : (quoted t : List ℕ) → unescaped quoted ≡ Some t → length t ≤ text_limit → IsUtf8 t → Some (Text t) ≡ option_and_then text_value (unescaped quoted)
+read_some quoted t says short utf8 = rw (says, le-leb (length t) text_limit short, is_utf8-from_IsUtf8 t utf8) refl
 
--- where what is read isn't UTF-8, there is no value
+-- if what is read isn't UTF-8, there is no value
 pub read_none : (quoted t : List ℕ) → unescaped quoted ≡ Some t → (IsUtf8 t → ⊥) → None ≡ option_and_then text_value (unescaped quoted)
-read_none quoted t says other = rw (says, and_right (leb (length t) 1000) (is_utf8 t) (false_from_ne_true (is_utf8 t) (λ is. other (IsUtf8-from_is_utf8 t is)))) refl
+read_none quoted t says other = rw (says, and_right (leb (length t) text_limit) (is_utf8 t) (false_from_ne_true (is_utf8 t) (λ is. other (IsUtf8-from_is_utf8 t is)))) refl
 
 -- ---- one spelling each
 
@@ -47,7 +48,7 @@ data Written (b : ℕ) : Type 0 where
   line_feed : b ≡ 10 → Written b
   itself : b ≢ 39 → b ≢ 92 → b ≢ 10 → Written b
 
--- each byte is written in one of these ways
+-- each byte is written in one of the four ways
 written : (b : ℕ) → Written b
 written b = elim (cases_eq b 39) [
   | inl is ↦ quote is
@@ -82,7 +83,7 @@ record Read (quoted t : List ℕ) : Type 0 where
   t-is : t ≡ byte ∷ others
   says : unescaped rest ≡ Some others
 
--- where the bytes begin with a byte as it is written, and something is read, that is the first of it
+-- if the bytes begin with a byte as it is written, and a text is read, then the text begins with that byte
 byte_read : (b : ℕ) (quoted rest t : List ℕ) → quoted ≡ escaped_byte b ++ rest → after_byte b (unescaped rest) ≡ Some t → Read quoted t
 byte_read b quoted rest t is h = go (unescaped rest) refl h
   where
@@ -135,9 +136,9 @@ text_found quoted (b ∷ bs) h =
 -- a text of a value is short UTF-8
 text_value_found : (t : List ℕ) (v : Value) → text_value t ≡ Some v → (v ≡ Text t) × IsValue v
 text_value_found t v h =
-    let p = cond_some (leb (length t) 1000 && is_utf8 t) (Text t) v h in
+    let p = cond_some (leb (length t) text_limit && is_utf8 t) (Text t) v h in
     let q = and_parts _ _ p.0 in
-    (sym p.1, subst IsValue p.1 (leb-true (length t) 1000 q.0, IsUtf8-from_is_utf8 t q.1))
+    (sym p.1, subst IsValue p.1 (leb-true (length t) text_limit q.0, IsUtf8-from_is_utf8 t q.1))
 
 -- what a word in quotes spells
 quoted_found : (word : List ℕ) (v : Value) → get_or word 0 0 ≡ 39 → option_and_then text_value (unescaped (drop 1 word)) ≡ Some v → (value_text v ≡ word) × IsValue v

@@ -1,7 +1,7 @@
 -- Proofs that what is taken has a spelling, so that it can be put again. There is nothing to believe
 -- here.
-use Rattle.std.proofs.Common.{List, [], ◌∷◌, Option, Some, None}
-use Rattle.std.specs.List.{AllByRecursion}
+use Rattle.std.proofs.Common.{List, Option, Some, None}
+use Rattle.repl_types.specs.laws.Lists.{all_weaker}
 use Rattle.repl_types.specs.declared.record.Change.TheVariants.{Insert, Update, Delete, Start, Stop}
 use Rattle.repl_types.specs.declared.record.LogRecord.{LogRecord}
 use Rattle.repl_types.specs.declared.record.LogRecord.TheVariants as records
@@ -9,12 +9,8 @@ use Rattle.repl_types.specs.declared.change_row.Registration.{Registration}
 use Rattle.repl_types.specs.declared.table.TableDef.{TableDef}
 use Rattle.row_codec.specs.Definitions.{IsTable, HasTableSpelling, IsRegistration, HasRegistrationSpelling}
 use Rattle.row_codec.specs.LogRecords.{IsLogRecord, HasLogSpelling}
-use Rattle.row_codec.specs.Spelling.{Any, ListFits, OptionFits}
+use Rattle.row_codec.specs.Spelling.{ListFits, OptionFits}
 use Rattle.row_codec.specs.Takes.{PairFits}
-
--- if nothing is asked, nothing is to be shown
-pub any_again : {X : Type 0} (fits : X → Type 0) (x : X) → fits x → Any x
-any_again fits x here = tt
 
 -- both parts
 pub pair_again : {A B : Type 0} (fits_a : A → Type 0) (fits_b : B → Type 0) (has_a : A → Type 0) (has_b : B → Type 0) → ((x : A) → fits_a x → has_a x) → ((x : B) → fits_b x → has_b x) → (x : A × B) → PairFits fits_a fits_b x → PairFits has_a has_b x
@@ -25,14 +21,9 @@ pub option_again : {X : Type 0} (P Q : X → Type 0) → ((x : X) → P x → Q 
 option_again P Q less None fits = tt
 option_again P Q less (Some x) fits = less x fits
 
--- what holds of each element still holds if less is asked
-pub each_again : {X : Type 0} (P Q : X → Type 0) → ((x : X) → P x → Q x) → (xs : List X) → AllByRecursion P xs → AllByRecursion Q xs
-each_again P Q less [] all = tt
-each_again P Q less (x ∷ xs) all = (less x all.0, each_again P Q less xs all.1)
-
--- the same of a list with its count
+-- a list with its count, if less is asked of each element
 pub list_again : {X : Type 0} (P Q : X → Type 0) → ((x : X) → P x → Q x) → (xs : List X) → ListFits P xs → ListFits Q xs
-list_again P Q less xs fits = (fits.0, each_again P Q less xs fits.1)
+list_again P Q less xs fits = (fits.0, all_weaker P Q xs less fits.1)
 
 -- records of a log
 pub log_again : (x : LogRecord) → IsLogRecord x → HasLogSpelling x

@@ -6,7 +6,8 @@ use Rattle.std.proofs.lemmas.List.{length-append}
 use Rattle.std.proofs.lemmas.List.Sums.{sum_by-cons, count_by-le-length}
 use Rattle.repl_types.specs.declared.value.Value.{Value}
 use Rattle.repl_types.specs.declared.value.Value.TheVariants.{Null, Int, Text}
-use Rattle.repl_types.specs.Value.{Values, spelled_len}
+use Rattle.repl_types.specs.Sizes.{row_limit}
+use Rattle.repl_types.specs.Value.{Values, spelled_len, spelled_limit}
 use Rattle.repl_types.specs.ValueText.{IsValue}
 use Rattle.repl_types.specs.declared.record.Change.TheVariants.{Insert, Update, Delete, Start, Stop}
 use Rattle.repl_types.specs.declared.record.LogRecord.{LogRecord}
@@ -42,18 +43,18 @@ length_of_key [] = refl
 length_of_key (v ∷ key) = length-append (value_spelling v) (key_spelling key) ∙ ap (λ (n : ℕ). n + length (key_spelling key)) (length_value v) ∙ ap (λ (n : ℕ). spelled_len v + n) (length_of_key key) ∙ sym (sum_by-cons spelled_len v key)
 
 -- a value takes at most 2,003 bytes
-value_length : (v : Value) → IsValue v → length (value_spelling v) ≤ 2003
+value_length : (v : Value) → IsValue v → length (value_spelling v) ≤ spelled_limit
 value_length Null fits = omega arith
 value_length (Int n) fits = omega (arith, length64 (shifted n))
 value_length (Text t) fits = omega (arith, length_value (Text t), count_by-le-length (λ b. b == 0) t, fits.0)
 
 -- values, one after another
-values_length : (values : Values) → IsKey values → length (key_spelling values) ≤ 2003 * length values
+values_length : (values : Values) → IsKey values → length (key_spelling values) ≤ spelled_limit * length values
 values_length [] all = omega arith
 values_length (v ∷ values) all = omega (arith, length-append (value_spelling v) (key_spelling values), value_length v all.0, values_length values all.1)
 
 -- a row of at most 64 values takes at most 128,194 bytes
-pub row_length : (row : Values) → IsKey row → length row ≤ 64 → length (row_spelling row) ≤ 128194
+pub row_length : (row : Values) → IsKey row → length row ≤ row_limit → length (row_spelling row) ≤ 128194
 row_length row all short = omega (arith, length-append (b16 (length row)) (key_spelling row), length16 (length row), values_length row all)
 
 -- a log record whose rows have at most 64 values may be stored

@@ -5,13 +5,13 @@ use Rattle.repl_types.specs.declared.change_row.Op.TheVariants.{I, U, D}
 use Rattle.repl_types.specs.declared.record.SetId.{SetId}
 use Rattle.row_codec.specs.Takes.{One, PairFits, pair_spelling}
 use Rattle.row_codec.specs.Spelling.{Any, Is16, Is64, IsName, IsSet, IsOrigin, IsSequence, OptionFits, b16, b64, short_text, set_spelling, origin, option_spelling, sequence_spelling, op_spelling}
-use Rattle.row_codec.specs.laws.Numbers.{first_is, fronts, one16, one64}
+use Rattle.row_codec.specs.laws.Numbers.{first_is, same_prefixes, one16, one64}
 use Rattle.row_codec.specs.laws.Ones.{one_by, one_pair}
 use Rattle.row_codec.specs.laws.Tags.{other_tag}
 
 -- names
 pub one_name : One IsName short_text
-one_name x y a b fx fy e = fronts x y a b (first_is (length x) (length y) (x ++ a) (y ++ b) e) (ap (drop 1) e)
+one_name x y a b fx fy e = same_prefixes x y a b (first_is (length x) (length y) (x ++ a) (y ++ b) e) (ap (drop 1) e)
 
 -- sets of equal parts are equal
 same_set : (x y : SetId) → ◌≡◌ {A = List ℕ × List ℕ} (x.qual, x.name) (y.qual, y.name) → x ≡ y

@@ -22,9 +22,9 @@ pub length64 : (n : ℕ) → length (b64 n) ≡ 8
 unfolding b64
 length64 n = refl
 
--- fronts of one length are told apart by the whole
-pub fronts : (s t a b : List ℕ) → length s ≡ length t → s ++ a ≡ t ++ b → (s ≡ t) × (a ≡ b)
-fronts s t a b same e =
+-- equal lists have equal prefixes of one length, and equal rests after them
+pub same_prefixes : (s t a b : List ℕ) → length s ≡ length t → s ++ a ≡ t ++ b → (s ≡ t) × (a ≡ b)
+same_prefixes s t a b same e =
     let of_t : take (length s) (t ++ b) ≡ t = ap (λ (n : ℕ). take n (t ++ b)) same ∙ take-append_seam t b in
     let after_t : drop (length s) (t ++ b) ≡ b = ap (λ (n : ℕ). drop n (t ++ b)) same ∙ drop-append_seam t b in
     (sym (take-append_seam s a) ∙ ap (take (length s)) e ∙ of_t, sym (drop-append_seam s a) ∙ ap (drop (length s)) e ∙ after_t)
@@ -32,17 +32,17 @@ fronts s t a b same e =
 -- eight bytes
 pub one64 : One Is64 b64
 unfolding b64
-one64 x y a b lx ly e = let same = fronts (b64 x) (b64 y) a b refl e in (sym (from_be_bytes-to_be_bytes_8 x lx) ∙ ap (from_be_bytes w64) same.0 ∙ from_be_bytes-to_be_bytes_8 y ly, same.1)
+one64 x y a b lx ly e = let same = same_prefixes (b64 x) (b64 y) a b refl e in (sym (from_be_bytes-to_be_bytes_8 x lx) ∙ ap (from_be_bytes w64) same.0 ∙ from_be_bytes-to_be_bytes_8 y ly, same.1)
 
 -- four bytes
 pub one32 : One Is32 b32
 unfolding b32
-one32 x y a b lx ly e = let same = fronts (b32 x) (b32 y) a b refl e in (sym (from_be_bytes-to_be_bytes_4 x lx) ∙ ap (from_be_bytes w32) same.0 ∙ from_be_bytes-to_be_bytes_4 y ly, same.1)
+one32 x y a b lx ly e = let same = same_prefixes (b32 x) (b32 y) a b refl e in (sym (from_be_bytes-to_be_bytes_4 x lx) ∙ ap (from_be_bytes w32) same.0 ∙ from_be_bytes-to_be_bytes_4 y ly, same.1)
 
 -- two bytes
 pub one16 : One Is16 b16
 unfolding b16
-one16 x y a b lx ly e = let same = fronts (b16 x) (b16 y) a b refl e in (sym (from_be_bytes-to_be_bytes_2 x lx) ∙ ap (from_be_bytes w16) same.0 ∙ from_be_bytes-to_be_bytes_2 y ly, same.1)
+one16 x y a b lx ly e = let same = same_prefixes (b16 x) (b16 y) a b refl e in (sym (from_be_bytes-to_be_bytes_2 x lx) ∙ ap (from_be_bytes w16) same.0 ∙ from_be_bytes-to_be_bytes_2 y ly, same.1)
 
 -- lists that are equal begin alike
 pub first_is : (m n : ℕ) (s t : List ℕ) → m ∷ s ≡ n ∷ t → m ≡ n

@@ -66,17 +66,17 @@ order16 x y a b lx ly =
     let z = bytes_cmp a b in
     more 256 (x / 256 % 256) (x % 256) (y / 256 % 256) (y % 256) x y _ z (omega arith) (omega arith) (omega arith) (omega arith) refl
 
--- fronts of one length are compared first
-fronts_first : (x y a b : List ℕ) → length x ≡ length y → bytes_cmp (x ++ a) (y ++ b) ≡ ordering_then (bytes_cmp x y) (bytes_cmp a b)
-fronts_first [] [] a b e = refl
-fronts_first [] (k ∷ y) a b e = absurd (omega arith)
-fronts_first (j ∷ x) [] a b e = absurd (omega arith)
-fronts_first (j ∷ x) (k ∷ y) a b e = ap (ordering_then (nat_cmp j k)) (fronts_first x y a b (omega arith)) ∙ then_assoc (nat_cmp j k) (bytes_cmp x y) (bytes_cmp a b)
+-- prefixes of one length are compared first
+prefixes_first : (x y a b : List ℕ) → length x ≡ length y → bytes_cmp (x ++ a) (y ++ b) ≡ ordering_then (bytes_cmp x y) (bytes_cmp a b)
+prefixes_first [] [] a b e = refl
+prefixes_first [] (k ∷ y) a b e = absurd (omega arith)
+prefixes_first (j ∷ x) [] a b e = absurd (omega arith)
+prefixes_first (j ∷ x) (k ∷ y) a b e = ap (ordering_then (nat_cmp j k)) (prefixes_first x y a b (omega arith)) ∙ then_assoc (nat_cmp j k) (bytes_cmp x y) (bytes_cmp a b)
 
 -- texts after their lengths
 after_lengths : (x y a b : List ℕ) (c : Ordering) → c ≡ nat_cmp (length x) (length y) → ordering_then c (bytes_cmp (x ++ a) (y ++ b)) ≡ ordering_then (ordering_then c (bytes_cmp x y)) (bytes_cmp a b)
 after_lengths x y a b Less e = refl
-after_lengths x y a b Equal e = fronts_first x y a b (ranked (length x) (length y) Equal e)
+after_lengths x y a b Equal e = prefixes_first x y a b (ranked (length x) (length y) Equal e)
 after_lengths x y a b Greater e = refl
 
 -- names

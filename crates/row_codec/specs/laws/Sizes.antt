@@ -1,13 +1,13 @@
 -- Proofs of how many bytes numbers, names and keys take. There is nothing to believe here.
 use Rattle.std.proofs.Common.{◌≡◌, ℕ, ◌<◌, ◌≤◌, Bool, true, false, List, [], ◌∷◌, length, Option, Some, None, refl, arith, length-append}
 use Rattle.std.proofs.lemmas.Bool.{and_parts, leb-true}
-use Rattle.repl_types.specs.Sizes.{IsKeySize, IsValueSize}
+use Rattle.repl_types.specs.Sizes.{key_limit, name_limit, IsKeySize, IsValueSize}
 use Rattle.repl_types.specs.declared.record.SetId.{SetId}
 use Rattle.row_codec.specs.Spelling.{Is32, Is64, IsName, IsSet, IsOrigin, b32, b64, flag, short_text, set_spelling, origin}
 use Rattle.row_codec.specs.laws.Numbers.{length32, length64}
 
 -- bytes of these lengths may be a key
-pub key_size : (bytes : List ℕ) → 0 < length bytes → length bytes ≤ 1024 → IsKeySize bytes
+pub key_size : (bytes : List ℕ) → 0 < length bytes → length bytes ≤ key_limit → IsKeySize bytes
 key_size bytes some short = record { some = some; short = short }
 
 -- numbers of four bytes
@@ -23,9 +23,9 @@ pub value64 : (n : ℕ) → IsValueSize (b64 n)
 value64 n = omega (arith, length64 n)
 
 -- a name has at most 32 bytes
-pub name_length : (name : List ℕ) → IsName name → length name ≤ 32
+pub name_length : (name : List ℕ) → IsName name → length name ≤ name_limit
 name_length [] fits = omega arith
-name_length (b ∷ bs) fits = let short : length bs ≤ 31 = leb-true (length bs) 31 (and_parts _ _ (and_parts _ _ fits).0).1 in omega (arith, short)
+name_length (b ∷ bs) fits = leb-true (length (b ∷ bs)) name_limit (and_parts _ _ (and_parts _ _ fits).0).1
 
 -- names
 pub key_name : (name : List ℕ) → IsName name → IsKeySize (short_text name)

@@ -4,9 +4,9 @@ use Rattle.std.specs.Ordering.{nat_cmp, ordering_then}
 use Rattle.std.specs.declared.cmp.Ordering.{Ordering}
 use Rattle.std.specs.declared.cmp.Ordering.TheVariants.{Less, Equal, Greater}
 use Rattle.rows_in_order.specs.Rows.{between}
-use Rattle.rows_in_order.specs.Numbers.{SpellsInOrder, AllBelow, AllAbove, NoneAbove, NumbersRise, numbers_between, NextNumber}
-use Rattle.rows_in_order.specs.laws.ByNumber.{key_before, key_upto, all_after, none_after, rises, between_is, key_next}
-use Rattle.rows_in_order.specs.laws.Rising.{between_nothing, between_next, between_first, between_yet, between_none, between_all, between_parts}
+use Rattle.rows_in_order.specs.Numbers.{SpellsInOrder, AllBelow, NoneAbove, NumbersRise, numbers_between, NextNumber}
+use Rattle.rows_in_order.specs.laws.ByNumber.{key_before, key_upto, none_after, rises, between_is, key_next}
+use Rattle.rows_in_order.specs.laws.Rising.{between_nothing, between_first, between_yet, between_none, between_parts}
 
 -- a number as the only item of a list
 pub lone : ℕ → List ℕ
@@ -28,6 +28,7 @@ module _ {X : Type 0} where
   limit_of [] = 0
   limit_of (r ∷ rs) = r.0 + 1 + limit_of rs
 
+  -- all rows' numbers are below that number, and below higher ones
   pub below : (rows : List (ℕ × X)) (n : ℕ) → AllBelow (limit_of rows + n) rows
   unfolding limit_of
   below [] n = tt
@@ -36,20 +37,13 @@ module _ {X : Type 0} where
       sum : (m : ℕ) → m + (r.0 + 1 + n) ≡ r.0 + 1 + m + n
       sum m = omega arith
 
+  -- no row is above a number and up to it
   pub numbers_nothing : (rows : List (ℕ × X)) (low : ℕ) → numbers_between low low rows ≡ []
   numbers_nothing rows low =
       let m = limit_of rows + (low + 1) in
       sym (between_is lone m (lone_order m) low low rows (omega arith) (omega arith) (below rows (low + 1))) ∙ between_nothing lone rows (lone low)
 
-  pub numbers_next : (rows : List (ℕ × X)) (low after : ℕ) (row : ℕ × X) → NextNumber rows after row → low ≤ after → numbers_between low row.0 rows ≡ numbers_between low after rows ++ row ∷ []
-  numbers_next rows low after row next le =
-      let n = low + after + row.0 + 1 in
-      let m = limit_of rows + n in
-      let is = λ (high : ℕ) (lh : high < m). between_is lone m (lone_order m) low high rows (omega arith) lh (below rows n) in
-      sym (is row.0 (omega arith))
-      ∙ between_next lone rows (lone low) (lone after) row (key_next lone m (lone_order m) after rows row (omega arith) (below rows n) next) (key_upto lone m (lone_order m) low after (omega arith) (omega arith) le)
-      ∙ ap (λ (l : List (ℕ × X)). l ++ row ∷ []) (is after (omega arith))
-
+  -- the first of the rows above a number is the next row
   pub numbers_first : (rows : List (ℕ × X)) (after high : ℕ) (row : ℕ × X) → NextNumber rows after row → row.0 ≤ high → numbers_between after high rows ≡ row ∷ numbers_between row.0 high rows
   numbers_first rows after high row next le =
       let n = high + after + row.0 + 1 in
@@ -59,6 +53,7 @@ module _ {X : Type 0} where
       ∙ between_first lone rows (lone after) (lone high) row (key_next lone m (lone_order m) after rows row (omega arith) (below rows n) next) (key_upto lone m (lone_order m) row.0 high (omega arith) (omega arith) le)
       ∙ ap (λ (l : List (ℕ × X)). row ∷ l) (is row.0 (omega arith))
 
+  -- up to a number that the next row is above, there are no more rows
   pub numbers_yet : (rows : List (ℕ × X)) (low after high : ℕ) (row : ℕ × X) → NextNumber rows after row → after ≤ high → high < row.0 → numbers_between low high rows ≡ numbers_between low after rows
   numbers_yet rows low after high row next le lt =
       let n = low + high + after + row.0 + 1 in
@@ -68,6 +63,7 @@ module _ {X : Type 0} where
       ∙ between_yet lone rows (lone low) (lone after) (lone high) row (key_next lone m (lone_order m) after rows row (omega arith) (below rows n) next) (key_upto lone m (lone_order m) after high (omega arith) (omega arith) le) (key_before lone m (lone_order m) high row.0 (omega arith) (omega arith) lt)
       ∙ is after (omega arith)
 
+  -- if no row is above a number, there are no more rows up to a later one
   pub numbers_none : (rows : List (ℕ × X)) (low after high : ℕ) → NoneAbove after rows → after ≤ high → numbers_between low high rows ≡ numbers_between low after rows
   numbers_none rows low after high none le =
       let n = low + high + after + 1 in
@@ -77,13 +73,7 @@ module _ {X : Type 0} where
       ∙ between_none lone rows (lone low) (lone after) (lone high) (none_after lone m (lone_order m) after rows (omega arith) (below rows n) none) (key_upto lone m (lone_order m) after high (omega arith) (omega arith) le)
       ∙ is after (omega arith)
 
-  pub numbers_all : (rows : List (ℕ × X)) (low high : ℕ) → AllAbove low rows → NoneAbove high rows → numbers_between low high rows ≡ rows
-  numbers_all rows low high all none =
-      let n = low + high + 1 in
-      let m = limit_of rows + n in
-      sym (between_is lone m (lone_order m) low high rows (omega arith) (omega arith) (below rows n))
-      ∙ between_all lone rows (lone low) (lone high) (all_after lone m (lone_order m) low rows (omega arith) (below rows n) all) (none_after lone m (lone_order m) high rows (omega arith) (below rows n) none)
-
+  -- the rows between two numbers are those up to a number between them, and those above it
   pub numbers_parts : (rows : List (ℕ × X)) (low mid high : ℕ) → NumbersRise rows → low ≤ mid → mid ≤ high → numbers_between low high rows ≡ numbers_between low mid rows ++ numbers_between mid high rows
   numbers_parts rows low mid high rise le more =
       let n = low + mid + high + 1 in

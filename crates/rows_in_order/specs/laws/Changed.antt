@@ -1,20 +1,20 @@
 -- Rows with one more, and with one less.
-use Rattle.std.proofs.Common.{◌≡◌, ◌≢◌, ℕ, Bool, true, false, cond, List, [], ◌∷◌, ◌++◌, refl, sym, ap, subst, ◌∙◌}
+use Rattle.std.proofs.Common.{◌≡◌, ◌≢◌, ℕ, Bool, true, false, cond, List, [], ◌∷◌, ◌++◌, refl, sym, ap, ◌∙◌}
 use Rattle.std.specs.Prelude.{Option, Some, None, not, filter}
 use Rattle.std.specs.Ordering.{is_lt, is_eq, ordering_reverse}
 use Rattle.std.specs.declared.cmp.Ordering.{Ordering}
 use Rattle.std.specs.declared.cmp.Ordering.TheVariants.{Less, Equal, Greater}
 use Rattle.std.proofs.lemmas.Cmp.{eq_by_cmp_equiv}
-use Rattle.std.proofs.lemmas.List.{append-nil}
 use Rattle.std.proofs.lemmas.List.Elements.{filter-append}
 use Rattle.repl_types.specs.Bytes.{bytes_cmp}
 use Rattle.keep_core.specs.Contents.{same_key, set_key}
-use Rattle.rows_in_order.specs.Rows.{is_before, table_of, AllBefore, AllAfter, IsRising, with_row, without_row}
-use Rattle.rows_in_order.specs.laws.Before.{order, is_less, upto_itself}
-use Rattle.rows_in_order.specs.laws.Filtered.{all_weaker, all_append, all_kept, filter_none, filter_all}
+use Rattle.rows_in_order.specs.Rows.{is_before, table_from_rows, AllBefore, AllAfter, IsRising, with_row, without_row}
+use Rattle.rows_in_order.specs.laws.Before.{order, is_less}
+use Rattle.repl_types.specs.laws.Lists.{all_weaker, all_append, filter_all}
+use Rattle.rows_in_order.specs.laws.Filtered.{all_kept}
 use Rattle.rows_in_order.specs.laws.Rising.{same_itself, same_is, differ, filter_rises, no_row_at}
 
--- the first of two where it is something, else the second
+-- the first of two if it is something, else the second
 abbrev pub or_else : Option (List ℕ) → Option (List ℕ) → Option (List ℕ)
 or_else None other = other
 or_else (Some v) other = Some v
@@ -23,7 +23,7 @@ or_else (Some v) other = Some v
 
 module _ {A X : Type 0} (key : A → List ℕ) (value : X → List ℕ) where
   -- a filter by keys keeps what stands at a key, or drops it
-  pub filter_at : (p : A × X → Bool) (k : List ℕ) (t : Bool) → ((r : A × X) → key r.0 ≡ k → p r ≡ t) → (rows : List (A × X)) → table_of key value (filter p rows) k ≡ cond t (table_of key value rows k) None
+  pub filter_at : (p : A × X → Bool) (k : List ℕ) (t : Bool) → ((r : A × X) → key r.0 ≡ k → p r ≡ t) → (rows : List (A × X)) → table_from_rows key value (filter p rows) k ≡ cond t (table_from_rows key value rows k) None
   filter_at p k true agree [] = refl
   filter_at p k false agree [] = refl
   filter_at p k t agree (r ∷ rs) = pick (p r) refl (same_key (key r.0) k) refl (filter_at p k t agree rs)
@@ -31,23 +31,23 @@ module _ {A X : Type 0} (key : A → List ℕ) (value : X → List ℕ) where
       kept : same_key (key r.0) k ≡ true → p r ≡ t
       kept same = agree r (same_is (key r.0) k same)
 
-      pick : (u : Bool) → p r ≡ u → (s : Bool) → same_key (key r.0) k ≡ s → table_of key value (filter p rs) k ≡ cond t (table_of key value rs k) None → table_of key value (cond u (r ∷ filter p rs) (filter p rs)) k ≡ cond t (cond (same_key (key r.0) k) (Some (value r.1)) (table_of key value rs k)) None
-      pick true e true f rest = ap (λ (b : Bool). cond b (Some (value r.1)) (table_of key value (filter p rs) k)) f ∙ sym (ap (λ (b : Bool). cond t (cond b (Some (value r.1)) (table_of key value rs k)) None) f ∙ ap (λ (b : Bool). cond b (Some (value r.1)) None) (sym (kept f) ∙ e))
-      pick true e false f rest = ap (λ (b : Bool). cond b (Some (value r.1)) (table_of key value (filter p rs) k)) f ∙ rest ∙ sym (ap (λ (b : Bool). cond t (cond b (Some (value r.1)) (table_of key value rs k)) None) f)
-      pick false e true f rest = rest ∙ ap (λ (b : Bool). cond b (table_of key value rs k) None) (sym (kept f) ∙ e) ∙ sym (ap (λ (b : Bool). cond b (cond (same_key (key r.0) k) (Some (value r.1)) (table_of key value rs k)) None) (sym (kept f) ∙ e))
-      pick false e false f rest = rest ∙ sym (ap (λ (b : Bool). cond t (cond b (Some (value r.1)) (table_of key value rs k)) None) f)
+      pick : (u : Bool) → p r ≡ u → (s : Bool) → same_key (key r.0) k ≡ s → table_from_rows key value (filter p rs) k ≡ cond t (table_from_rows key value rs k) None → table_from_rows key value (cond u (r ∷ filter p rs) (filter p rs)) k ≡ cond t (cond (same_key (key r.0) k) (Some (value r.1)) (table_from_rows key value rs k)) None
+      pick true e true f rest = ap (λ (b : Bool). cond b (Some (value r.1)) (table_from_rows key value (filter p rs) k)) f ∙ sym (ap (λ (b : Bool). cond t (cond b (Some (value r.1)) (table_from_rows key value rs k)) None) f ∙ ap (λ (b : Bool). cond b (Some (value r.1)) None) (sym (kept f) ∙ e))
+      pick true e false f rest = ap (λ (b : Bool). cond b (Some (value r.1)) (table_from_rows key value (filter p rs) k)) f ∙ rest ∙ sym (ap (λ (b : Bool). cond t (cond b (Some (value r.1)) (table_from_rows key value rs k)) None) f)
+      pick false e true f rest = rest ∙ ap (λ (b : Bool). cond b (table_from_rows key value rs k) None) (sym (kept f) ∙ e) ∙ sym (ap (λ (b : Bool). cond b (cond (same_key (key r.0) k) (Some (value r.1)) (table_from_rows key value rs k)) None) (sym (kept f) ∙ e))
+      pick false e false f rest = rest ∙ sym (ap (λ (b : Bool). cond t (cond b (Some (value r.1)) (table_from_rows key value rs k)) None) f)
 
   -- what stands at a key in two lists
-  pub append_at : (xs ys : List (A × X)) (k : List ℕ) → table_of key value (xs ++ ys) k ≡ or_else (table_of key value xs k) (table_of key value ys k)
+  pub append_at : (xs ys : List (A × X)) (k : List ℕ) → table_from_rows key value (xs ++ ys) k ≡ or_else (table_from_rows key value xs k) (table_from_rows key value ys k)
   append_at [] ys k = refl
   append_at (r ∷ rs) ys k = pick (same_key (key r.0) k) (append_at rs ys k)
     where
-      pick : (s : Bool) → table_of key value (rs ++ ys) k ≡ or_else (table_of key value rs k) (table_of key value ys k) → cond s (Some (value r.1)) (table_of key value (rs ++ ys) k) ≡ or_else (cond s (Some (value r.1)) (table_of key value rs k)) (table_of key value ys k)
+      pick : (s : Bool) → table_from_rows key value (rs ++ ys) k ≡ or_else (table_from_rows key value rs k) (table_from_rows key value ys k) → cond s (Some (value r.1)) (table_from_rows key value (rs ++ ys) k) ≡ or_else (cond s (Some (value r.1)) (table_from_rows key value rs k)) (table_from_rows key value ys k)
       pick true rest = refl
       pick false rest = rest
 
   -- a row put at its key
-  pub table_with : (row : A × X) (rows : List (A × X)) → table_of key value (with_row key row rows) ≡ set_key (table_of key value rows) (key row.0) (Some (value row.1))
+  pub table_with : (row : A × X) (rows : List (A × X)) → table_from_rows key value (with_row key row rows) ≡ set_key (table_from_rows key value rows) (key row.0) (Some (value row.1))
   table_with row rows = λ i k. at k i
     where
       k0 : List ℕ
@@ -65,47 +65,35 @@ module _ {A X : Type 0} (key : A → List ℕ) (value : X → List ℕ) where
       all Greater None = refl
       all Greater (Some v) = refl
 
-      at : (k : List ℕ) → table_of key value (with_row key row rows) k ≡ set_key (table_of key value rows) k0 (Some (value row.1)) k
+      at : (k : List ℕ) → table_from_rows key value (with_row key row rows) k ≡ set_key (table_from_rows key value rows) k0 (Some (value row.1)) k
       at k =
           append_at low (row ∷ high) k
-          ∙ ap (λ (o : Option (List ℕ)). or_else o (table_of key value (row ∷ high) k)) (filter_at (λ r. is_before (key r.0) k0) k (is_before k k0) (λ r e. ap (λ (q : List ℕ). is_before q k0) e) rows)
-          ∙ ap (λ (o : Option (List ℕ)). or_else (cond (is_before k k0) (table_of key value rows k) None) (cond (same_key k0 k) (Some (value row.1)) o)) (filter_at (λ r. is_before k0 (key r.0)) k (is_before k0 k) (λ r e. ap (λ (q : List ℕ). is_before k0 q) e) rows)
-          ∙ ap (λ (o : Ordering). or_else (cond (is_lt o) (table_of key value rows k) None) (cond (same_key k0 k) (Some (value row.1)) (cond (is_before k0 k) (table_of key value rows k) None))) (order.antisymm k k0)
-          ∙ all (bytes_cmp k0 k) (table_of key value rows k)
+          ∙ ap (λ (o : Option (List ℕ)). or_else o (table_from_rows key value (row ∷ high) k)) (filter_at (λ r. is_before (key r.0) k0) k (is_before k k0) (λ r e. ap (λ (q : List ℕ). is_before q k0) e) rows)
+          ∙ ap (λ (o : Option (List ℕ)). or_else (cond (is_before k k0) (table_from_rows key value rows k) None) (cond (same_key k0 k) (Some (value row.1)) o)) (filter_at (λ r. is_before k0 (key r.0)) k (is_before k0 k) (λ r e. ap (λ (q : List ℕ). is_before k0 q) e) rows)
+          ∙ ap (λ (o : Ordering). or_else (cond (is_lt o) (table_from_rows key value rows k) None) (cond (same_key k0 k) (Some (value row.1)) (cond (is_before k0 k) (table_from_rows key value rows k) None))) (order.antisymm k k0)
+          ∙ all (bytes_cmp k0 k) (table_from_rows key value rows k)
 
   -- a row taken from its key
-  pub table_without : (k : List ℕ) (rows : List (A × X)) → table_of key value (without_row key k rows) ≡ set_key (table_of key value rows) k None
+  pub table_without : (k : List ℕ) (rows : List (A × X)) → table_from_rows key value (without_row key k rows) ≡ set_key (table_from_rows key value rows) k None
   table_without k rows = λ i q. at q i
     where
       turn : (s : Bool) (x : Option (List ℕ)) → cond (not s) x None ≡ cond s None x
       turn true x = refl
       turn false x = refl
 
-      at : (q : List ℕ) → table_of key value (without_row key k rows) q ≡ set_key (table_of key value rows) k None q
+      at : (q : List ℕ) → table_from_rows key value (without_row key k rows) q ≡ set_key (table_from_rows key value rows) k None q
       at q =
           filter_at (λ r. not (same_key (key r.0) k)) q (not (same_key q k)) (λ r e. ap (λ (l : List ℕ). not (same_key l k)) e) rows
-          ∙ turn (same_key q k) (table_of key value rows q)
-          ∙ ap (λ (s : Bool). cond s None (table_of key value rows q)) ((eq_by_cmp_equiv order).symm q k)
+          ∙ turn (same_key q k) (table_from_rows key value rows q)
+          ∙ ap (λ (s : Bool). cond s None (table_from_rows key value rows q)) ((eq_by_cmp_equiv order).symm q k)
 
   -- without a row at the key the rows stay
-  pub without_absent : (k : List ℕ) (rows : List (A × X)) → table_of key value rows k ≡ None → without_row key k rows ≡ rows
+  pub without_absent : (k : List ℕ) (rows : List (A × X)) → table_from_rows key value rows k ≡ None → without_row key k rows ≡ rows
   without_absent k rows none = filter_all (λ r. not (same_key (key r.0) k)) rows (all_weaker (λ r. key r.0 ≢ k) (λ r. not (same_key (key r.0) k) ≡ true) rows (λ r ne. apart (key r.0) ne (same_key (key r.0) k) refl) (no_row_at key value rows k none))
     where
       apart : (l : List ℕ) → l ≢ k → (s : Bool) → same_key l k ≡ s → not (same_key l k) ≡ true
       apart l ne true e = absurd (ne (same_is l k e))
       apart l ne false e = ap not e
-
-  -- a lone row
-  pub one_at : (k : A) (x : X) → table_of key value ((k, x) ∷ []) (key k) ≡ Some (value x)
-  one_at k x = ap (λ (s : Bool). cond s (Some (value x)) None) (same_itself (key k))
-
-  -- and another in its place
-  pub one_put : (k : A) (x y : X) → set_key (table_of key value ((k, x) ∷ [])) (key k) (Some (value y)) ≡ table_of key value ((k, y) ∷ [])
-  one_put k x y = λ i q. pick (same_key (key k) q) i
-    where
-      pick : (s : Bool) → cond s (Some (value y)) (cond s (Some (value x)) None) ≡ cond s (Some (value y)) None
-      pick true = refl
-      pick false = refl
 
 module _ {A X : Type 0} (key : A → List ℕ) where
   -- rising rows, a row after them all, and rising rows after that
@@ -137,50 +125,6 @@ module _ {A X : Type 0} (key : A → List ℕ) where
       later : (xs : List (A × X)) → AllAfter key (key q.0) (xs ++ r ∷ back) → bytes_cmp (key q.0) (key r.0) ≡ Less
       later [] after = after.0
       later (x ∷ xs) after = later xs after.1
-
-  -- rows before a key, and after it, by the tests that a new row makes
-  lows : (k : List ℕ) (front back : List (A × X)) → AllBefore key k front → AllAfter key k back → (filter (λ r. is_before (key r.0) k) front ≡ front) × (filter (λ r. is_before (key r.0) k) back ≡ [])
-  lows k front back before after = (
-    filter_all (λ r. is_before (key r.0) k) front (all_weaker (λ r. bytes_cmp (key r.0) k ≡ Less) (λ r. is_before (key r.0) k ≡ true) front (λ r lt. ap is_lt lt) before),
-    filter_none (λ r. is_before (key r.0) k) back (all_weaker (λ r. bytes_cmp k (key r.0) ≡ Less) (λ r. is_before (key r.0) k ≡ false) back (λ r lt. ap is_lt (order.antisymm (key r.0) k ∙ ap ordering_reverse lt)) after),
-  )
-
-  highs : (k : List ℕ) (front back : List (A × X)) → AllBefore key k front → AllAfter key k back → (filter (λ r. is_before k (key r.0)) front ≡ []) × (filter (λ r. is_before k (key r.0)) back ≡ back)
-  highs k front back before after = (
-    filter_none (λ r. is_before k (key r.0)) front (all_weaker (λ r. bytes_cmp (key r.0) k ≡ Less) (λ r. is_before k (key r.0) ≡ false) front (λ r lt. ap is_lt (order.antisymm k (key r.0) ∙ ap ordering_reverse lt)) before),
-    filter_all (λ r. is_before k (key r.0)) back (all_weaker (λ r. bytes_cmp k (key r.0) ≡ Less) (λ r. is_before k (key r.0) ≡ true) back (λ r lt. ap is_lt lt) after),
-  )
-
-  -- a new row goes between those before its key and those after it
-  pub with_between : (row : A × X) (front back : List (A × X)) → AllBefore key (key row.0) front → AllAfter key (key row.0) back → with_row key row (front ++ back) ≡ front ++ row ∷ back
-  with_between row front back before after =
-      let k = key row.0 in
-      let low : A × X → Bool = λ r. is_before (key r.0) k in
-      let high : A × X → Bool = λ r. is_before k (key r.0) in
-      let l = lows k front back before after in
-      let h = highs k front back before after in
-      ap (λ (xs : List (A × X)). xs ++ row ∷ filter high (front ++ back)) (filter-append low front back ∙ ap (λ (xs : List (A × X)). xs ++ filter low back) l.0 ∙ ap (λ (xs : List (A × X)). front ++ xs) l.1 ∙ append-nil front)
-      ∙ ap (λ (xs : List (A × X)). front ++ row ∷ xs) (filter-append high front back ∙ ap (λ (xs : List (A × X)). xs ++ filter high back) h.0 ∙ h.1)
-
-  -- a row at a key that another has takes its place
-  pub with_replaced : (row old : A × X) (front back : List (A × X)) → IsRising key (front ++ old ∷ back) → key old.0 ≡ key row.0 → with_row key row (front ++ old ∷ back) ≡ front ++ row ∷ back
-  with_replaced row old front back rise same =
-      let k = key row.0 in
-      let low : A × X → Bool = λ r. is_before (key r.0) k in
-      let high : A × X → Bool = λ r. is_before k (key r.0) in
-      let parts = rising_split front old back rise in
-      let before : AllBefore key k front = subst (λ (q : List ℕ). AllBefore key q front) same parts.0 in
-      let after : AllAfter key k back = subst (λ (q : List ℕ). AllAfter key q back) same parts.1 in
-      let l = lows k front back before after in
-      let h = highs k front back before after in
-      let old_low : low old ≡ false = ap (λ (q : List ℕ). is_before q k) same ∙ upto_itself k in
-      let old_high : high old ≡ false = ap (λ (q : List ℕ). is_before k q) same ∙ upto_itself k in
-      ap (λ (xs : List (A × X)). xs ++ row ∷ filter high (front ++ old ∷ back)) (filter-append low front (old ∷ back) ∙ ap (λ (b : Bool). filter low front ++ cond b (old ∷ filter low back) (filter low back)) old_low ∙ ap (λ (xs : List (A × X)). xs ++ filter low back) l.0 ∙ ap (λ (xs : List (A × X)). front ++ xs) l.1 ∙ append-nil front)
-      ∙ ap (λ (xs : List (A × X)). front ++ row ∷ xs) (filter-append high front (old ∷ back) ∙ ap (λ (b : Bool). filter high front ++ cond b (old ∷ filter high back) (filter high back)) old_high ∙ ap (λ (xs : List (A × X)). xs ++ filter high back) h.0 ∙ h.1)
-
-  -- a row after all others goes to the end
-  pub with_last : (row : A × X) (rows : List (A × X)) → AllBefore key (key row.0) rows → with_row key row rows ≡ rows ++ row ∷ []
-  with_last row rows before = ap (λ (xs : List (A × X)). with_row key row xs) (sym (append-nil rows)) ∙ with_between row rows [] before tt
 
   -- the others of rising rows
   pub without_split : (row : A × X) (front back : List (A × X)) → IsRising key (front ++ row ∷ back) → without_row key (key row.0) (front ++ row ∷ back) ≡ front ++ back

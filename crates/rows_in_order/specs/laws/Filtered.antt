@@ -1,41 +1,7 @@
 -- Filters of lists.
-use Rattle.std.proofs.Common.{◌≡◌, Bool, true, false, cond, List, [], ◌∷◌, ◌++◌, refl, ap, subst, ◌∙◌}
-use Rattle.std.specs.Prelude.{filter}
+use Rattle.std.proofs.Common.{◌≡◌, Bool, true, false, cond, List, [], ◌∷◌, ◌++◌, refl, sym, ap, subst, ◌∙◌}
+use Rattle.std.specs.Prelude.{filter, not}
 use Rattle.std.specs.List.{AllByRecursion}
-
--- what holds of all may be weakened
-pub all_weaker : {X : Type 0} (P Q : X → Type 0) (xs : List X) → ((x : X) → P x → Q x) → AllByRecursion P xs → AllByRecursion Q xs
-all_weaker P Q [] f all = tt
-all_weaker P Q (x ∷ xs) f all = (f x all.0, all_weaker P Q xs f all.1)
-
--- what holds of all holds of those that a filter keeps
-pub all_filter : {X : Type 0} (P : X → Type 0) (p : X → Bool) (xs : List X) → AllByRecursion P xs → AllByRecursion P (filter p xs)
-all_filter P p [] all = tt
-all_filter {X} P p (x ∷ xs) all = pick (p x) (all_filter P p xs all.1)
-  where
-    pick : (t : Bool) → AllByRecursion P (filter p xs) → AllByRecursion P (cond t (x ∷ filter p xs) (filter p xs))
-    pick true rest = (all.0, rest)
-    pick false rest = rest
-
--- a filter that none passes
-pub filter_none : {X : Type 0} (p : X → Bool) (xs : List X) → AllByRecursion (λ x. p x ≡ false) xs → filter p xs ≡ []
-filter_none p [] all = refl
-filter_none {X} p (x ∷ xs) all = ap (λ (t : Bool). cond t (x ∷ filter p xs) (filter p xs)) all.0 ∙ filter_none p xs all.1
-
--- a filter that all pass
-pub filter_all : {X : Type 0} (p : X → Bool) (xs : List X) → AllByRecursion (λ x. p x ≡ true) xs → filter p xs ≡ xs
-filter_all p [] all = refl
-filter_all {X} p (x ∷ xs) all = ap (λ (t : Bool). cond t (x ∷ filter p xs) (filter p xs)) all.0 ∙ ap (λ (l : List X). x ∷ l) (filter_all p xs all.1)
-
--- two filters that answer alike
-pub filter_alike : {X : Type 0} (p q : X → Bool) (xs : List X) → AllByRecursion (λ x. p x ≡ q x) xs → filter p xs ≡ filter q xs
-filter_alike p q [] all = refl
-filter_alike {X} p q (x ∷ xs) all = ap (λ (t : Bool). cond t (x ∷ filter p xs) (filter p xs)) all.0 ∙ ap (λ (l : List X). cond (q x) (x ∷ l) l) (filter_alike p q xs all.1)
-
--- what holds of all of two lists holds of all of both
-pub all_append : {X : Type 0} (P : X → Type 0) (xs ys : List X) → AllByRecursion P xs → AllByRecursion P ys → AllByRecursion P (xs ++ ys)
-all_append P [] ys all more = more
-all_append P (x ∷ xs) ys all more = (all.0, all_append P xs ys all.1 more)
 
 -- all that a filter keeps pass it
 pub all_kept : {X : Type 0} (p : X → Bool) (xs : List X) → AllByRecursion (λ x. p x ≡ true) (filter p xs)
@@ -53,3 +19,29 @@ all_at {X} P xs x front back split all = at front (subst (AllByRecursion P) spli
     at : (front : List X) → AllByRecursion P (front ++ x ∷ back) → P x
     at [] all = all.0
     at (y ∷ ys) all = at ys all.1
+
+-- two filters may be applied in either order
+pub filters_commute : {X : Type 0} (p q : X → Bool) (xs : List X) → filter p (filter q xs) ≡ filter q (filter p xs)
+filters_commute p q [] = refl
+filters_commute {X} p q (x ∷ xs) = pick (p x) refl (q x) refl (filters_commute p q xs)
+  where
+    first : (t : Bool) → p x ≡ t → filter p (x ∷ filter q xs) ≡ cond t (x ∷ filter p (filter q xs)) (filter p (filter q xs))
+    first t e = ap (λ (b : Bool). cond b (x ∷ filter p (filter q xs)) (filter p (filter q xs))) e
+
+    second : (t : Bool) → q x ≡ t → filter q (x ∷ filter p xs) ≡ cond t (x ∷ filter q (filter p xs)) (filter q (filter p xs))
+    second t e = ap (λ (b : Bool). cond b (x ∷ filter q (filter p xs)) (filter q (filter p xs))) e
+
+    pick : (s : Bool) → p x ≡ s → (t : Bool) → q x ≡ t → filter p (filter q xs) ≡ filter q (filter p xs) → filter p (cond t (x ∷ filter q xs) (filter q xs)) ≡ filter q (cond s (x ∷ filter p xs) (filter p xs))
+    pick true e true f rest = first true e ∙ ap (λ (l : List X). x ∷ l) rest ∙ sym (second true f)
+    pick true e false f rest = rest ∙ sym (second false f)
+    pick false e true f rest = first false e ∙ rest
+    pick false e false f rest = rest
+
+-- if none passes a test, all pass the opposite
+pub filter_others : {X : Type 0} (p : X → Bool) (xs : List X) → filter p xs ≡ [] → filter (λ x. not (p x)) xs ≡ xs
+filter_others p [] none = refl
+filter_others {X} p (x ∷ xs) none = pick (p x) none (filter_others p xs)
+  where
+    pick : (t : Bool) → cond t (x ∷ filter p xs) (filter p xs) ≡ [] → (filter p xs ≡ [] → filter (λ y. not (p y)) xs ≡ xs) → cond (not t) (x ∷ filter (λ y. not (p y)) xs) (filter (λ y. not (p y)) xs) ≡ x ∷ xs
+    pick true none rest = absurd cc
+    pick false none rest = ap (λ (l : List X). x ∷ l) (rest none)

@@ -1,16 +1,15 @@
 -- What stands in a table is a row's, and the next key is the next row's.
 use Rattle.std.proofs.Common.{◌≡◌, ℕ, ◌<◌, Bool, true, false, cond, List, [], ◌∷◌, ◌++◌, length, refl, sym, ap, subst, ◌∙◌}
-use Rattle.std.specs.Prelude.{Option, Some, None}
+use Rattle.std.specs.Prelude.{Some}
 use Rattle.std.specs.List.{AllByRecursion}
-use Rattle.std.specs.Ordering.{is_lt, is_eq, ordering_reverse}
+use Rattle.std.specs.Ordering.{is_lt}
 use Rattle.std.specs.declared.cmp.Ordering.TheVariants.{Less}
 use Rattle.repl_types.specs.Bytes.{bytes_cmp}
-use Rattle.keep_core.specs.Contents.{IsNext, IsLast, same_key}
-use Rattle.rows_in_order.specs.Rows.{is_before, table_of, AllAfter, NoneAfter, IsRising, IsToldApart, HasRow, NextRow}
-use Rattle.rows_in_order.specs.laws.Before.{order, not_both, upto_before, empty_before}
-use Rattle.rows_in_order.specs.laws.Filtered.{all_weaker}
-use Rattle.rows_in_order.specs.laws.Rising.{same_is, differ, past_head, some_is, some_none, found_row, next_row}
-use Rattle.rows_in_order.specs.laws.Changed.{or_else, append_at}
+use Rattle.keep_core.specs.Contents.{IsNextKey, same_key}
+use Rattle.rows_in_order.specs.Rows.{is_before, table_from_rows, AllAfter, NoneAfter, IsRising, IsToldApart, HasRow, NextRow}
+use Rattle.rows_in_order.specs.laws.Before.{not_both, empty_before}
+use Rattle.repl_types.specs.laws.Lists.{all_weaker}
+use Rattle.rows_in_order.specs.laws.Rising.{same_is, past_head, some_is, some_none, next_row}
 use Rattle.rows_in_order.specs.laws.Unique.{one_row_at}
 
 module _ {A X : Type 0} where
@@ -43,12 +42,12 @@ module _ {A X : Type 0} where
 
     module _ (value : X → List ℕ) where
       -- what stands at a key is a row's value
-      pub row_of : (rows : List (A × X)) (k v : List ℕ) → table_of key value rows k ≡ Some v → (row : A × X) × HasRow rows row × (key row.0 ≡ k) × (value row.1 ≡ v)
+      pub row_of : (rows : List (A × X)) (k v : List ℕ) → table_from_rows key value rows k ≡ Some v → (row : A × X) × HasRow rows row × (key row.0 ≡ k) × (value row.1 ≡ v)
       row_of [] k v has = absurd (some_none key value (sym has))
       row_of (r ∷ rs) k v has = pick (same_key (key r.0) k) refl (row_of rs k v)
         where
-          pick : (t : Bool) → same_key (key r.0) k ≡ t → (table_of key value rs k ≡ Some v → (row : A × X) × HasRow rs row × (key row.0 ≡ k) × (value row.1 ≡ v)) → (row : A × X) × HasRow (r ∷ rs) row × (key row.0 ≡ k) × (value row.1 ≡ v)
-          pick true same rest = (r, record { front = []; back = rs; split = refl }, same_is (key r.0) k same, some_is key value (sym (ap (λ (t : Bool). cond t (Some (value r.1)) (table_of key value rs k)) same) ∙ has))
+          pick : (t : Bool) → same_key (key r.0) k ≡ t → (table_from_rows key value rs k ≡ Some v → (row : A × X) × HasRow rs row × (key row.0 ≡ k) × (value row.1 ≡ v)) → (row : A × X) × HasRow (r ∷ rs) row × (key row.0 ≡ k) × (value row.1 ≡ v)
+          pick true same rest = (r, record { front = []; back = rs; split = refl }, same_is (key r.0) k same, some_is key value (sym (ap (λ (t : Bool). cond t (Some (value r.1)) (table_from_rows key value rs k)) same) ∙ has))
           pick false same rest = let found = rest (sym (past_head key value r rs k same) ∙ has) in (found.0, has_later r rs found.0 found.1, found.2, found.3)
 
       -- of rows that rise each is told apart
@@ -56,31 +55,9 @@ module _ {A X : Type 0} where
       told_apart rows row rise has = all_weaker (λ r. HasRow rows r) (λ r. key r.0 ≡ key row.0 → value r.1 ≡ value row.1 → r ≡ row) rows (λ r there keys values. one_row_at key rows r row rise there has keys) (all_there rows)
 
       -- the next key is a row's, which is the next
-      pub next_of : (rows : List (A × X)) (after k v : List ℕ) → IsRising key rows → IsNext (table_of key value rows) after k v → (row : A × X) × NextRow key rows after row × (key row.0 ≡ k) × (value row.1 ≡ v)
+      pub next_of : (rows : List (A × X)) (after k v : List ℕ) → IsRising key rows → IsNextKey (table_from_rows key value rows) after k v → (row : A × X) × NextRow key rows after row × (key row.0 ≡ k) × (value row.1 ≡ v)
       next_of rows after k v rise next =
           let found = row_of rows k v next.has in
           let row : A × X = found.0 in
-          let spelled : IsNext (table_of key value rows) after (key row.0) (value row.1) = subst (λ (q : List ℕ). IsNext (table_of key value rows) after q (value row.1)) (sym found.2) (subst (λ (w : List ℕ). IsNext (table_of key value rows) after k w) (sym found.3) next) in
+          let spelled : IsNextKey (table_from_rows key value rows) after (key row.0) (value row.1) = subst (λ (q : List ℕ). IsNextKey (table_from_rows key value rows) after q (value row.1)) (sym found.2) (subst (λ (w : List ℕ). IsNextKey (table_from_rows key value rows) after k w) (sym found.3) next) in
           (row, next_row key value rows after row rise (told_apart rows row rise found.1) spelled, found.2, found.3)
-
-      -- where no row is after a key, no key is
-      pub is_last : (rows : List (A × X)) (after : List ℕ) → NoneAfter key after rows → IsLast (table_of key value rows) after
-      is_last [] after none = λ q lt. refl
-      is_last (r ∷ rs) after none = λ q lt. past_head key value r rs q (differ (key r.0) q (upto_before (key r.0) after q none.0 lt)) ∙ is_last rs after none.1 q lt
-
-      -- where all rows are after a key, nothing stands at it
-      absent : (rows : List (A × X)) (k : List ℕ) → AllAfter key k rows → table_of key value rows k ≡ None
-      absent [] k after = refl
-      absent (r ∷ rs) k after = past_head key value r rs k (ap is_eq (order.antisymm (key r.0) k ∙ ap ordering_reverse after.0)) ∙ absent rs k after.1
-
-      -- the next row's key is the next
-      pub is_next : (rows : List (A × X)) (after : List ℕ) (row : A × X) → IsRising key rows → NextRow key rows after row → IsNext (table_of key value rows) after (key row.0) (value row.1)
-      is_next rows after row rise next = record {
-        above = next.above;
-        has = found_row key value rows row rise (record { front = next.front; back = next.back; split = next.split });
-        least = λ q low high.
-            ap (λ (l : List (A × X)). table_of key value l q) next.split
-            ∙ append_at key value next.front (row ∷ next.back) q
-            ∙ ap (λ (o : Option (List ℕ)). or_else o (table_of key value (row ∷ next.back) q)) (is_last next.front after next.passed q low)
-            ∙ absent (row ∷ next.back) q (high, all_weaker (λ r. bytes_cmp (key row.0) (key r.0) ≡ Less) (λ r. bytes_cmp q (key r.0) ≡ Less) next.back (λ r lt. order.trans q (key row.0) (key r.0) high lt) next.later);
-      }

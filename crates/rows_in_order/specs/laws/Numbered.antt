@@ -1,42 +1,33 @@
 -- Rows that are numbered in turn.
-use Rattle.std.proofs.Common.{◌≡◌, ℕ, zero, suc, ◌+◌, ◌-◌, ◌<◌, ◌≤◌, Bool, true, false, cond, List, [], ◌∷◌, ◌++◌, length, get_or, refl, sym, ap, ◌∙◌, arith, inl, inr}
-use Rattle.std.specs.Prelude.{Option, Some, None}
+use Rattle.std.proofs.Common.{◌≡◌, ℕ, suc, ◌+◌, ◌-◌, ◌<◌, ◌≤◌, Bool, true, false, cond, List, [], ◌∷◌, ◌++◌, length, get_or, sym, ap, ◌∙◌, arith, inl, inr}
+use Rattle.std.specs.Prelude.{Some, None}
 use Rattle.std.specs.List.{enumerate_from}
-use Rattle.std.proofs.Math.ListN.{set}
 use Rattle.std.proofs.lemmas.Bool.{cases_eq, cases_lt, eq-eqb}
-use Rattle.keep_core.specs.Contents.{Table, IsNext, IsLast, same_key, set_key}
-use Rattle.rows_in_order.specs.Rows.{table_of}
-use Rattle.rows_in_order.specs.Numbers.{SpellsInOrder, AllBelow, AllAbove, NumbersRise}
-use Rattle.rows_in_order.specs.laws.Before.{empty_before}
-use Rattle.rows_in_order.specs.laws.Rising.{same_is, some_none, table_push, table_pop}
+use Rattle.keep_core.specs.Contents.{IsNextKey, IsLastKey, same_key, set_key}
+use Rattle.rows_in_order.specs.Rows.{table_from_rows}
+use Rattle.rows_in_order.specs.Numbers.{SpellsInOrder, AllBelow}
+use Rattle.rows_in_order.specs.laws.Rising.{some_none, table_push}
 use Rattle.rows_in_order.specs.laws.Written.{differ_numbers}
-use Rattle.rows_in_order.specs.laws.ByNumber.{key_same, key_less, key_before, key_one, all_before, all_after}
+use Rattle.rows_in_order.specs.laws.ByNumber.{key_same, key_less, key_before, all_before}
 
 module _ {X : Type 0} where
-  -- a later beginning is above
-  pub numbered_above : (b n : ℕ) (xs : List X) → n < b → AllAbove n (enumerate_from b xs)
-  numbered_above b n [] lt = tt
-  numbered_above b n (x ∷ xs) lt = (lt, numbered_above (b + 1) n xs (omega arith))
-
+  -- the numbers are below any limit that leaves room for all rows
   pub numbered_below : (b m : ℕ) (xs : List X) → b + length xs ≤ m → AllBelow m (enumerate_from b xs)
   numbered_below b m [] le = tt
   numbered_below b m (x ∷ xs) le = (omega arith, numbered_below (b + 1) m xs (omega arith))
 
-  pub numbered_rises : (b : ℕ) (xs : List X) → NumbersRise (enumerate_from b xs)
-  numbered_rises b [] = tt
-  numbered_rises b (x ∷ xs) = (numbered_above (b + 1) b xs (omega arith), numbered_rises (b + 1) xs)
-
+  -- rows of two lists in turn are numbered in turn
   pub numbered_parts : (b : ℕ) (xs ys : List X) → enumerate_from b (xs ++ ys) ≡ enumerate_from b xs ++ enumerate_from (b + length xs) ys
   numbered_parts b [] ys = ap (λ (n : ℕ). enumerate_from n ys) (omega arith)
   numbered_parts b (x ∷ xs) ys = ap (λ (l : List (ℕ × X)). (b, x) ∷ l) (numbered_parts (b + 1) xs ys ∙ ap (λ (n : ℕ). enumerate_from (b + 1) xs ++ enumerate_from n ys) (omega arith))
 
 module _ {X : Type 0} (key : ℕ → List ℕ) (limit : ℕ) (in_order : SpellsInOrder key limit) (value : X → List ℕ) where
   -- what stands at the first number, and at another
-  head_at : (b : ℕ) (x : X) (xs : List X) (t : Bool) (q : ℕ) → same_key (key b) (key q) ≡ t → table_of key value (enumerate_from b (x ∷ xs)) (key q) ≡ cond t (Some (value x)) (table_of key value (enumerate_from (b + 1) xs) (key q))
-  head_at b x xs t q e = ap (λ (s : Bool). cond s (Some (value x)) (table_of key value (enumerate_from (b + 1) xs) (key q))) e
+  head_at : (b : ℕ) (x : X) (xs : List X) (t : Bool) (q : ℕ) → same_key (key b) (key q) ≡ t → table_from_rows key value (enumerate_from b (x ∷ xs)) (key q) ≡ cond t (Some (value x)) (table_from_rows key value (enumerate_from (b + 1) xs) (key q))
+  head_at b x xs t q e = ap (λ (s : Bool). cond s (Some (value x)) (table_from_rows key value (enumerate_from (b + 1) xs) (key q))) e
 
   -- what stands at a number of one of them
-  placed_at : (b q : ℕ) (xs : List X) (d : X) → b + length xs ≤ limit → b ≤ q → q < b + length xs → table_of key value (enumerate_from b xs) (key q) ≡ Some (value (get_or xs (q - b) d))
+  placed_at : (b q : ℕ) (xs : List X) (d : X) → b + length xs ≤ limit → b ≤ q → q < b + length xs → table_from_rows key value (enumerate_from b xs) (key q) ≡ Some (value (get_or xs (q - b) d))
   placed_at b q [] d few low high = absurd (omega arith)
   placed_at b q (x ∷ xs) d few low high = elim (cases_eq b q) [
     | inl e ↦ head_at b x xs true q (key_same key limit in_order b q (omega arith) (omega arith) ∙ eq-eqb b q e) ∙ ap (λ (n : ℕ). Some (value (get_or (x ∷ xs) n d))) (first (omega arith))
@@ -49,14 +40,15 @@ module _ {X : Type 0} (key : ℕ → List ℕ) (limit : ℕ) (in_order : SpellsI
       later : b < q → suc (q - (b + 1)) ≡ q - b
       later lt = omega arith
 
-  pub numbered_at : (b i : ℕ) (xs : List X) (d : X) → b + length xs ≤ limit → i < length xs → table_of key value (enumerate_from b xs) (key (b + i)) ≡ Some (value (get_or xs i d))
+  -- at each number stands the value of its row
+  pub numbered_at : (b i : ℕ) (xs : List X) (d : X) → b + length xs ≤ limit → i < length xs → table_from_rows key value (enumerate_from b xs) (key (b + i)) ≡ Some (value (get_or xs i d))
   numbered_at b i xs d few lt = placed_at b (b + i) xs d few (omega arith) (omega arith) ∙ ap (λ (n : ℕ). Some (value (get_or xs n d))) (back (omega arith))
     where
       back : b ≤ b + i → b + i - b ≡ i
       back le = omega arith
 
-  -- where something stands there is one of them
-  pub numbered_found : (b q : ℕ) (xs : List X) (v : List ℕ) → b + length xs ≤ limit → q < limit → table_of key value (enumerate_from b xs) (key q) ≡ Some v → (b ≤ q) × (q < b + length xs)
+  -- if something stands at a number, it is the number of one of them
+  pub numbered_found : (b q : ℕ) (xs : List X) (v : List ℕ) → b + length xs ≤ limit → q < limit → table_from_rows key value (enumerate_from b xs) (key q) ≡ Some v → (b ≤ q) × (q < b + length xs)
   numbered_found b q [] v few small has = absurd (some_none key value (sym has))
   numbered_found b q (x ∷ xs) v few small has = elim (cases_eq b q) [
     | inl e ↦ (omega arith, omega arith)
@@ -66,12 +58,12 @@ module _ {X : Type 0} (key : ℕ → List ℕ) (limit : ℕ) (in_order : SpellsI
   ]
 
   -- a number that has something standing at it
-  there : (b q : ℕ) (xs : List X) → b + length xs ≤ limit → b ≤ q → q < b + length xs → table_of key value (enumerate_from b xs) (key q) ≡ None → ⊥
+  there : (b q : ℕ) (xs : List X) → b + length xs ≤ limit → b ≤ q → q < b + length xs → table_from_rows key value (enumerate_from b xs) (key q) ≡ None → ⊥
   there b q [] few low high none = omega arith
   there b q (x ∷ xs) few low high none = some_none key value (sym (placed_at b q (x ∷ xs) x few low high) ∙ none)
 
   -- the next number is one more
-  pub numbered_next : (b after q : ℕ) (xs : List X) (v : List ℕ) → b + length xs ≤ limit → after < limit → q < limit → b ≤ after + 1 → IsNext (table_of key value (enumerate_from b xs)) (key after) (key q) v → (q ≡ after + 1) × (q < b + length xs)
+  pub numbered_next : (b after q : ℕ) (xs : List X) (v : List ℕ) → b + length xs ≤ limit → after < limit → q < limit → b ≤ after + 1 → IsNextKey (table_from_rows key value (enumerate_from b xs)) (key after) (key q) v → (q ≡ after + 1) × (q < b + length xs)
   numbered_next b after q xs v few la lq le next =
       let above = key_less key limit in_order after q la lq next.above in
       let found = numbered_found b q xs v few lq next.has in
@@ -82,65 +74,17 @@ module _ {X : Type 0} (key : ℕ → List ℕ) (limit : ℕ) (in_order : SpellsI
       ]
 
   -- with no number above, there are no more
-  pub numbered_last : (b after : ℕ) (xs : List X) → b + length xs ≤ limit → b ≤ after + 1 → IsLast (table_of key value (enumerate_from b xs)) (key after) → b + length xs ≤ after + 1
+  pub numbered_last : (b after : ℕ) (xs : List X) → b + length xs ≤ limit → b ≤ after + 1 → IsLastKey (table_from_rows key value (enumerate_from b xs)) (key after) → b + length xs ≤ after + 1
   numbered_last b after xs few le last = elim (cases_lt (after + 1) (b + length xs)) [
     | inl lt ↦ absurd (there b (after + 1) xs few le lt (last (key (after + 1)) (key_before key limit in_order after (after + 1) (omega arith) (omega arith) (omega arith))))
     | inr ge ↦ omega arith
   ]
 
-  -- ---- from the empty key
-
-  -- the first number is where they begin
-  pub numbered_start : (b q : ℕ) (xs : List X) (v : List ℕ) → b + length xs ≤ limit → q < limit → ((n : ℕ) → n < limit → 0 < length (key n)) → IsNext (table_of key value (enumerate_from b xs)) [] (key q) v → (q ≡ b) × (0 < length xs)
-  numbered_start b q [] v few lq some next = absurd (some_none key value (sym next.has))
-  numbered_start b q (x ∷ xs) v few lq some next = elim (cases_eq b q) [
-    | inl e ↦ (sym e, omega arith)
-    | inr ne ↦
-        let found = numbered_found b q (x ∷ xs) v few lq next.has in
-        absurd (some_none key value (sym (placed_at b b (x ∷ xs) x few (omega arith) (omega arith)) ∙ next.least (key b) (empty_before (key b) (some b (omega arith))) (key_before key limit in_order b q (omega arith) lq (omega arith))))
-  ]
-
-  -- and if there is none, there are no rows
-  pub numbered_none : (b : ℕ) (xs : List X) → b + length xs ≤ limit → ((n : ℕ) → n < limit → 0 < length (key n)) → IsLast (table_of key value (enumerate_from b xs)) [] → xs ≡ []
-  numbered_none b [] few some last = refl
-  numbered_none b (x ∷ xs) few some last = absurd (some_none key value (sym (placed_at b b (x ∷ xs) x few (omega arith) (omega arith)) ∙ last (key b) (empty_before (key b) (some b (omega arith)))))
-
   -- ---- writes
 
-  pub numbered_push : (b : ℕ) (xs : List X) (x : X) → b + length xs < limit → table_of key value (enumerate_from b (xs ++ x ∷ [])) ≡ set_key (table_of key value (enumerate_from b xs)) (key (b + length xs)) (Some (value x))
+  -- a row that is put at the next number goes to the end
+  pub numbered_push : (b : ℕ) (xs : List X) (x : X) → b + length xs < limit → table_from_rows key value (enumerate_from b (xs ++ x ∷ [])) ≡ set_key (table_from_rows key value (enumerate_from b xs)) (key (b + length xs)) (Some (value x))
   numbered_push b xs x few =
       let n = b + length xs in
-      ap (table_of key value) (numbered_parts b xs (x ∷ []))
+      ap (table_from_rows key value) (numbered_parts b xs (x ∷ []))
       ∙ table_push key value (enumerate_from b xs) (n, x) (all_before key limit in_order n (enumerate_from b xs) few (numbered_below b n xs (omega arith)))
-
-  pub numbered_rest : (b : ℕ) (x : X) (xs : List X) → b + length (x ∷ xs) ≤ limit → table_of key value (enumerate_from (b + 1) xs) ≡ set_key (table_of key value (enumerate_from b (x ∷ xs))) (key b) None
-  numbered_rest b x xs few = sym (table_pop key value (b, x) (enumerate_from (b + 1) xs) (all_after key limit in_order b (enumerate_from (b + 1) xs) (omega arith) (numbered_below (b + 1) limit xs (omega arith)) (numbered_above (b + 1) b xs (omega arith))))
-
-  pub numbered_set : (b i : ℕ) (xs : List X) (x : X) → b + length xs ≤ limit → i < length xs → table_of key value (enumerate_from b (set xs i x)) ≡ set_key (table_of key value (enumerate_from b xs)) (key (b + i)) (Some (value x))
-  numbered_set b i [] x few lt = absurd (omega arith)
-  numbered_set b zero (y ∷ ys) x few lt = λ i k. at k i
-    where
-      twice : (s : Bool) (o : Option (List ℕ)) → cond s (Some (value x)) o ≡ cond s (Some (value x)) (cond s (Some (value y)) o)
-      twice true o = refl
-      twice false o = refl
-
-      at : (k : List ℕ) → table_of key value (enumerate_from b (x ∷ ys)) k ≡ set_key (table_of key value (enumerate_from b (y ∷ ys))) (key (b + 0)) (Some (value x)) k
-      at k = twice (same_key (key b) k) (table_of key value (enumerate_from (b + 1) ys) k) ∙ ap (λ (n : ℕ). set_key (table_of key value (enumerate_from b (y ∷ ys))) (key n) (Some (value x)) k) (omega arith)
-  numbered_set b (suc j) (y ∷ ys) x few lt = λ i k. at (numbered_set (b + 1) j ys x (omega arith) (omega arith)) k i
-    where
-      moved : b + 1 + j ≡ b + suc j
-      moved = omega arith
-
-      two : (k : List ℕ) (s t : Bool) → (s ≡ true → t ≡ true → ⊥) → (o : Option (List ℕ)) → cond s (Some (value y)) (cond t (Some (value x)) o) ≡ cond t (Some (value x)) (cond s (Some (value y)) o)
-      two k true true never o = absurd (never refl refl)
-      two k true false never o = refl
-      two k false t never o = refl
-
-      clash : (k : List ℕ) → same_key (key b) k ≡ true → same_key (key (b + 1 + j)) k ≡ true → ⊥
-      clash k e f = let same : b ≡ b + 1 + j = key_one key limit in_order b (b + 1 + j) (omega arith) (omega arith) (same_is (key b) k e ∙ sym (same_is (key (b + 1 + j)) k f)) in omega arith
-
-      at : table_of key value (enumerate_from (b + 1) (set ys j x)) ≡ set_key (table_of key value (enumerate_from (b + 1) ys)) (key (b + 1 + j)) (Some (value x)) → (k : List ℕ) → table_of key value (enumerate_from b (y ∷ set ys j x)) k ≡ set_key (table_of key value (enumerate_from b (y ∷ ys))) (key (b + suc j)) (Some (value x)) k
-      at rest k =
-          ap (λ (t : Table). cond (same_key (key b) k) (Some (value y)) (t k)) rest
-          ∙ two k (same_key (key b) k) (same_key (key (b + 1 + j)) k) (clash k) (table_of key value (enumerate_from (b + 1) ys) k)
-          ∙ ap (λ (n : ℕ). set_key (table_of key value (enumerate_from b (y ∷ ys))) (key n) (Some (value x)) k) moved

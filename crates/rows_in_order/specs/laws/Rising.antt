@@ -5,14 +5,13 @@ use Rattle.std.specs.List.{AllByRecursion}
 use Rattle.std.specs.Ordering.{is_lt, is_eq}
 use Rattle.std.specs.declared.cmp.Ordering.TheVariants.{Less}
 use Rattle.std.proofs.lemmas.Cmp.{tied_itself}
-use Rattle.std.proofs.lemmas.List.{append-nil}
 use Rattle.std.proofs.lemmas.List.Elements.{filter-append}
 use Rattle.std.proofs.lemmas.Map.Lookups.{exact_bytes}
 use Rattle.repl_types.specs.Bytes.{bytes_cmp}
-use Rattle.keep_core.specs.Contents.{Table, IsNext, IsLast, same_key, set_key}
-use Rattle.rows_in_order.specs.Rows.{is_before, IsUpTo, table_of, AllBefore, AllAfter, NoneAfter, IsRising, between, HasRow, NextRow}
+use Rattle.keep_core.specs.Contents.{Table, IsNextKey, IsLastKey, same_key, set_key}
+use Rattle.rows_in_order.specs.Rows.{is_before, IsUpTo, table_from_rows, AllBefore, AllAfter, NoneAfter, IsRising, between, HasRow, NextRow}
 use Rattle.rows_in_order.specs.laws.Before.{order, is_less, is_equal, not_both, not_back, upto_itself, upto_before, upto_trans}
-use Rattle.rows_in_order.specs.laws.Filtered.{all_weaker, all_filter, filter_none, filter_all, filter_alike}
+use Rattle.repl_types.specs.laws.Lists.{all_weaker, all_filter, filter_none, filter_alike}
 
 -- ---- tests of keys
 
@@ -56,35 +55,12 @@ part_same low high mid k le more = ap (λ (t : Bool). is_before low k && not t) 
 part_from : (low mid high k : List ℕ) → bytes_cmp low k ≡ Less → bytes_cmp mid k ≡ Less → part low high k ≡ part mid high k
 part_from low mid high k lt more = ap (λ (t : Bool). t && not (is_before high k)) (ap is_lt lt ∙ sym (ap is_lt more))
 
--- both tests of a pair that passes
-pub both_true : (a b : Bool) → (a && b) ≡ true → (a ≡ true) × (b ≡ true)
-both_true true b e = (refl, e)
-both_true false b e = absurd cc
-
--- a test whose opposite passes fails
-pub not_true : (b : Bool) → not b ≡ true → b ≡ false
-not_true false e = refl
-not_true true e = absurd cc
-
 module _ {A X : Type 0} (key : A → List ℕ) where
   -- the rows at a filter's seam
   pub at_seam : (p : A × X → Bool) (front back : List (A × X)) (r : A × X) (t : Bool) → p r ≡ t → filter p (front ++ r ∷ back) ≡ filter p front ++ cond t (r ∷ filter p back) (filter p back)
   at_seam p front back r t e = filter-append p front (r ∷ back) ∙ ap (λ (u : Bool). filter p front ++ cond u (r ∷ filter p back) (filter p back)) e
 
   -- ---- between two keys
-
-  -- up to the next row there is that row more
-  pub between_next : (rows : List (A × X)) (low after : List ℕ) (r : A × X) → NextRow key rows after r → IsUpTo low after → between key low (key r.0) rows ≡ between key low after rows ++ r ∷ []
-  between_next rows low after r next le =
-      let k = key r.0 in
-      let new = λ (q : A × X). part low k (key q.0) in
-      let old = λ (q : A × X). part low after (key q.0) in
-      let past = λ (high : List ℕ) (le : IsUpTo high k). filter_none (λ (q : A × X). part low high (key q.0)) next.back (all_weaker (λ q. bytes_cmp k (key q.0) ≡ Less) (λ q. part low high (key q.0) ≡ false) next.back (λ q lt. part_past low high (key q.0) (upto_before high k (key q.0) le lt)) next.later) in
-      let alike = filter_alike new old next.front (all_weaker (λ q. IsUpTo (key q.0) after) (λ q. new q ≡ old q) next.front (λ q le. part_same low k after (key q.0) (upto_trans (key q.0) after k le (not_back after k next.above)) le) next.passed) in
-      ap (filter new) next.split
-      ∙ at_seam new next.front next.back r true (part_in low k k (upto_before low after k le next.above) (upto_itself k))
-      ∙ ap (λ (l : List (A × X)). filter new next.front ++ r ∷ l) (past k (upto_itself k))
-      ∙ ap (λ (l : List (A × X)). l ++ r ∷ []) (alike ∙ sym (ap (filter old) next.split ∙ at_seam old next.front next.back r false (part_past low after k next.above) ∙ ap (λ (l : List (A × X)). filter old next.front ++ l) (past after (not_back after k next.above)) ∙ append-nil (filter old next.front)))
 
   -- the first of the rows after a key is the next row
   pub between_first : (rows : List (A × X)) (after high : List ℕ) (r : A × X) → NextRow key rows after r → IsUpTo (key r.0) high → between key after high rows ≡ r ∷ between key (key r.0) high rows
@@ -98,15 +74,6 @@ module _ {A X : Type 0} (key : A → List ℕ) where
       ∙ at_seam old next.front next.back r true (part_in after high k next.above le)
       ∙ ap (λ (l : List (A × X)). l ++ r ∷ filter old next.back) (none after (upto_itself after))
       ∙ ap (λ (l : List (A × X)). r ∷ l) (alike ∙ sym (ap (filter new) next.split ∙ at_seam new next.front next.back r false (part_low k high k (upto_itself k)) ∙ ap (λ (l : List (A × X)). l ++ filter new next.back) (none k (not_back after k next.above))))
-
-  -- the rows after a key are after it
-  pub between_after : (rows : List (A × X)) (low high : List ℕ) → AllAfter key low (between key low high rows)
-  between_after [] low high = tt
-  between_after (r ∷ rs) low high = pick (part low high (key r.0)) refl (between_after rs low high)
-    where
-      pick : (t : Bool) → part low high (key r.0) ≡ t → AllAfter key low (between key low high rs) → AllAfter key low (cond t (r ∷ between key low high rs) (between key low high rs))
-      pick true e rest = (is_less (bytes_cmp low (key r.0)) (both_true (is_before low (key r.0)) (not (is_before high (key r.0))) e).0, rest)
-      pick false e rest = rest
 
   -- with no row after a key there is none more
   pub between_none : (rows : List (A × X)) (low after high : List ℕ) → NoneAfter key after rows → IsUpTo after high → between key low high rows ≡ between key low after rows
@@ -122,14 +89,6 @@ module _ {A X : Type 0} (key : A → List ℕ) where
       ∙ ap (λ (l : List (A × X)). l ++ []) (between_none next.front low after high next.passed le)
       ∙ sym (only after next.above)
 
-  -- all rows are between a key before them all and one after which there is none
-  pub between_all : (rows : List (A × X)) (low high : List ℕ) → AllAfter key low rows → NoneAfter key high rows → between key low high rows ≡ rows
-  between_all rows low high after none = filter_all (λ r. part low high (key r.0)) rows (both rows after none)
-    where
-      both : (rows : List (A × X)) → AllAfter key low rows → NoneAfter key high rows → AllByRecursion (λ r. part low high (key r.0) ≡ true) rows
-      both [] after none = tt
-      both (r ∷ rs) after none = (part_in low high (key r.0) after.0 none.0, both rs after.1 none.1)
-
   -- none is between a key and itself
   pub between_nothing : (rows : List (A × X)) (low : List ℕ) → between key low low rows ≡ []
   between_nothing [] low = refl
@@ -138,21 +97,6 @@ module _ {A X : Type 0} (key : A → List ℕ) where
       never : (t : Bool) → (t && not t) ≡ false
       never true = refl
       never false = refl
-
-  -- a part of a part
-  pub between_within : (rows : List (A × X)) (low high least most : List ℕ) → IsUpTo least low → IsUpTo high most → between key low high (between key least most rows) ≡ between key low high rows
-  between_within [] low high least most le more = refl
-  between_within (r ∷ rs) low high least most le more = pick (part least most (key r.0)) refl (part low high (key r.0)) refl (between_within rs low high least most le more)
-    where
-      kept : part least most (key r.0) ≡ false → part low high (key r.0) ≡ true → ⊥
-      kept out inside =
-          let low_is = both_true (is_before low (key r.0)) (not (is_before high (key r.0))) inside in
-          not_both (part least most (key r.0)) (part_in least most (key r.0) (upto_before least low (key r.0) le (is_less (bytes_cmp low (key r.0)) low_is.0)) (upto_trans (key r.0) high most (not_true (is_before high (key r.0)) low_is.1) more)) out
-
-      pick : (t : Bool) → part least most (key r.0) ≡ t → (u : Bool) → part low high (key r.0) ≡ u → between key low high (between key least most rs) ≡ between key low high rs → between key low high (cond t (r ∷ between key least most rs) (between key least most rs)) ≡ cond (part low high (key r.0)) (r ∷ between key low high rs) (between key low high rs)
-      pick true e u f ih = ap (λ (l : List (A × X)). cond (part low high (key r.0)) (r ∷ l) l) ih
-      pick false e true f ih = absurd (kept e f)
-      pick false e false f ih = ih ∙ ap (λ (t : Bool). cond t (r ∷ between key low high rs) (between key low high rs)) (sym f)
 
   -- the rows between two keys are those up to one between, and those after it
   pub between_parts : (rows : List (A × X)) (low mid high : List ℕ) → IsRising key rows → IsUpTo low mid → IsUpTo mid high → between key low high rows ≡ between key low mid rows ++ between key mid high rows
@@ -201,20 +145,11 @@ module _ {A X : Type 0} (key : A → List ℕ) where
       more [] after lt = (lt, tt)
       more (x ∷ xs) after lt = (after.0, more xs after.1 lt)
 
-  -- the rows up to a key are before one that it is before
-  pub between_before : (rows : List (A × X)) (low high k : List ℕ) → bytes_cmp high k ≡ Less → AllBefore key k (between key low high rows)
-  between_before [] low high k lt = tt
-  between_before (r ∷ rs) low high k lt = pick (part low high (key r.0)) refl (between_before rs low high k lt)
-    where
-      pick : (t : Bool) → part low high (key r.0) ≡ t → AllBefore key k (between key low high rs) → AllBefore key k (cond t (r ∷ between key low high rs) (between key low high rs))
-      pick true e rest = (upto_before (key r.0) high k (not_true (is_before high (key r.0)) (both_true (is_before low (key r.0)) (not (is_before high (key r.0))) e).1) lt, rest)
-      pick false e rest = rest
-
 module _ {A X : Type 0} (key : A → List ℕ) (value : X → List ℕ) where
   -- ---- tables
 
   -- a row after all others is one key more
-  pub table_push : (rows : List (A × X)) (r : A × X) → AllBefore key (key r.0) rows → table_of key value (rows ++ r ∷ []) ≡ set_key (table_of key value rows) (key r.0) (Some (value r.1))
+  pub table_push : (rows : List (A × X)) (r : A × X) → AllBefore key (key r.0) rows → table_from_rows key value (rows ++ r ∷ []) ≡ set_key (table_from_rows key value rows) (key r.0) (Some (value r.1))
   table_push [] r before = refl
   table_push (q ∷ qs) r before = λ i k. pick k (same_key (key q.0) k) (same_key (key r.0) k) (clash k) (ap (λ (t : Table). t k) (table_push qs r before.1)) i
     where
@@ -224,29 +159,25 @@ module _ {A X : Type 0} (key : A → List ℕ) (value : X → List ℕ) where
           let two : key r.0 ≡ k = same_is (key r.0) k b in
           not_both (same_key (key q.0) (key r.0)) (subst (λ (l : List ℕ). same_key (key q.0) l ≡ true) (one ∙ sym two) (same_itself (key q.0))) (differ (key q.0) (key r.0) before.0)
 
-      pick : (k : List ℕ) (a b : Bool) → (a ≡ true → b ≡ true → ⊥) → table_of key value (qs ++ r ∷ []) k ≡ cond b (Some (value r.1)) (table_of key value qs k) → cond a (Some (value q.1)) (table_of key value (qs ++ r ∷ []) k) ≡ cond b (Some (value r.1)) (cond a (Some (value q.1)) (table_of key value qs k))
+      pick : (k : List ℕ) (a b : Bool) → (a ≡ true → b ≡ true → ⊥) → table_from_rows key value (qs ++ r ∷ []) k ≡ cond b (Some (value r.1)) (table_from_rows key value qs k) → cond a (Some (value q.1)) (table_from_rows key value (qs ++ r ∷ []) k) ≡ cond b (Some (value r.1)) (cond a (Some (value q.1)) (table_from_rows key value qs k))
       pick k true true no_both e = absurd (no_both refl refl)
       pick k true false no_both e = refl
       pick k false b no_both e = e
 
-  -- the table of the rows up to the next row
-  pub table_next : (rows : List (A × X)) (low after : List ℕ) (r : A × X) → NextRow key rows after r → IsUpTo low after → table_of key value (between key low (key r.0) rows) ≡ set_key (table_of key value (between key low after rows)) (key r.0) (Some (value r.1))
-  table_next rows low after r next le = ap (table_of key value) (between_next key rows low after r next le) ∙ table_push (between key low after rows) r (between_before key rows low after (key r.0) next.above)
-
   -- what stands at the first row's key, and at each other
-  pub at_head : (r : A × X) (rs : List (A × X)) → table_of key value (r ∷ rs) (key r.0) ≡ Some (value r.1)
-  at_head r rs = ap (λ (t : Bool). cond t (Some (value r.1)) (table_of key value rs (key r.0))) (same_itself (key r.0))
+  pub at_head : (r : A × X) (rs : List (A × X)) → table_from_rows key value (r ∷ rs) (key r.0) ≡ Some (value r.1)
+  at_head r rs = ap (λ (t : Bool). cond t (Some (value r.1)) (table_from_rows key value rs (key r.0))) (same_itself (key r.0))
 
   -- what stands at another key stands in the rest
-  pub past_head : (r : A × X) (rs : List (A × X)) (k : List ℕ) → same_key (key r.0) k ≡ false → table_of key value (r ∷ rs) k ≡ table_of key value rs k
-  past_head r rs k e = ap (λ (t : Bool). cond t (Some (value r.1)) (table_of key value rs k)) e
+  pub past_head : (r : A × X) (rs : List (A × X)) (k : List ℕ) → same_key (key r.0) k ≡ false → table_from_rows key value (r ∷ rs) k ≡ table_from_rows key value rs k
+  past_head r rs k e = ap (λ (t : Bool). cond t (Some (value r.1)) (table_from_rows key value rs k)) e
 
   -- a value isn't none
   pub some_none : {v : List ℕ} → ◌≡◌ {A = Option (List ℕ)} (Some v) None → ⊥
   some_none e = cc
 
-  -- where no key is after this one, no row is
-  pub no_row : (rows : List (A × X)) (after : List ℕ) → IsLast (table_of key value rows) after → NoneAfter key after rows
+  -- if no key is after this one, no row is
+  pub no_row : (rows : List (A × X)) (after : List ℕ) → IsLastKey (table_from_rows key value rows) after → NoneAfter key after rows
   no_row [] after last = tt
   no_row (r ∷ rs) after last = (
     first (is_before after (key r.0)) refl,
@@ -257,90 +188,71 @@ module _ {A X : Type 0} (key : A → List ℕ) (value : X → List ℕ) where
       first false e = e
       first true e = absurd (some_none (sym (at_head r rs) ∙ last (key r.0) (is_less (bytes_cmp after (key r.0)) e)))
 
-      rest : (k : List ℕ) (t : Bool) → same_key (key r.0) k ≡ t → table_of key value (r ∷ rs) k ≡ None → table_of key value rs k ≡ None
+      rest : (k : List ℕ) (t : Bool) → same_key (key r.0) k ≡ t → table_from_rows key value (r ∷ rs) k ≡ None → table_from_rows key value rs k ≡ None
       rest k false e none = sym (past_head r rs k e) ∙ none
-      rest k true e none = absurd (some_none (sym (ap (λ (t : Bool). cond t (Some (value r.1)) (table_of key value rs k)) e) ∙ none))
+      rest k true e none = absurd (some_none (sym (ap (λ (t : Bool). cond t (Some (value r.1)) (table_from_rows key value rs k)) e) ∙ none))
 
   -- one value is one
   pub some_is : {v w : List ℕ} → ◌≡◌ {A = Option (List ℕ)} (Some v) (Some w) → v ≡ w
   some_is e = cc
 
   -- what is found among rows after a key is after it
-  pub found_after : (k l : List ℕ) (rows : List (A × X)) → AllAfter key k rows → (v : List ℕ) → table_of key value rows l ≡ Some v → bytes_cmp k l ≡ Less
+  pub found_after : (k l : List ℕ) (rows : List (A × X)) → AllAfter key k rows → (v : List ℕ) → table_from_rows key value rows l ≡ Some v → bytes_cmp k l ≡ Less
   found_after k l [] after v has = absurd (some_none (sym has))
   found_after k l (r ∷ rs) after v has = pick (same_key (key r.0) l) refl (found_after k l rs after.1 v)
     where
-      pick : (t : Bool) → same_key (key r.0) l ≡ t → (table_of key value rs l ≡ Some v → bytes_cmp k l ≡ Less) → bytes_cmp k l ≡ Less
+      pick : (t : Bool) → same_key (key r.0) l ≡ t → (table_from_rows key value rs l ≡ Some v → bytes_cmp k l ≡ Less) → bytes_cmp k l ≡ Less
       pick true same rest = subst (λ (m : List ℕ). bytes_cmp k m ≡ Less) (same_is (key r.0) l same) after.0
       pick false same rest = rest (sym (past_head r rs l same) ∙ has)
 
   -- without the first row's key the others are left
-  pub table_pop : (r : A × X) (rs : List (A × X)) → AllAfter key (key r.0) rs → set_key (table_of key value (r ∷ rs)) (key r.0) None ≡ table_of key value rs
+  pub table_pop : (r : A × X) (rs : List (A × X)) → AllAfter key (key r.0) rs → set_key (table_from_rows key value (r ∷ rs)) (key r.0) None ≡ table_from_rows key value rs
   table_pop r rs after = λ i k. pick k (same_key (key r.0) k) refl i
     where
       nothing : (o : Option (List ℕ)) → ((v : List ℕ) → o ≡ Some v → ⊥) → None ≡ o
       nothing None no_value = refl
       nothing (Some v) no_value = absurd (no_value v refl)
 
-      pick : (k : List ℕ) (t : Bool) → same_key (key r.0) k ≡ t → set_key (table_of key value (r ∷ rs)) (key r.0) None k ≡ table_of key value rs k
-      pick k true e = ap (λ (b : Bool). cond b None (table_of key value (r ∷ rs) k)) e ∙ nothing (table_of key value rs k) (λ v has. not_both (same_key (key r.0) k) e (differ (key r.0) k (found_after (key r.0) k rs after v has)))
-      pick k false e = ap (λ (b : Bool). cond b None (table_of key value (r ∷ rs) k)) e ∙ past_head r rs k e
+      pick : (k : List ℕ) (t : Bool) → same_key (key r.0) k ≡ t → set_key (table_from_rows key value (r ∷ rs)) (key r.0) None k ≡ table_from_rows key value rs k
+      pick k true e = ap (λ (b : Bool). cond b None (table_from_rows key value (r ∷ rs) k)) e ∙ nothing (table_from_rows key value rs k) (λ v has. not_both (same_key (key r.0) k) e (differ (key r.0) k (found_after (key r.0) k rs after v has)))
+      pick k false e = ap (λ (b : Bool). cond b None (table_from_rows key value (r ∷ rs) k)) e ∙ past_head r rs k e
 
-  -- the table of the rows after the next row
-  pub table_rest : (rows : List (A × X)) (after high : List ℕ) (r : A × X) → NextRow key rows after r → IsUpTo (key r.0) high → set_key (table_of key value (between key after high rows)) (key r.0) None ≡ table_of key value (between key (key r.0) high rows)
-  table_rest rows after high r next le = ap (λ (l : List (A × X)). set_key (table_of key value l) (key r.0) None) (between_first key rows after high r next le) ∙ table_pop r (between key (key r.0) high rows) (between_after key rows (key r.0) high)
-
-  -- what is found at a key is a row's
-  pub row_found : (rows : List (A × X)) (e : A × X) → AllByRecursion (λ r. key r.0 ≡ key e.0 → value r.1 ≡ value e.1 → r ≡ e) rows → table_of key value rows (key e.0) ≡ Some (value e.1) → HasRow rows e
-  row_found [] e one has = absurd (some_none (sym has))
-  row_found (r ∷ rs) e one has = pick (same_key (key r.0) (key e.0)) refl (row_found rs e one.1)
-    where
-      pick : (t : Bool) → same_key (key r.0) (key e.0) ≡ t → (table_of key value rs (key e.0) ≡ Some (value e.1) → HasRow rs e) → HasRow (r ∷ rs) e
-      pick true same rest = record {
-        front = [];
-        back = rs;
-        split = ap (λ (q : A × X). q ∷ rs) (one.0 (same_is (key r.0) (key e.0) same) (some_is (sym (ap (λ (t : Bool). cond t (Some (value r.1)) (table_of key value rs (key e.0))) same) ∙ has)));
-      }
-      pick false same rest =
-          let h = rest (sym (past_head r rs (key e.0) same) ∙ has) in
-          record { front = r ∷ h.front; back = h.back; split = ap (λ (l : List (A × X)). r ∷ l) h.split }
-
-  -- where nothing is found at a key no row has it
-  pub no_row_at : (rows : List (A × X)) (k : List ℕ) → table_of key value rows k ≡ None → AllByRecursion (λ r. key r.0 ≢ k) rows
+  -- if nothing is found at a key, no row has it
+  pub no_row_at : (rows : List (A × X)) (k : List ℕ) → table_from_rows key value rows k ≡ None → AllByRecursion (λ r. key r.0 ≢ k) rows
   no_row_at [] k none = tt
   no_row_at (r ∷ rs) k none = (
-    λ e. some_none (sym (at_head r rs) ∙ ap (table_of key value (r ∷ rs)) e ∙ none),
+    λ e. some_none (sym (at_head r rs) ∙ ap (table_from_rows key value (r ∷ rs)) e ∙ none),
     no_row_at rs k (rest (same_key (key r.0) k) refl),
   )
     where
-      rest : (t : Bool) → same_key (key r.0) k ≡ t → table_of key value rs k ≡ None
+      rest : (t : Bool) → same_key (key r.0) k ≡ t → table_from_rows key value rs k ≡ None
       rest false e = sym (past_head r rs k e) ∙ none
-      rest true e = absurd (some_none (sym (ap (λ (t : Bool). cond t (Some (value r.1)) (table_of key value rs k)) e) ∙ none))
+      rest true e = absurd (some_none (sym (ap (λ (t : Bool). cond t (Some (value r.1)) (table_from_rows key value rs k)) e) ∙ none))
 
   -- at a row's key stands its value
-  pub found_row : (rows : List (A × X)) (e : A × X) → IsRising key rows → HasRow rows e → table_of key value rows (key e.0) ≡ Some (value e.1)
-  found_row rows e rise has = ap (λ (l : List (A × X)). table_of key value l (key e.0)) has.split ∙ within has.front (subst (IsRising key) has.split rise)
+  pub found_row : (rows : List (A × X)) (e : A × X) → IsRising key rows → HasRow rows e → table_from_rows key value rows (key e.0) ≡ Some (value e.1)
+  found_row rows e rise has = ap (λ (l : List (A × X)). table_from_rows key value l (key e.0)) has.split ∙ within has.front (subst (IsRising key) has.split rise)
     where
       later : (r : A × X) (front : List (A × X)) → AllAfter key (key r.0) (front ++ e ∷ has.back) → bytes_cmp (key r.0) (key e.0) ≡ Less
       later r [] after = after.0
       later r (q ∷ qs) after = later r qs after.1
 
-      within : (front : List (A × X)) → IsRising key (front ++ e ∷ has.back) → table_of key value (front ++ e ∷ has.back) (key e.0) ≡ Some (value e.1)
+      within : (front : List (A × X)) → IsRising key (front ++ e ∷ has.back) → table_from_rows key value (front ++ e ∷ has.back) (key e.0) ≡ Some (value e.1)
       within [] rise = at_head e has.back
       within (r ∷ rs) rise = past_head r (rs ++ e ∷ has.back) (key e.0) (differ (key r.0) (key e.0) (later r rs rise.0)) ∙ within rs rise.1
 
   -- the next key is the next row's
-  pub next_row : (rows : List (A × X)) (after : List ℕ) (e : A × X) → IsRising key rows → AllByRecursion (λ r. key r.0 ≡ key e.0 → value r.1 ≡ value e.1 → r ≡ e) rows → IsNext (table_of key value rows) after (key e.0) (value e.1) → NextRow key rows after e
+  pub next_row : (rows : List (A × X)) (after : List ℕ) (e : A × X) → IsRising key rows → AllByRecursion (λ r. key r.0 ≡ key e.0 → value r.1 ≡ value e.1 → r ≡ e) rows → IsNextKey (table_from_rows key value rows) after (key e.0) (value e.1) → NextRow key rows after e
   next_row [] after e rise one next = absurd (some_none (sym next.has))
   next_row (r ∷ rs) after e rise one next = pick (is_before after (key r.0)) refl (next_row rs after e rise.1 one.1)
     where
-      pick : (t : Bool) → is_before after (key r.0) ≡ t → (IsNext (table_of key value rs) after (key e.0) (value e.1) → NextRow key rs after e) → NextRow key (r ∷ rs) after e
+      pick : (t : Bool) → is_before after (key r.0) ≡ t → (IsNextKey (table_from_rows key value rs) after (key e.0) (value e.1) → NextRow key rs after e) → NextRow key (r ∷ rs) after e
       pick true above rest = this (same_key (key r.0) (key e.0)) refl
         where
           this : (t : Bool) → same_key (key r.0) (key e.0) ≡ t → NextRow key (r ∷ rs) after e
           this true same =
               let keys : key r.0 ≡ key e.0 = same_is (key r.0) (key e.0) same in
-              let values : value r.1 ≡ value e.1 = some_is (sym (ap (λ (t : Bool). cond t (Some (value r.1)) (table_of key value rs (key e.0))) same) ∙ next.has) in
+              let values : value r.1 ≡ value e.1 = some_is (sym (ap (λ (t : Bool). cond t (Some (value r.1)) (table_from_rows key value rs (key e.0))) same) ∙ next.has) in
               record {
                 front = [];
                 back = rs;

@@ -1,27 +1,27 @@
--- Laws of runs, which follow one another: proofs, and nothing to believe.
+-- Laws of runs one after another: proofs, and nothing to believe.
 use Rattle.std.proofs.Common.{◌≡◌, ℕ, List, [], ◌∷◌, ◌++◌, refl, sym, ap, subst, ◌∙◌, append_assoc}
 use Rattle.std.specs.Prelude.{Option}
 use Rattle.std.proofs.lemmas.List.{append-nil}
 use Rattle.keep_core.specs.Contents.{Contents}
-use Rattle.keep_core.specs.Told.{Takes, TakesFront}
-use Rattle.keep_core.specs.laws.Told.{takes_nothing, takes_both}
+use Rattle.keep_core.specs.Revealed.{Takes, TakesPrefix}
+use Rattle.keep_core.specs.laws.Revealed.{takes_nothing, takes_both}
 use Rattle.run_core.specs.Runs.{Event, commits, writes, last_world, lines_of, IsPartOf, Went, Stopped, Going}
 
 -- ---- lists of events
 
--- the lines of some events, and then those of others
+-- the lines of two lists of events in turn
 pub lines_append : {W : Type 0} (xs ys : List (Event W)) → lines_of (xs ++ ys) ≡ lines_of xs ++ lines_of ys
 lines_append [] ys = refl
 lines_append (commits w ∷ xs) ys = lines_append xs ys
 lines_append (writes l ∷ xs) ys = ap (λ (x : List ℕ). l ++ x) (lines_append xs ys) ∙ sym (append_assoc l (lines_of xs) (lines_of ys))
 
--- the last world of some events, and then of others
+-- the last world of two lists of events in turn
 pub last_append : {W : Type 0} (w : W) (xs ys : List (Event W)) → last_world w (xs ++ ys) ≡ last_world (last_world w xs) ys
 last_append w [] ys = refl
 last_append w (commits v ∷ xs) ys = last_append v xs ys
 last_append w (writes l ∷ xs) ys = last_append w xs ys
 
--- a part of the line that comes next is so with more events after it
+-- a part of the next line is still one if more events follow
 part_of_more : {W : Type 0} (part : List ℕ) (rest more : List (Event W)) → IsPartOf part rest → IsPartOf part (rest ++ more)
 part_of_more part [] [] is = is
 part_of_more part [] (commits w ∷ more) is = is
@@ -29,7 +29,7 @@ part_of_more part [] (writes l ∷ more) is = (l, sym (ap (λ (p : List ℕ). p 
 part_of_more part (commits w ∷ rest) more is = is
 part_of_more part (writes l ∷ rest) more is = is
 
--- no byte is a part of whatever comes next
+-- no bytes are a part of what comes next, whatever it is
 no_part : {W : Type 0} (events : List (Event W)) → IsPartOf [] events
 no_part [] = refl
 no_part (commits w ∷ events) = refl
@@ -38,19 +38,7 @@ no_part (writes line ∷ events) = (line, refl)
 module _ {W : Type 0} (Stands : List (Option Contents) → W → Type 0) where
   -- ---- one event
 
-  -- nothing is left to do, and nothing happened
-  pub went_nowhere : (w : W) (h : List (Option Contents)) (t : Option (List ℕ)) → Stands h w → Went Stands [] w h t t
-  went_nowhere w h t at = record { stands = at; bytes = takes_nothing t }
-
-  -- a commit took place
-  pub went_commit : (w v : W) (h : List (Option Contents)) (t : Option (List ℕ)) → Stands h v → Went Stands (commits v ∷ []) w h t t
-  went_commit w v h t at = record { stands = at; bytes = takes_nothing t }
-
-  -- a line was written
-  pub went_line : (w : W) (line : List ℕ) (h : List (Option Contents)) (t u : Option (List ℕ)) → Stands h w → Takes t u line → Went Stands (writes line ∷ []) w h t u
-  went_line w line h t u at took = record { stands = at; bytes = subst (Takes t u) (sym (append-nil line)) took }
-
-  -- a run stopped before its first event
+  -- a run stopped before its first event, if nothing changed
   pub stopped_before : (w : W) (events : List (Event W)) (h : List (Option Contents)) (t : Option (List ℕ)) → Stands h w → Stopped Stands events w h t t
   stopped_before w events h t at = record {
     done = [];
@@ -62,7 +50,7 @@ module _ {W : Type 0} (Stands : List (Option Contents) → W → Type 0) where
     is_part = no_part events;
   }
 
-  -- a commit took place, and then a run stopped
+  -- a run stopped after its first commit, if the rest of it stopped
   pub stopped_after : (w v : W) (events : List (Event W)) (h : List (Option Contents)) (t u : Option (List ℕ)) → Stopped Stands events v h t u → Stopped Stands (commits v ∷ events) w h t u
   stopped_after w v events h t u stopped = record {
     done = commits v ∷ stopped.done;
@@ -74,12 +62,12 @@ module _ {W : Type 0} (Stands : List (Option Contents) → W → Type 0) where
     is_part = stopped.is_part;
   }
 
-  -- a run stopped in its first event, which was a line
-  pub stopped_in_line : (w : W) (line : List ℕ) (events : List (Event W)) (h : List (Option Contents)) (t u : Option (List ℕ)) → Stands h w → TakesFront t u line → Stopped Stands (writes line ∷ events) w h t u
+  -- a run stopped in its first line, of which a prefix was taken
+  pub stopped_in_line : (w : W) (line : List ℕ) (events : List (Event W)) (h : List (Option Contents)) (t u : Option (List ℕ)) → Stands h w → TakesPrefix t u line → Stopped Stands (writes line ∷ events) w h t u
   stopped_in_line w line events h t u at took = record {
     done = [];
     rest = writes line ∷ events;
-    part = took.front;
+    part = took.prefix;
     split = refl;
     stands = at;
     bytes = took.taken;
@@ -88,12 +76,8 @@ module _ {W : Type 0} (Stands : List (Option Contents) → W → Type 0) where
 
   -- ---- one run after another
 
-  -- the start of a run
-  pub going_start : (w : W) (left : W → List (Event W)) (h : List (Option Contents)) (t : Option (List ℕ)) → Stands h w → Going Stands (left w) w left h t t
-  going_start w left h t at = record { done = []; split = refl; stands = at; bytes = takes_nothing t }
-
   module _ (events : List (Event W)) (w : W) (h h2 : List (Option Contents)) (before now now2 : Option (List ℕ)) (one : W → List (Event W)) (left : W → List (Event W)) (going : Going Stands events w (λ v. one v ++ left (last_world v (one v))) h before now) where
-    -- the next part of a run goes on past its events
+    -- if the next part of a run happened, fewer events are left
     pub goes_on : Went Stands (one (last_world w going.done)) (last_world w going.done) h2 now now2 → Going Stands events w left h2 before now2
     goes_on went =
         let v = last_world w going.done in record {
@@ -103,7 +87,7 @@ module _ {W : Type 0} (Stands : List (Option Contents) → W → Type 0) where
           bytes = subst (Takes before now2) (sym (lines_append going.done (one v))) (takes_both before now now2 (lines_of going.done) (lines_of (one v)) going.bytes went.bytes);
         }
 
-    -- or stops in them
+    -- if the next part of a run stopped, the run stopped
     pub stops_in : Stopped Stands (one (last_world w going.done)) (last_world w going.done) h2 now now2 → Stopped Stands events w h2 before now2
     stops_in stopped =
         let v = last_world w going.done in
@@ -117,7 +101,7 @@ module _ {W : Type 0} (Stands : List (Option Contents) → W → Type 0) where
           is_part = part_of_more stopped.part stopped.rest later stopped.is_part;
         }
 
-  -- nothing is left
+  -- if no events are left, the whole run happened
   pub going_end : (events : List (Event W)) (w : W) (h : List (Option Contents)) (before now : Option (List ℕ)) → Going Stands events w (λ v. []) h before now → Went Stands events w h before now
   going_end events w h before now going =
       let all : events ≡ going.done = going.split ∙ append-nil going.done in record {

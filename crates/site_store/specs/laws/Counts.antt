@@ -5,16 +5,12 @@ use Rattle.repl_types.specs.Area.{same_area}
 use Rattle.repl_types.specs.declared.area.Area.{Area}
 use Rattle.keep_core.specs.Kept.{Kept}
 use Rattle.site_store.specs.declared.sites.Sites.{Sites}
-use Rattle.site_store.specs.Calls.{Bounds, only, no_access, reads_of_one, writes_of_one, both, Passes, Stays}
+use Rattle.site_store.specs.Calls.{Bounds, only, reads_of_one, both, reads_and_writes, Passes, Stays}
 
 -- The one bounds allow no more than the others.
 pub record IsAtMost (x y : Bounds) : Type 0 where
   pub reads : (s : ℕ) (a : Area) → x.reads s a ≤ y.reads s a
   pub writes : (s : ℕ) (a : Area) → x.writes s a ≤ y.writes s a
-
--- nothing allows no more than anything
-pub none_at_most : (x : Bounds) → IsAtMost no_access x
-none_at_most x = record { reads = λ s a. omega arith; writes = λ s a. omega arith }
 
 -- bounds are at most themselves
 pub at_most_itself : (x : Bounds) → IsAtMost x x
@@ -28,14 +24,6 @@ only_more m n s a q b = pick (same_area a b && (s == q))
     pick true = omega arith
     pick false = omega arith
 
--- so do reads
-pub reads_more : (m n s : ℕ) (a : Area) → IsAtMost (both (reads_of_one m s a) (reads_of_one n s a)) (reads_of_one (m + n) s a)
-reads_more m n s a = record { reads = only_more m n s a; writes = λ q b. omega arith }
-
--- and writes
-pub writes_more : (m n s : ℕ) (a : Area) → IsAtMost (both (writes_of_one m s a) (writes_of_one n s a)) (writes_of_one (m + n) s a)
-writes_more m n s a = record { reads = λ q b. omega arith; writes = only_more m n s a }
-
 -- bounds by a number are wider for a larger one
 only_wider : (m n s : ℕ) (a : Area) (q : ℕ) (b : Area) → m ≤ n → only m s a q b ≤ only n s a q b
 only_wider m n s a q b le = pick (same_area a b && (s == q))
@@ -44,27 +32,16 @@ only_wider m n s a q b le = pick (same_area a b && (s == q))
     pick true = le
     pick false = omega arith
 
--- so for reads
-pub reads_wider : (m n s : ℕ) (a : Area) → m ≤ n → IsAtMost (reads_of_one m s a) (reads_of_one n s a)
-reads_wider m n s a le = record { reads = λ q b. only_wider m n s a q b le; writes = λ q b. omega arith }
-
--- and for writes
-pub writes_wider : (m n s : ℕ) (a : Area) → m ≤ n → IsAtMost (writes_of_one m s a) (writes_of_one n s a)
-writes_wider m n s a le = record { reads = λ q b. omega arith; writes = λ q b. only_wider m n s a q b le }
-
--- bounds add up in any order
-pub both_at_most : (x y u v : Bounds) → IsAtMost x u → IsAtMost y v → IsAtMost (both x y) (both u v)
-both_at_most x y u v first second = record {
-  reads = λ s a. omega (arith, first.reads s a, second.reads s a);
-  writes = λ s a. omega (arith, first.writes s a, second.writes s a);
+-- reads of one area and writes of one area add up
+pub reads_and_writes_then : (i j m n x y s : ℕ) (a : Area) (t : ℕ) (b : Area) → i + m ≤ x → j + n ≤ y → IsAtMost (both (reads_and_writes i s a j t b) (reads_and_writes m s a n t b)) (reads_and_writes x s a y t b)
+reads_and_writes_then i j m n x y s a t b few fewer = record {
+  reads = λ q c. omega (arith, only_more i m s a q c, only_wider (i + m) x s a q c few);
+  writes = λ q c. omega (arith, only_more j n t b q c, only_wider (j + n) y t b q c fewer);
 }
 
--- what allows no more than what allows no more
-pub at_most_then : (x y z : Bounds) → IsAtMost x y → IsAtMost y z → IsAtMost x z
-at_most_then x y z first second = record {
-  reads = λ s a. omega (arith, first.reads s a, second.reads s a);
-  writes = λ s a. omega (arith, first.writes s a, second.writes s a);
-}
+-- one read is within reads of that area and any writes
+pub read_within : (n s : ℕ) (a : Area) (t : ℕ) (b : Area) → IsAtMost (reads_of_one 1 s a) (reads_and_writes 1 s a n t b)
+read_within n s a t b = record { reads = λ q c. omega arith; writes = λ q c. omega arith }
 
 module _ {K : Type 0} (kept : K → Kept) where
   -- wider bounds hold too
@@ -73,6 +50,7 @@ module _ {K : Type 0} (kept : K → Kept) where
     names = p.names;
     faults = p.faults;
     reads = p.reads;
+    writes = p.writes;
     within = record {
       reads = λ s a. omega (arith, p.within.reads s a, most.reads s a);
       writes = λ s a. omega (arith, p.within.writes s a, most.writes s a);
@@ -85,6 +63,7 @@ module _ {K : Type 0} (kept : K → Kept) where
     names = q.names ∙ p.names;
     faults = λ s. omega (arith, p.faults s, q.faults s);
     reads = λ a s lt. let more = q.reads a s lt in let less = p.reads a s (omega (arith, more, lt)) in omega (arith, more, less);
+    writes = λ a s lt. let more = q.writes a s lt in let less = p.writes a s (omega (arith, more, lt)) in omega (arith, more, less);
     within = record {
       reads = λ s a. omega (arith, p.within.reads s a, q.within.reads s a, most.reads s a);
       writes = λ s a. omega (arith, p.within.writes s a, q.within.writes s a, most.writes s a);
@@ -97,6 +76,7 @@ module _ {K : Type 0} (kept : K → Kept) where
     names = refl;
     faults = λ s. omega arith;
     reads = λ a s lt. omega arith;
+    writes = λ a s lt. omega arith;
     within = record { reads = λ s a. omega arith; writes = λ s a. omega arith };
   }
 

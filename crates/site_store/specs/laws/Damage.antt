@@ -11,9 +11,9 @@ use Rattle.repl_types.specs.declared.status.DamageCause.{DamageCause}
 use Rattle.repl_types.specs.declared.status.DamageCause.TheVariants as causes
 use Rattle.faults.specs.declared.fault.Fault.{Fault}
 use Rattle.faults.specs.declared.fault.Fault.TheVariants as faults
-use Rattle.keep_core.specs.Contents.{Contents, same_key, put_at, IsNext}
+use Rattle.keep_core.specs.Contents.{Contents, same_key, put_at, IsNextKey}
 use Rattle.keep_core.specs.Kept.{Kept, seen_of}
-use Rattle.rows_in_order.specs.Rows.{table_of}
+use Rattle.rows_in_order.specs.Rows.{table_from_rows}
 use Rattle.rows_in_order.specs.laws.Found.{row_of}
 use Rattle.rows_in_order.specs.laws.Rising.{same_is}
 use Rattle.site_store.specs.declared.sites.Sites.{Sites}
@@ -21,7 +21,7 @@ use Rattle.site_store.specs.Records.{Misread, Misspelt, MisspeltNext}
 use Rattle.site_store.specs.Views.{held, work, sees, IsOpenAt, IsClosedAt}
 use Rattle.site_store.specs.Works.{Works}
 use Rattle.site_store.specs.Calls.{Bounds, no_access, both, Passes, Stays, Begins, AtServer, Blames, Fails}
-use Rattle.site_store.specs.Damage.{Rules, Shows, ShowsMisspelt, Damages, IsUndamaged, IsNoDamage, IsSpelt, AddsOnlySpelt, ShownBefore}
+use Rattle.site_store.specs.Damage.{Rules, Shows, ShowsMisspelt, Damages, IsUndamaged, IsNoDamage, IsSpelt, AddsOnlySpelt, ShownBefore, AsksForNothing}
 use Rattle.site_store.specs.laws.Counts.{IsAtMost, passes_within, passes_then}
 use Rattle.site_store.specs.laws.Transactions.{begun_sees}
 
@@ -37,7 +37,7 @@ shown_unseen rules a (causes.NoRest steps) saw h = h
 
 -- ---- from the bytes of one kind of record
 
--- bytes that are no record's of a kind show damage where only records of the kind are values
+-- bytes that are no record's of a kind show damage if only records of the kind are values
 pub misspelt_shows : {X : Type 0} (fits : X → Type 0) (spelling : X → List ℕ) (rules : Rules) (a b : Area) (t : ℕ) (key : List ℕ) (saw : Option Contents) (cause : DamageCause) → ((bytes : List ℕ) → rules.is_value a t bytes → (x : X) × fits x × (bytes ≡ spelling x)) → Misread a (Misspelt fits spelling a t key saw) b cause → Shows rules b cause saw
 misspelt_shows fits spelling rules a b t key saw (causes.Spelling bytes) only h =
     let wrong : rules.is_value a t bytes → ⊥ = λ is. let x = only bytes is in h.1.0 x.0 x.1 x.2 in
@@ -58,11 +58,11 @@ misspelt_next_shows key_fits key_spelling fits spelling rules a b t after saw (c
       | inr v ↦ (t, inr ((λ is. let x = only bytes is in v.0 x.0 x.1 x.2), at_value saw v.1))
     ])
   where
-    at_key : (saw : Option Contents) → IfSome saw (λ c. (value : List ℕ) × IsNext (c a t) after bytes value) → IfSome saw (λ c. (value : List ℕ) × (c a t bytes ≡ Some value))
+    at_key : (saw : Option Contents) → IfSome saw (λ c. (value : List ℕ) × IsNextKey (c a t) after bytes value) → IfSome saw (λ c. (value : List ℕ) × (c a t bytes ≡ Some value))
     at_key None h = tt
     at_key (Some c) h = (h.0, h.1.has)
 
-    at_value : (saw : Option Contents) → IfSome saw (λ c. (key : List ℕ) × IsNext (c a t) after key bytes) → IfSome saw (λ c. (key : List ℕ) × (c a t key ≡ Some bytes))
+    at_value : (saw : Option Contents) → IfSome saw (λ c. (key : List ℕ) × IsNextKey (c a t) after key bytes) → IfSome saw (λ c. (key : List ℕ) × (c a t key ≡ Some bytes))
     at_value None h = tt
     at_value (Some c) h = (h.0, h.1.has)
 misspelt_next_shows key_fits key_spelling fits spelling rules a b t after saw (causes.Absent bytes) only_key only h = absurd h
@@ -81,7 +81,7 @@ one_of_all P [] x back all = all.0
 one_of_all P (y ∷ ys) x back all = one_of_all P ys x back all.1
 
 -- an entry of a table that is made of rows is a key and a value, if each row is spelt as such
-pub rows_spelt : {A X : Type 0} (rules : Rules) (a : Area) (t : ℕ) (key : A → List ℕ) (value : X → List ℕ) (rows : List (A × X)) (k v : List ℕ) → AllByRecursion (λ r. rules.is_key a t (key r.0) × rules.is_value a t (value r.1)) rows → table_of key value rows k ≡ Some v → rules.is_key a t k × rules.is_value a t v
+pub rows_spelt : {A X : Type 0} (rules : Rules) (a : Area) (t : ℕ) (key : A → List ℕ) (value : X → List ℕ) (rows : List (A × X)) (k v : List ℕ) → AllByRecursion (λ r. rules.is_key a t (key r.0) × rules.is_value a t (value r.1)) rows → table_from_rows key value rows k ≡ Some v → rules.is_key a t k × rules.is_value a t v
 rows_spelt {A} {X} rules a t key value rows k v all has =
     let r = row_of key value rows k v has in
     let P = λ (q : A × X). rules.is_key a t (key q.0) × rules.is_value a t (value q.1) in
@@ -89,14 +89,21 @@ rows_spelt {A} {X} rules a t key value rows k v all has =
     (subst (rules.is_key a t) r.2 spelt.0, subst (rules.is_value a t) r.3 spelt.1)
 
 -- contents of which each entry is spelt show no bytes that aren't
-pub spelt_shows_none : (rules : Rules) (c : Contents) (a : Area) (bytes : List ℕ) → IsSpelt rules c → Shows rules a (causes.Spelling bytes) (Some c) → ⊥
+spelt_shows_none : (rules : Rules) (c : Contents) (a : Area) (bytes : List ℕ) → IsSpelt rules c → Shows rules a (causes.Spelling bytes) (Some c) → ⊥
 spelt_shows_none rules c a bytes spelt h = elim h.1 [
   | inl k ↦ k.0 (spelt a h.0 bytes k.1.0 k.1.1).0
   | inr v ↦ v.0 (spelt a h.0 v.1.0 bytes v.1.1).1
 ]
 
+-- contents of which each entry is spelt show no damage, if the rules ask for nothing
+pub spelt_undamaged : (rules : Rules) → AsksForNothing rules → (c : Contents) → IsSpelt rules c → IsUndamaged rules c
+spelt_undamaged rules asks c spelt a (causes.Spelling bytes) h = spelt_shows_none rules c a bytes spelt h
+spelt_undamaged rules asks c spelt a (causes.Absent key) h = asks.0 a h.0 key c h.1.1
+spelt_undamaged rules asks c spelt a (causes.Unfit bytes) h = asks.1 a h.0 h.1.0 bytes c h.1.2
+spelt_undamaged rules asks c spelt a (causes.NoRest steps) h = h
+
 -- misspelt bytes that are seen after only spelt entries were added stood there before
-pub misspelt_before : (rules : Rules) (c d : Contents) (a : Area) (bytes : List ℕ) → AddsOnlySpelt rules c d → ShowsMisspelt rules a bytes (Some d) → ShowsMisspelt rules a bytes (Some c)
+misspelt_before : (rules : Rules) (c d : Contents) (a : Area) (bytes : List ℕ) → AddsOnlySpelt rules c d → ShowsMisspelt rules a bytes (Some d) → ShowsMisspelt rules a bytes (Some c)
 misspelt_before rules c d a bytes adds h = elim h.1 [
   | inl k ↦ (
     h.0,
@@ -119,6 +126,13 @@ misspelt_before rules c d a bytes adds h = elim h.1 [
     ),
   )
 ]
+
+-- damage that is shown after only spelt entries were added was shown before, if the rules ask for nothing
+pub shown_before : (rules : Rules) → AsksForNothing rules → (c d : Contents) → AddsOnlySpelt rules c d → ShownBefore rules c d
+shown_before rules asks c d adds a (causes.Spelling bytes) h = misspelt_before rules c d a bytes adds h
+shown_before rules asks c d adds a (causes.Absent key) h = absurd (asks.0 a h.0 key d h.1.1)
+shown_before rules asks c d adds a (causes.Unfit bytes) h = absurd (asks.1 a h.0 h.1.0 bytes d h.1.2)
+shown_before rules asks c d adds a (causes.NoRest steps) h = absurd h
 
 -- nothing was added
 pub adds_nothing : (rules : Rules) (c : Contents) → AddsOnlySpelt rules c c
@@ -185,10 +199,6 @@ adds_then rules c d e first second a t key value h = elim (second a t key value 
   | inl new ↦ inl new
   | inr old ↦ first a t key value old
 ]
-
--- damage that was shown before one change, and before another before it, was shown before both
-pub shown_then : (rules : Rules) (c d e : Contents) → ShownBefore rules c d → ShownBefore rules d e → ShownBefore rules c e
-shown_then rules c d e first second a cause h = first a cause (second a cause h)
 
 -- ---- a fault by itself
 

@@ -72,7 +72,7 @@ works_then w0 w1 w2 s P Q R lt a b step = record {
       (e.0, e.1, step c d.0 e.0 here d.2 e.2);
 }
 
--- what the transaction sees is known where something is read in it
+-- what the transaction sees is known if something is read in it
 pub works_seen : (w0 w1 w2 : List (Option (Option Contents))) (s : ℕ) (P R : Contents → Contents → Type 0) → s < length w0 → Works w0 w1 s P → w2 ≡ w1 → ((c d : Contents) → get_or w1 s None ≡ Some (Some d) → P c d → R c d) → Works w0 w2 s R
 works_seen w0 w1 w2 s P R lt a same step = record {
   now = a.now;
@@ -98,14 +98,6 @@ begun_sees kept s0 s1 w lt closed begin s = elim (cases_eq s w) [
   | inl is ↦ subst (λ (k : ℕ). sees kept s1 k ≡ sees kept s0 k) (sym is) (ap (λ (p : Option Contents × Option (Option Contents)). seen_of p.0 p.1) (λ i. (ap (λ (l : List (Option Contents)). get_or l w None) begin.held i, (ap (λ (l : List (Option (Option Contents))). get_or l w None) begin.work ∙ get_or-set_same (work kept s0) w (Some (get_or (held kept s0) w None)) None lt) i)) ∙ ap (λ (o : Option (Option Contents)). seen_of (get_or (held kept s0) w None) o) (sym closed))
   | inr ne ↦ ap (λ (p : Option Contents × Option (Option Contents)). seen_of p.0 p.1) (λ i. (ap (λ (l : List (Option Contents)). get_or l s None) begin.held i, (ap (λ (l : List (Option (Option Contents))). get_or l s None) begin.work ∙ get_or-set_other (work kept s0) w s (Some (get_or (held kept s0) w None)) None ne) i))
 ]
-
--- a begun transaction is open
-pub begun_open : {K : Type 0} (kept : K → Kept) (s0 s1 : Sites K) (w : ℕ) → w < length (work kept s0) → Begins kept s0 s1 w → IsOpenAt (work kept s1) w
-begun_open kept s0 s1 w lt begin = subst IsSome (sym (ap (λ (l : List (Option (Option Contents))). get_or l w None) begin.work ∙ get_or-set_same (work kept s0) w (Some (get_or (held kept s0) w None)) None lt)) refl
-
--- work leaves its transaction open
-pub works_open : (w0 w1 : List (Option (Option Contents))) (s : ℕ) (P : Contents → Contents → Type 0) → s < length w0 → Works w0 w1 s P → IsOpenAt w1 s
-works_open w0 w1 s P lt works = subst IsSome (sym (now_at w0 w1 s P works lt)) refl
 
 -- a transaction of one server: it is begun at s0, works from s1 to s2, and then is committed
 module _ {K : Type 0} (kept : K → Kept) (s0 s1 s2 : Sites K) (s : ℕ) (P : Contents → Contents → Type 0) (begin : Begins kept s0 s1 s) (works : Works (work kept s1) (work kept s2) s P) where

@@ -14,9 +14,11 @@ use std::alloc::Global;
 /// Calls at one server. After a fault no transaction is open at any server, and each server holds
 /// what it held; but after a fault of a keeper at a commit the commit may have taken place.
 impl<K: Keeper> Sites<K> {
-    ghost use Rattle.site_store.specs.Records.{RowIs, IsRow, after_key, NextRowIs, Follows, NoDamage, Misread, Misspelt, MisspeltNext};
+    ghost use Rattle.site_store.specs.Records.{RowIs, IsRecord, after_key, NextRowIs, Follows};
+    ghost use Rattle.site_store.specs.Records.{NoDamage, Misread, Misspelt, MisspeltNext};
     ghost use Rattle.site_store.specs.Views.{names, work, sees, IsOpenAt, IsClosedAt};
-    ghost use Rattle.site_store.specs.Calls.{no_access, reads_of_one, writes_of_one, AtServer, Reads, Begins, Puts, Commits, Fails, InDoubt};
+    ghost use Rattle.site_store.specs.Calls.{no_access, reads_of_one, writes_of_one, AtServer};
+    ghost use Rattle.site_store.specs.Calls.{Reads, Begins, Puts, Commits, Fails, InDoubt};
 
     /// Opens a transaction at the server, which sees what is held there.
     pub fn begin(&mut self, server: u32) -> Result<(), Fault>
@@ -66,7 +68,7 @@ impl<K: Keeper> Sites<K> {
         ensures ok { OnOk result (Reads K.kept self.old self.new server R.AREA) }
         ensures row { IfOk result (λ row. IfSome (sees K.kept self.old server)
             (RowIs R.spelling R.AREA (R.Table.number table) (R.Key.spelling key.now) row)) }
-        ensures fits { IfOk result (λ row. IfSome row (IsRow R.fits R.spelling)) }
+        ensures fits { IfOk result (λ row. IfSome row (IsRecord R.fits R.spelling)) }
         ensures fault { let damaged = Misspelt R.fits R.spelling R.AREA (R.Table.number table)
             (R.Key.spelling key.now) (sees K.kept self.old server) in
             IfErr result (Fails K.kept self.old self.new (reads_of_one 1 server R.AREA)

@@ -29,9 +29,11 @@ fn spell_row<R: Stored>(alloc: Global, row: &R) -> Result<List<u8>, AllocError>
 impl<K: Keeper> Sites<K> {
     ghost use Rattle.repl_types.specs.declared.status.DamageCause.TheVariants.{Absent, Unfit};
     ghost use Rattle.faults.specs.declared.fault.Fault.TheVariants.{Damaged};
-    ghost use Rattle.site_store.specs.Records.{RowIs, IsRow, StateIs, Misread, Misspelt, MissesOrMisreads, IsMissing};
+    ghost use Rattle.site_store.specs.Records.{RowIs, IsRecord, StateIs, Misread, Misspelt};
+    ghost use Rattle.site_store.specs.Records.{MissesOrMisreads, IsMissing};
     ghost use Rattle.site_store.specs.Views.{names, sees};
-    ghost use Rattle.site_store.specs.Calls.{no_access, reads_of_one, AtServer, Reads, ClosesAll, Fails, IsMemoryOr};
+    ghost use Rattle.site_store.specs.Calls.{no_access, reads_of_one, AtServer, Reads, ClosesAll};
+    ghost use Rattle.site_store.specs.Calls.{Fails, IsMemoryOr};
 
     /// The record at the key, or this first state if there is none.
     pub fn get_state<R: Stored>(
@@ -71,7 +73,7 @@ impl<K: Keeper> Sites<K> {
         ensures ok { OnOk result (Reads K.kept self.old self.new server R.AREA) }
         ensures row { IfOk result (λ row. IfSome (sees K.kept self.old server)
             (RowIs R.spelling R.AREA (R.Table.number table) (R.Key.spelling key.now) (Some row))) }
-        ensures fits { IfOk result (λ row. IsRow R.fits R.spelling row) }
+        ensures fits { IfOk result (λ row. IsRecord R.fits R.spelling row) }
         ensures fault { let damaged = Misspelt R.fits R.spelling R.AREA (R.Table.number table)
             (R.Key.spelling key.now) (sees K.kept self.old server) in
             let missing = IsMissing R.AREA (R.Table.number table) (R.Key.spelling key.now)

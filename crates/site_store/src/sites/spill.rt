@@ -15,7 +15,8 @@ use keep_core::Keeper;
 impl<K: Keeper> Sites<K> {
     ghost use Rattle.site_store.specs.Records.{NoDamage};
     ghost use Rattle.site_store.specs.Views.{names, work, sees, IsOpenAt};
-    ghost use Rattle.site_store.specs.Calls.{reads_of_one, writes_of_one, AtServer, Reads, Puts, Fails};
+    ghost use Rattle.site_store.specs.Calls.{reads_of_one, writes_of_one, AtServer, Reads, Puts};
+    ghost use Rattle.site_store.specs.Calls.{Fails};
 
     /// The server's open transaction sees these bytes at the key.
     pub fn put_spill(&mut self, server: u32, key: &[u8], value: &[u8]) -> Result<(), Fault>
@@ -38,7 +39,7 @@ impl<K: Keeper> Sites<K> {
         }
     }
 
-    /// Whether there is a key above `after`, and the first of these in `key`, with its bytes in
+    /// Whether there is a key above `after`, and the first one in `key`, with its bytes in
     /// `out`.
     pub fn next_spill(
         &mut self,

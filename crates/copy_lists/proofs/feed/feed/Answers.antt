@@ -8,7 +8,7 @@ take_line-requires-clause-short g c = rw c.deref.ensures.value (c.next_line.ensu
 
 pub returns-in-End-clause-end : goal.returns-in-End-clause-end
 returns-in-End-clause-end g c =
-    end_left (g.I.Source.left c.args.source.now) (left_of c.loop-line.input (g.I.Source.left c.loop-line.source)) (g.I.Source.left c.next_line.new.source) c.loop-line.fed c.loop-line.number c.next_line.new.line.items c.next_line.new.self c.loop-line.invariant.comes
+    end_left (g.I.Source.left c.args.source.now) (left_of c.loop-line.input (g.I.Source.left c.loop-line.source)) (g.I.Source.left c.next_line.new.source) c.loop-line.fed c.loop-line.number c.next_line.new.line.items c.next_line.new.self c.loop-line.invariant.leads
     (rw c.in-End.is at c.in_ok-next_line.ensures.line)
 
 pub returns-in-End-clause-fits : goal.returns-in-End-clause-fits

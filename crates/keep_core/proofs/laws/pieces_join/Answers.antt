@@ -1,4 +1,4 @@
-use Rattle.keep_core.specs.laws.Told.{takes_nothing, takes_both}
+use Rattle.keep_core.specs.laws.Revealed.{takes_nothing, takes_both}
 use Rattle.keep_core.proofs.laws.pieces_join.Goals as goal
 
 pub returns-clause-nothing : goal.returns-clause-nothing

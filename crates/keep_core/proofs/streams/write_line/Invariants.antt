@@ -1,5 +1,5 @@
 use Rattle.std.proofs.Common.{◌≤◌, ◌-◌, length, take}
-use Rattle.keep_core.specs.Told.{Takes}
+use Rattle.keep_core.specs.Revealed.{Takes}
 use Rattle.keep_core.proofs.streams.write_line.Given as goal
 
 abbrev pub invariant-loop-at : goal.invariant-loop-at

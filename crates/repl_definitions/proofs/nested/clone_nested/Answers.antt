@@ -6,8 +6,8 @@ use Rattle.repl_definitions.proofs.nested.clone_nested.Goals as goal
 pub loop-next-preserved-in_ok-push-4 : goal.loop-next-preserved-in_ok-push-4
 loop-next-preserved-in_ok-push-4 g c =
     let N = g.T.Nested in
-    let below = MatchOption-at_some _ _ _ c.in-Some-joined.is c.joined.ensures in
-    copies-joined N.nodes (λ (tree : Bor g.row.T.Denot). N.nodes tree.now) (N.nodes c.args.tree.now) c.loop-next.pending.items c.push-in-Some-joined-3.new.self.items (record { joint = c.in-Some-joined.joint; left = _ }) c.loop-next.waiting.items c.pop.new.self.items c.push-in-Some-joined.new.self.items c.push-in-Some-joined-2.new.self.items c.in-Some.next c.in-Some-joined.left c.in-Some-joined.right c.loop-next.invariant.0 c.loop-next.invariant.1 c.in-Some.ensures.items below c.in_ok-push-2.ensures.items c.in_ok-push-3.ensures.items c.in_ok-push-4.ensures.items refl
+    let below = MatchOption-at_some _ _ _ c.in-Some-branches.is c.branches.ensures in
+    copies-joined N.nodes (λ (tree : Bor g.row.T.Denot). N.nodes tree.now) (N.nodes c.args.tree.now) c.loop-next.pending.items c.push-in-Some-branches-3.new.self.items (record { joint = c.in-Some-branches.joint; left = _ }) c.loop-next.waiting.items c.pop.new.self.items c.push-in-Some-branches.new.self.items c.push-in-Some-branches-2.new.self.items c.in-Some.next c.in-Some-branches.left c.in-Some-branches.right c.loop-next.invariant.0 c.loop-next.invariant.1 c.in-Some.ensures.items below c.in_ok-push-2.ensures.items c.in_ok-push-3.ensures.items c.in_ok-push-4.ensures.items refl
 
 pub loop-next-preserved : goal.loop-next-preserved
 loop-next-preserved g c =
@@ -18,8 +18,8 @@ loop-next-preserved g c =
 pub loop-next-smaller-in_ok-push-4 : goal.loop-next-smaller-in_ok-push-4
 loop-next-smaller-in_ok-push-4 g c =
     let N = g.T.Nested in
-    let below = MatchOption-at_some _ _ _ c.in-Some-joined.is c.joined.ensures in
-    let step = stacked-below (λ (tree : Bor g.row.T.Denot). N.nodes tree.now) c.loop-next.waiting.items c.pop.new.self.items c.push-in-Some-joined.new.self.items c.push-in-Some-joined-2.new.self.items c.in-Some.next c.in-Some-joined.left c.in-Some-joined.right _ c.in-Some.ensures.items below c.in_ok-push-2.ensures.items c.in_ok-push-3.ensures.items in
+    let below = MatchOption-at_some _ _ _ c.in-Some-branches.is c.branches.ensures in
+    let step = stacked-below (λ (tree : Bor g.row.T.Denot). N.nodes tree.now) c.loop-next.waiting.items c.pop.new.self.items c.push-in-Some-branches.new.self.items c.push-in-Some-branches-2.new.self.items c.in-Some.next c.in-Some-branches.left c.in-Some-branches.right _ c.in-Some.ensures.items below c.in_ok-push-2.ensures.items c.in_ok-push-3.ensures.items in
     omega (arith, ap length step)
 
 pub loop-next-smaller : goal.loop-next-smaller

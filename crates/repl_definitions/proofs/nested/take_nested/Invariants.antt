@@ -4,8 +4,8 @@ use Rattle.repl_definitions.specs.Forests.{IsForest, nodes_spelling, NodesFit}
 use Rattle.repl_definitions.specs.PendingTrees.{pending_nodes, owed}
 use Rattle.repl_definitions.proofs.nested.take_nested.Given as goal
 
--- where the bytes begin with a tree, those that are left begin with the tree that is read and those
--- that are owed
+-- the bytes are the nodes that are read and what is left; if the bytes begin with a tree, then what is
+-- left begins with the tree that is being read and those that are owed
 abbrev pub invariant-loop-pending : goal.invariant-loop-pending
 invariant-loop-pending g l =
     (l.bytes ≡ nodes_spelling g.T.Nested.node_spelling (pending_nodes g.T.Nested.nodes l.pending.items) ++ l.left)

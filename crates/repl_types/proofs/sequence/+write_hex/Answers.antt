@@ -12,5 +12,5 @@ pub returns : goal.returns
 returns t c =
     let last = hex_digit (c.args.number % 16) ∷ [] in
     let apart = last_apart c.args.count c.args.number (omega (arith, c.if-count-eq0.false)) in
-    let front = hex_digits (c.args.count - 1) (c.args.number / 16) in
-    record { ok = c.in_ok-push.ensures.items ∙ ap (λ (text : List ℕ). text ++ last) c.in_ok-write_hex.ensures.ok ∙ append_assoc c.args.out.now.items front last ∙ ap (λ (text : List ℕ). c.args.out.now.items ++ text) (sym apart) }
+    let higher = hex_digits (c.args.count - 1) (c.args.number / 16) in
+    record { ok = c.in_ok-push.ensures.items ∙ ap (λ (text : List ℕ). text ++ last) c.in_ok-write_hex.ensures.ok ∙ append_assoc c.args.out.now.items higher last ∙ ap (λ (text : List ℕ). c.args.out.now.items ++ text) (sym apart) }

@@ -10,7 +10,7 @@ use Rattle.row_changes.proofs.changes.apply_changes.Goals as goal
 from_next : (changes : List Placed) (i : ℕ) (placed : Placed) → i < length changes → placed ≡ get_or changes i placed → drop i changes ≡ placed ∷ drop (i + 1) changes
 from_next changes i placed h e = at_drop_more (λ (ps : List Placed). ps) changes i placed h ∙ ap (λ (p : Placed). p ∷ drop (i + 1) changes) (sym e)
 
--- where the next change applies, all from it on apply just where those after it do
+-- if the next change applies, all from it on apply if and only if those after it do
 next_applies : (def : TableDef) (changes : List Placed) (i : ℕ) (placed : Placed) (rows new : Rows) → drop i changes ≡ placed ∷ drop (i + 1) changes → applies def placed.change rows ≡ true → new ≡ after_change def placed.change rows → all_apply def (unplaced (drop (i + 1) changes)) new ≡ all_apply def (unplaced (drop i changes)) rows
 next_applies def changes i placed rows new from ok made =
     ap (all_apply def (unplaced (drop (i + 1) changes))) made

@@ -7,7 +7,7 @@ use Rattle.repl_types.specs.declared.table.ColumnDef.{ColumnDef}
 use Rattle.repl_model.specs.Applicable.{fits_column, fits_columns}
 use Rattle.row_changes.proofs.changes.fits_columns.Goals as goal
 
--- as many values as columns fit where each fits its column
+-- as many values as columns fit if each fits its column
 by_pairs : (columns : List ColumnDef) (row : Values) → length columns ≡ length row → list_all (λ (p : ColumnDef × Value). fits_column p.0 p.1) (zip columns row) ≡ fits_columns columns row
 by_pairs [] [] e = refl
 by_pairs [] (v ∷ row) e = absurd (omega arith)

@@ -3,7 +3,7 @@ use Rattle.std.specs.Prelude.{Some, None}
 use Rattle.row_codec.specs.Spelling.{b64}
 use Rattle.rows_at_work.specs.Applying.{Makes}
 use Rattle.rows_at_work.proofs.AppliedRows.{makes_put, makes_removed}
-use Rattle.rows_at_work.proofs.Stepping.{works_put}
+use Rattle.site_store.specs.laws.Steps.{works_put}
 use Rattle.rows_at_work.proofs.interval.apply_change.Goals as goal
 
 pub returns-then-not-change-clause-ok : goal.returns-then-not-change-clause-ok

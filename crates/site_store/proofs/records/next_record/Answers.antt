@@ -1,11 +1,11 @@
 use Rattle.std.proofs.Common.{List, ℕ, rules, refl, inr}
 use Rattle.std.specs.Prelude.{Option, Some, None, IfSome, true}
-use Rattle.keep_core.specs.Contents.{Contents, IsNext}
+use Rattle.keep_core.specs.Contents.{Contents, IsNextKey}
 use Rattle.keep_core.specs.Kept.{NextIs}
 use Rattle.repl_types.specs.declared.area.Area.{Area}
 use Rattle.site_store.proofs.records.next_record.Goals as goal
 
-some_next : (saw : Option Contents) (a : Area) (t : ℕ) (after key out : List ℕ) → IfSome saw (NextIs a t after true key out) → IfSome saw (λ c. (k : List ℕ) × IsNext (c a t) after k out)
+some_next : (saw : Option Contents) (a : Area) (t : ℕ) (after key out : List ℕ) → IfSome saw (NextIs a t after true key out) → IfSome saw (λ c. (k : List ℕ) × IsNextKey (c a t) after k out)
 some_next None a t after key out h = tt
 some_next (Some c) a t after key out h = (key, h)
 

@@ -7,7 +7,7 @@ use Rattle.site_store.specs.Damage.{Damages}
 use Rattle.site_store.specs.laws.Transactions.{closed_again}
 use Rattle.site_store.specs.laws.Damage.{blames_by}
 use Rattle.two_areas.specs.World.{OneOf, rules, copied, StandsAfter}
-use Rattle.two_areas.proofs.Stepping.{Did, did, step_undamaged, loop_fails, stands_same, stands_copied, to_is}
+use Rattle.two_areas.proofs.Stepping.{Did, did, step_passes, step_undamaged, loop_fails, stands_same, stands_copied, to_is}
 use Rattle.two_areas.proofs.step.copy_numbers.Goals as goal
 
 pub returns-in_err-from-clause-undamaged : goal.returns-in_err-from-clause-undamaged
@@ -33,7 +33,7 @@ returns-in_err-to-clause-undamaged g c =
 pub returns-in_err-commit-clause-fault : goal.returns-in_err-commit-clause-fault
 returns-in_err-commit-clause-fault g c =
     let kept = g.K.Keeper.kept in
-    let same = c.in_ok-put.ensures.ok.held ∙ c.in_ok-to.ensures.ok.held ∙ c.in_ok-begin.ensures.ok.held ∙ c.in_ok-from.ensures.ok.stays.held in
+    let same = c.in_ok-put.ensures.ok.held ∙ c.in_ok-to.ensures.ok.works.held ∙ c.in_ok-begin.ensures.ok.held ∙ c.in_ok-from.ensures.ok.stays.held in
     let after : StandsAfter c.args.source c.args.target (held kept c.args.sites.now) (held kept c.commit.new.self) (copied c.args.most) c.in_err-commit.field-0.0 = λ w at. elim c.in_err-commit.ensures.fault.held [
       | inl before ↦ inl (stands_same c.args.source c.args.target (held kept c.args.sites.now) (held kept c.commit.new.self) w (before ∙ same) at)
       | inr took ↦ inr (took.0, stands_copied g.K.Keeper.kept c.args.sites.now c.taken_of.new.sites c.begin.new.self c.copy_from.new.sites c.put.new.self c.args.source c.args.target c.in_ok-from.from c.in_ok-to.to c.args.most c.requires.target c.requires.apart c.requires.closed c.in_ok-from.ensures.small c.in_ok-from.ensures.ok c.in_ok-from.ensures.taken c.in_ok-begin.ensures.ok c.in_ok-to.ensures.ok c.in_ok-put.ensures.ok (held kept c.commit.new.self) took.1 w at)
@@ -48,3 +48,9 @@ pub returns-clause-closed : goal.returns-clause-closed
 returns-clause-closed g c =
     let kept = g.K.Keeper.kept in
     closed_again kept c.taken_of.new.sites c.begin.new.self c.put.new.self c.args.target (Did g.K.Keeper.kept c.args.sites.now c.taken_of.new.sites c.begin.new.self c.copy_from.new.sites c.put.new.self c.args.source c.args.target c.in_ok-from.from c.in_ok-to.to c.args.most c.requires.target c.requires.apart c.requires.closed c.in_ok-from.ensures.small c.in_ok-from.ensures.ok c.in_ok-from.ensures.taken c.in_ok-begin.ensures.ok c.in_ok-to.ensures.ok c.in_ok-put.ensures.ok) c.in_ok-begin.ensures.ok (did g.K.Keeper.kept c.args.sites.now c.taken_of.new.sites c.begin.new.self c.copy_from.new.sites c.put.new.self c.args.source c.args.target c.in_ok-from.from c.in_ok-to.to c.args.most c.requires.target c.requires.apart c.requires.closed c.in_ok-from.ensures.small c.in_ok-from.ensures.ok c.in_ok-from.ensures.taken c.in_ok-begin.ensures.ok c.in_ok-to.ensures.ok c.in_ok-put.ensures.ok) (work kept c.commit.new.self) (λ s. ap (λ (l : List (Option (Option Contents))). get_or l s None) c.in_ok-from.ensures.ok.stays.work ∙ c.requires.closed s) c.in_ok-commit.ensures.ok.work
+
+pub returns-in_err-commit-clause-reads : goal.returns-in_err-commit-clause-reads
+returns-in_err-commit-clause-reads g c = step_passes g.K.Keeper.kept c.args.sites.now c.taken_of.new.sites c.begin.new.self c.copy_from.new.sites c.put.new.self c.commit.new.self c.args.source c.args.target c.args.most c.in_ok-from.ensures.ok.stays.passes c.in_ok-begin.ensures.ok.passes c.in_ok-to.ensures.ok.works.passes c.in_ok-put.ensures.ok.passes c.in_err-commit.ensures.fault.passes
+
+pub returns-clause-reads : goal.returns-clause-reads
+returns-clause-reads g c = step_passes g.K.Keeper.kept c.args.sites.now c.taken_of.new.sites c.begin.new.self c.copy_from.new.sites c.put.new.self c.commit.new.self c.args.source c.args.target c.args.most c.in_ok-from.ensures.ok.stays.passes c.in_ok-begin.ensures.ok.passes c.in_ok-to.ensures.ok.works.passes c.in_ok-put.ensures.ok.passes c.in_ok-commit.ensures.ok.passes

@@ -1,5 +1,5 @@
 use Rattle.std.proofs.Common.{◌∙◌, [], ◌∷◌, ap, subst, inl, inr}
-use Rattle.keep_core.specs.Told.{TakesFront}
+use Rattle.keep_core.specs.Revealed.{TakesPrefix}
 use Rattle.site_store.specs.Views.{held}
 use Rattle.run_core.specs.Runs.{writes}
 use Rattle.run_core.specs.laws.Runs.{stopped_before, stopped_after, stopped_in_line}
@@ -32,4 +32,4 @@ returns-clause-stopped g c = λ w at.
     let u = g.O.Sink.taken c.write_line.new.output in
     let next = c.in_ok-to.ensures.ok w at in
     let line = copied_line (copied c.args.most w).taken in
-    stopped_after S w (copied c.args.most w) (writes line ∷ []) h t u (stopped_in_line S (copied c.args.most w) line [] h t u next.0 (subst (TakesFront t u) (c.as_bytes.ensures.value ∙ c.in_ok-line.ensures ∙ ap copied_line next.1) c.in-Err.ensures.err))
+    stopped_after S w (copied c.args.most w) (writes line ∷ []) h t u (stopped_in_line S (copied c.args.most w) line [] h t u next.0 (subst (TakesPrefix t u) (c.as_bytes.ensures.value ∙ c.in_ok-line.ensures ∙ ap copied_line next.1) c.in-Err.ensures.err))

@@ -11,4 +11,4 @@ returns-clause-left g c =
       | else-self-via-then-self+in_ok-refill+else-not-branch w ↦ cc (w.in_ok-refill.ensures.left)
       | else-self-via-else-self w ↦ cc
     ] in
-    same ∙ left_of-given c.else-self.self c.give.new.self c.give.result (g.I.Source.left c.else-self.source) c.give.ensures.kept
+    same ∙ left_of-given c.else-self.self c.give.new.self c.give.result (g.I.Source.left c.else-self.source) c.give.ensures.left

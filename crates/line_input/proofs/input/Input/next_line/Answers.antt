@@ -1,15 +1,15 @@
 use Rattle.std.proofs.Common.{true, ◌+◌, ◌≤◌, ◌<◌, ◌++◌, ◌∷◌, [], length, Ok, ap, ◌∙◌, arith}
 use Rattle.line_input.specs.Input.{left_of, budget}
 use Rattle.line_input.specs.Limits.{line_limit}
-use Rattle.line_input.proofs.LineBytes.{parts-pushed, kept_over, read_more, kept-pushed, kept-passed, read_to_feed, read_to_end, some_read}
+use Rattle.line_input.proofs.LineBytes.{parts-pushed, kept_over, line_read_more, kept-pushed, kept-passed, read_to_feed, read_to_end, some_read}
 use Rattle.line_input.proofs.input.Input.next_line.Goals as goal
 
 pub returns-then-byte-eq10-clause-line : goal.returns-then-byte-eq10-clause-line
 returns-then-byte-eq10-clause-line g c =
     let read = c.loop-byte.invariant.line in
     let next = rw (c.in-Some.is, c.if-byte-eq10.true) at c.in_ok-byte.ensures.left in
-    read_to_feed c.ended.result c.ended.new.line.items (left_of c.args.self.now (g.I.Source.left c.args.source.now)) (left_of c.loop-byte.self (g.I.Source.left c.loop-byte.source)) (left_of c.next_byte.new.self (g.I.Source.left c.next_byte.new.source))
-    read.so_far read.plain read.parts next (c.ended.ensures.ends read.so_far read.kept)
+    read_to_feed c.end_line.result c.end_line.new.line.items (left_of c.args.self.now (g.I.Source.left c.args.source.now)) (left_of c.loop-byte.self (g.I.Source.left c.loop-byte.source)) (left_of c.next_byte.new.self (g.I.Source.left c.next_byte.new.source))
+    read.so_far read.plain read.parts next (c.end_line.ensures.ends read.so_far read.kept)
 
 pub loop-byte-preserved-in-Continue-branch-3 : goal.loop-byte-preserved-in-Continue-branch-3
 loop-byte-preserved-in-Continue-branch-3 g c =
@@ -18,7 +18,7 @@ loop-byte-preserved-in-Continue-branch-3 g c =
     let fewer : budget c.next_byte.new.self + 1 ≤ budget c.loop-byte.self = rw c.in-Some.is at c.in_ok-byte.ensures.budget in
     let few : length c.loop-byte.line.items ≤ line_limit = omega arith in
     record {
-      line = rw c.in_ok-push.ensures.items (read_more read byte (c.loop-byte.line.items ++ byte ∷ []) c.loop-byte.long (rw c.in-Some.is at c.in_ok-byte.ensures.left) fewer c.if-byte-eq10.false
+      line = rw c.in_ok-push.ensures.items (line_read_more read byte (c.loop-byte.line.items ++ byte ∷ []) c.loop-byte.long (rw c.in-Some.is at c.in_ok-byte.ensures.left) fewer c.if-byte-eq10.false
           (kept-pushed read.so_far c.loop-byte.line.items c.loop-byte.long byte read.kept few));
       open_still = rw c.in-Some.is at c.in_ok-byte.ensures.ends;
       total = c.in_ok-byte.ensures.total ∙ c.loop-byte.invariant.total;
@@ -32,7 +32,7 @@ loop-byte-preserved g c =
     let fewer : budget c.next_byte.new.self + 1 ≤ budget c.loop-byte.self = rw c.in-Some.is at c.in_ok-byte.ensures.budget in
     let many : line_limit < length c.loop-byte.line.items = omega arith in
     record {
-      line = read_more read byte c.loop-byte.line.items true (rw c.in-Some.is at c.in_ok-byte.ensures.left) fewer c.if-byte-eq10.false
+      line = line_read_more read byte c.loop-byte.line.items true (rw c.in-Some.is at c.in_ok-byte.ensures.left) fewer c.if-byte-eq10.false
           (kept-passed read.so_far c.loop-byte.line.items c.loop-byte.long byte read.kept many);
       open_still = rw c.in-Some.is at c.in_ok-byte.ensures.ends;
       total = c.in_ok-byte.ensures.total ∙ c.loop-byte.invariant.total;
@@ -64,7 +64,7 @@ returns-then-byte-eq10-clause-meets_end g c = λ _.
       bytes = read.so_far;
       parts = parts-pushed (left_of c.args.self.now (g.I.Source.left c.args.source.now)) (left_of c.loop-byte.self (g.I.Source.left c.loop-byte.source)) (left_of c.next_byte.new.self (g.I.Source.left c.next_byte.new.source)) read.so_far 10 read.parts next;
       spent = omega (arith, read.spent);
-      holds = omega (arith, c.ended.ensures.shorter, kept_over read.so_far c.loop-byte.line.items c.loop-byte.long read.kept);
+      holds = omega (arith, c.end_line.ensures.shorter, kept_over read.so_far c.loop-byte.line.items c.loop-byte.long read.kept);
     }
 
 pub returns-then-byte-eq10-clause-cause : goal.returns-then-byte-eq10-clause-cause
