@@ -113,7 +113,7 @@ pub fn capture_by_pieces()
 
 /// A copy that is kept only by the change rows of a registration, whole rows as they come, is the
 /// source: from no rows up to the last commit, and from a copy at one point up to a later one. The
-/// log's changes leave the keys, as they do if the key is fixed and each record was applicable.
+/// log's changes must leave the keys; if the key is fixed, one more applicable record keeps it so.
 pub fn copy_by_change_rows()
     ensures whole { (def : TableDef) (reg : Registration) (log : List LogRecord)
         → KeepsWholeRows def reg → LeavesKeys def log

@@ -44,10 +44,11 @@ fn asks_copy(words: &[String]) -> bool
 /// of that log, a line with the count of rows, and then a line that reports the refused line, if
 /// there is one.
 ///
-/// At `Ok` and `Refused` the whole of this text was written. At `Usage` nothing was read or
-/// written. At any other status the run ended at once, and a prefix of the text was written.
-/// `Memory` may be answered whenever the machine runs out of memory. If the input doesn't reveal
-/// its bytes, or the output what it took, the clauses on these say nothing.
+/// At `Ok` and `Refused` the whole input was read and the whole of this text was written. At
+/// `Usage` nothing was read or written. At any other status a prefix of the text was written, which
+/// may be all of it. `Memory` may be answered whenever the machine runs out of memory. All this is
+/// said of an input that reveals its bytes and an output that reveals what it took; what is said of
+/// `Usage` holds for every input and output.
 pub fn session<I: Source, O: Sink>(
     alloc: Global,
     words: &[String],
