@@ -12,7 +12,7 @@ use Rattle.rows_in_order.specs.laws.ChangedNumbers.{with_below, without_below, p
 use Rattle.repl_types.specs.laws.Lists.{all_weaker}
 use Rattle.rows_in_order.specs.laws.Written.{put_here}
 use Rattle.rows_at_work.specs.declared.records.Change.{Change}
-use Rattle.rows_at_work.specs.declared.records.CopiedRow.{CopiedRow}
+use Rattle.two_areas.specs.declared.records.Copied.{Copied}
 use Rattle.rows_at_work.specs.Records.{numbered_change_spelling, FitsChange}
 use Rattle.rows_at_work.specs.laws.Records.{one_change}
 use Rattle.rows_at_work.specs.Applying.{change_table, copy_table, AreChanges, AreCopies, after_one_change, after_all_changes, MakesRows, Makes, Applies}
@@ -23,23 +23,23 @@ use Rattle.rows_at_work.specs.Rules.{rules}
 -- ---- one change
 
 -- the table that a write makes of rows of the copy
-written : (c d : Contents) (k : ℕ) (v : Option (List ℕ)) (rows : List (ℕ × CopiedRow)) → d ≡ put_at c areas.Target 0 (b64 k) v → c areas.Target 0 ≡ copy_table rows → d areas.Target 0 ≡ set_key (copy_table rows) (b64 k) v
+written : (c d : Contents) (k : ℕ) (v : Option (List ℕ)) (rows : List (ℕ × Copied)) → d ≡ put_at c areas.Target 0 (b64 k) v → c areas.Target 0 ≡ copy_table rows → d areas.Target 0 ≡ set_key (copy_table rows) (b64 k) v
 written c d k v rows sets has = ap (λ (f : Contents). f areas.Target 0) sets ∙ put_here c areas.Target 0 (b64 k) v ∙ ap (λ (t : Table). set_key t (b64 k) v) has
 
 -- the two lists of rows that a change may make, by whether its row is kept
-MakesEither : Change → List (ℕ × CopiedRow) → Contents → Bool → Type 0
-MakesEither x rows d keeps = (λ (l : List (ℕ × CopiedRow)). AreCopies l × (d areas.Target 0 ≡ copy_table l)) (cond keeps (with_number (x.key, record { value = x.value }) rows) (without_number x.key rows))
+MakesEither : Change → List (ℕ × Copied) → Contents → Bool → Type 0
+MakesEither x rows d keeps = (λ (l : List (ℕ × Copied)). AreCopies l × (d areas.Target 0 ≡ copy_table l)) (cond keeps (with_number (x.key, record { number = x.value }) rows) (without_number x.key rows))
 
 -- a row that is kept is put
 pub makes_put : (x : Change) (c d : Contents) → FitsChange x → x.keeps ≡ true → d ≡ put_at c areas.Target 0 (b64 x.key) (Some (b64 x.value)) → Makes x c d
 unfolding MakesEither
 makes_put x c d fits keeps sets = record {
-  elsewhere = changes_put rules areas.Target 0 (b64 x.key) (b64 x.value) c d sets (x.key, fits.0, refl) (record { value = x.value }, fits.1, refl);
+  elsewhere = changes_put rules areas.Target 0 (b64 x.key) (b64 x.value) c d sets (x.key, fits.0, refl) (record { number = x.value }, fits.1, refl);
   makes = λ rows are has.
-      let row : ℕ × CopiedRow = (x.key, record { value = x.value }) in
+      let row : ℕ × Copied = (x.key, record { number = x.value }) in
       subst (MakesEither x rows d) (sym keeps) (
         record { rise = number_put_rises row rows are.rise; below = with_below (2 ^ 64) row rows fits.0 are.below },
-        written c d x.key (Some (b64 x.value)) rows sets has ∙ sym (put_number b64 (2 ^ 64) numbers_in_order (λ r. b64 r.value) row rows fits.0 are.below),
+        written c d x.key (Some (b64 x.value)) rows sets has ∙ sym (put_number b64 (2 ^ 64) numbers_in_order (λ r. b64 r.number) row rows fits.0 are.below),
       );
 }
 
@@ -50,14 +50,14 @@ makes_removed x c d fits keeps sets = record {
   elsewhere = changes_remove rules areas.Target 0 (b64 x.key) c d sets;
   makes = λ rows are has. subst (MakesEither x rows d) (sym keeps) (
     record { rise = number_removed_rises x.key rows are.rise; below = without_below (2 ^ 64) x.key rows are.below },
-    written c d x.key None rows sets has ∙ sym (remove_number b64 (2 ^ 64) numbers_in_order (λ r. b64 r.value) x.key rows fits.0 are.below),
+    written c d x.key None rows sets has ∙ sym (remove_number b64 (2 ^ 64) numbers_in_order (λ r. b64 r.number) x.key rows fits.0 are.below),
   );
 }
 
 -- ---- changes of an interval
 
 -- changes and then others are all of them in turn
-after_both : (xs ys : List (ℕ × Change)) (rows : List (ℕ × CopiedRow)) → after_all_changes (xs ++ ys) rows ≡ after_all_changes ys (after_all_changes xs rows)
+after_both : (xs ys : List (ℕ × Change)) (rows : List (ℕ × Copied)) → after_all_changes (xs ++ ys) rows ≡ after_all_changes ys (after_all_changes xs rows)
 after_both [] ys rows = refl
 after_both (x ∷ xs) ys rows = after_both xs ys (after_one_change x.1 rows)
 
@@ -95,5 +95,5 @@ applies_then h source low mid high c d e le more first second = record {
       let x = first.applies changes has rows are is in
       let y = second.applies changes has (after_all_changes xs rows) x.0 x.1 in
       let parts : numbers_between low high changes ≡ xs ++ ys = numbers_parts changes low mid high has.are.rise le more in
-      subst (λ (l : List (ℕ × CopiedRow)). AreCopies l × (e areas.Target 0 ≡ copy_table l)) (sym (ap (λ (l : List (ℕ × Change)). after_all_changes l rows) parts ∙ after_both xs ys rows)) y;
+      subst (λ (l : List (ℕ × Copied)). AreCopies l × (e areas.Target 0 ≡ copy_table l)) (sym (ap (λ (l : List (ℕ × Change)). after_all_changes l rows) parts ∙ after_both xs ys rows)) y;
 }

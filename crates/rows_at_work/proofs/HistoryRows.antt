@@ -29,7 +29,7 @@ use Rattle.rows_in_order.specs.laws.Fitting.{fits_each, fits_put, fits_next}
 use Rattle.rows_in_order.specs.laws.Found.{all_some, row_of}
 use Rattle.rows_in_order.specs.laws.Rising.{between_first, between_nothing, between_yet, between_none, between_parts, filter_rises, rises_push, no_row, found_row}
 use Rattle.rows_in_order.specs.laws.Written.{written_put, written_last, written_first}
-use Rattle.rows_at_work.specs.History.{KeyedChange, FitsKeyedChange, AreChangeRows, change_row_table, Prunes, PrunesUpTo, Appends, SetsAtKey}
+use Rattle.rows_at_work.specs.History.{KeyedChange, FitsKeyedChange, AreChangeRows, change_row_table, Prunes, PrunesUpTo, PutsRow, Appends, SetsAtKey}
 use Rattle.site_store.specs.laws.Steps.{changes_none, changes_put, changes_remove, changes_then}
 use Rattle.rows_at_work.specs.Rules.{rules}
 
@@ -172,10 +172,20 @@ prunes_up_to t high n c d p = record {
 -- ---- one row
 
 module _ (t : ℕ) (row : KeyedChange) (fits : FitsKeyedChange row) (c d : Contents) (sets : d ≡ put_at c areas.Cd t (change_key_spelling row.0) (Some (change_row_spelling row.1))) where
+  -- a row is put at its key
+  puts_row : PutsRow t row c d
+  puts_row = record {
+    elsewhere = changes_put rules areas.Cd t (change_key_spelling row.0) (change_row_spelling row.1) c d sets (row.0, fits.0, refl) (row.1, fits.1, refl);
+    makes = λ rows are has. (
+      record { rise = rises_with change_key_spelling row rows are.rise; fit = fits_put FitsKeyedChange change_key_spelling row rows fits are.fit },
+      ap (λ (f : Contents). f areas.Cd t) sets ∙ written_put change_key_spelling change_row_spelling c areas.Cd t row rows has,
+    );
+  }
+
   -- a row after all others goes to the end
   pub appends_row : Appends t row c d
   appends_row = record {
-    elsewhere = changes_put rules areas.Cd t (change_key_spelling row.0) (change_row_spelling row.1) c d sets (row.0, fits.0, refl) (row.1, fits.1, refl);
+    puts = puts_row;
     appends = λ rows before are has. (
       record { rise = rises_push change_key_spelling rows row are.rise before; fit = all_append FitsKeyedChange rows (row ∷ []) are.fit (fits, tt) },
       ap (λ (f : Contents). f areas.Cd t) sets ∙ written_last change_key_spelling change_row_spelling c areas.Cd t row rows has before,
@@ -199,13 +209,9 @@ module _ (t : ℕ) (row : KeyedChange) (fits : FitsKeyedChange row) (c d : Conte
     λ h. refl,
   )
 
-  -- a row that is put at its key
+  -- so is one whose key was read before
   pub sets_row : (old : Option ChangeRow) → c areas.Cd t (change_key_spelling row.0) ≡ option_map change_row_spelling old → SetsAtKey t row (is_some old) c d
   sets_row old is = record {
-    elsewhere = changes_put rules areas.Cd t (change_key_spelling row.0) (change_row_spelling row.1) c d sets (row.0, fits.0, refl) (row.1, fits.1, refl);
-    makes = λ rows are has. (
-      record { rise = rises_with change_key_spelling row rows are.rise; fit = fits_put FitsKeyedChange change_key_spelling row rows fits are.fit },
-      ap (λ (f : Contents). f areas.Cd t) sets ∙ written_put change_key_spelling change_row_spelling c areas.Cd t row rows has,
-    );
+    puts = puts_row;
     says = λ rows are has. says_stood old rows are (sym (ap (λ (u : Table). u (change_key_spelling row.0)) has) ∙ is);
   }

@@ -11,7 +11,7 @@ use Rattle.site_store.specs.declared.sites.Sites.{Sites}
 use Rattle.site_store.specs.Views.{held}
 use Rattle.site_store.specs.Calls.{Bounds, writes_of_one, reads_and_writes}
 use Rattle.rows_at_work.specs.declared.records.Change.{Change}
-use Rattle.rows_at_work.specs.declared.records.CopiedRow.{CopiedRow}
+use Rattle.two_areas.specs.declared.records.Copied.{Copied}
 use Rattle.rows_at_work.specs.Records.{numbered_change_spelling, FitsChange}
 use Rattle.site_store.specs.Steps.{ChangesOne, WorksOn}
 use Rattle.rows_at_work.specs.Rules.{rules}
@@ -23,8 +23,8 @@ abbrev pub change_table : List (ℕ × Change) → Table
 change_table changes = table_from_rows b64 numbered_change_spelling changes
 
 -- the table of rows of the copy
-abbrev pub copy_table : List (ℕ × CopiedRow) → Table
-copy_table rows = table_from_rows b64 (λ row. b64 row.value) rows
+abbrev pub copy_table : List (ℕ × Copied) → Table
+copy_table rows = table_from_rows b64 (λ row. b64 row.number) rows
 
 -- Changes in the order of their numbers, whose numbers have eight bytes.
 pub record AreChanges (changes : List (ℕ × Change)) : Type 0 where
@@ -33,24 +33,24 @@ pub record AreChanges (changes : List (ℕ × Change)) : Type 0 where
   pub fit : AllByRecursion (λ change. FitsChange change.1) changes
 
 -- Rows in the order of their keys, which have eight bytes.
-pub record AreCopies (rows : List (ℕ × CopiedRow)) : Type 0 where
+pub record AreCopies (rows : List (ℕ × Copied)) : Type 0 where
   pub rise : NumbersRise rows
   pub below : AllBelow (2 ^ 64) rows
 
 -- the rows after a change: the row of its key is put, or removed
-abbrev pub after_one_change : Change → List (ℕ × CopiedRow) → List (ℕ × CopiedRow)
-after_one_change change rows = if change.keeps then with_number (change.key, record { value = change.value }) rows else without_number change.key rows
+abbrev pub after_one_change : Change → List (ℕ × Copied) → List (ℕ × Copied)
+after_one_change change rows = if change.keeps then with_number (change.key, record { number = change.value }) rows else without_number change.key rows
 
 -- the rows after changes, in turn
-abbrev pub after_all_changes : List (ℕ × Change) → List (ℕ × CopiedRow) → List (ℕ × CopiedRow)
+abbrev pub after_all_changes : List (ℕ × Change) → List (ℕ × Copied) → List (ℕ × Copied)
 after_all_changes [] rows = rows
 after_all_changes (change ∷ changes) rows = after_all_changes changes (after_one_change change.1 rows)
 
 -- ---- steps
 
 -- rows of the copy became others
-abbrev pub MakesRows : (List (ℕ × CopiedRow) → List (ℕ × CopiedRow)) → Contents → Contents → Type 0
-MakesRows becomes c d = (rows : List (ℕ × CopiedRow)) → AreCopies rows → c areas.Target 0 ≡ copy_table rows → AreCopies (becomes rows) × (d areas.Target 0 ≡ copy_table (becomes rows))
+abbrev pub MakesRows : (List (ℕ × Copied) → List (ℕ × Copied)) → Contents → Contents → Type 0
+MakesRows becomes c d = (rows : List (ℕ × Copied)) → AreCopies rows → c areas.Target 0 ≡ copy_table rows → AreCopies (becomes rows) × (d areas.Target 0 ≡ copy_table (becomes rows))
 
 -- The rows became those after a change, and no other table changed.
 pub record Makes (change : Change) (c d : Contents) : Type 0 where

@@ -74,15 +74,19 @@ change_key_count = 2 ^ 144
 
 -- ---- one row
 
--- The row was put after all others, if its key is after theirs, and no other table changed.
-pub record Appends (t : ℕ) (row : KeyedChange) (c d : Contents) : Type 0 where
-  pub elsewhere : ChangesOne rules areas.Cd t c d
-  pub appends : (rows : List KeyedChange) → AllBefore change_key_spelling (change_key_spelling row.0) rows → AreChangeRows rows → c areas.Cd t ≡ change_row_table rows → AreChangeRows (rows ++ row ∷ []) × (d areas.Cd t ≡ change_row_table (rows ++ row ∷ []))
-
--- The row was put at its key, no other table changed, and this says whether a row stood there.
-pub record SetsAtKey (t : ℕ) (row : KeyedChange) (stood : Bool) (c d : Contents) : Type 0 where
+-- The row was put at its key, and no other table changed.
+pub record PutsRow (t : ℕ) (row : KeyedChange) (c d : Contents) : Type 0 where
   pub elsewhere : ChangesOne rules areas.Cd t c d
   pub makes : MakesChangeRows t (with_row change_key_spelling row) c d
+
+-- The row was put at its key, and stands after all others if its key is after theirs.
+pub record Appends (t : ℕ) (row : KeyedChange) (c d : Contents) : Type 0 where
+  pub puts : PutsRow t row c d
+  pub appends : (rows : List KeyedChange) → AllBefore change_key_spelling (change_key_spelling row.0) rows → AreChangeRows rows → c areas.Cd t ≡ change_row_table rows → AreChangeRows (rows ++ row ∷ []) × (d areas.Cd t ≡ change_row_table (rows ++ row ∷ []))
+
+-- The row was put at its key, and this says whether a row stood there.
+pub record SetsAtKey (t : ℕ) (row : KeyedChange) (stood : Bool) (c d : Contents) : Type 0 where
+  pub puts : PutsRow t row c d
   pub says : (rows : List KeyedChange) → AreChangeRows rows → c areas.Cd t ≡ change_row_table rows → IsTrue stood ↔ ((old : ChangeRow) × HasRow rows (row.0, old))
 
 -- ---- calls

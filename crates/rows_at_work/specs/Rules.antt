@@ -8,7 +8,7 @@ use Rattle.repl_records.specs.RecordKeys.{in_flight_key_spelling, IsInFlightKey,
 use Rattle.repl_records.specs.SourceSide.{in_flight_spelling}
 use Rattle.repl_records.specs.declared.source_side.InFlight.{InFlight}
 use Rattle.site_store.specs.Damage.{Rules}
-use Rattle.rows_at_work.specs.declared.records.CopiedRow.{CopiedRow}
+use Rattle.two_areas.specs.declared.records.Copied.{Copied}
 use Rattle.rows_at_work.specs.Records.{numbered_change_spelling, FitsChange}
 
 -- the bytes spell a thing of the kind
@@ -27,7 +27,7 @@ may_be_key a t bytes = Unit {0}
 abbrev pub may_be_value : Area → ℕ → List ℕ → Type 0
 may_be_value areas.Inflight zero bytes = Spells {X = InFlight} Any in_flight_spelling bytes
 may_be_value areas.Log zero bytes = Spells FitsChange numbered_change_spelling bytes
-may_be_value areas.Target zero bytes = Spells (λ (row : CopiedRow). Is64 row.value) (λ row. b64 row.value) bytes
+may_be_value areas.Target zero bytes = Spells (λ (row : Copied). Is64 row.number) (λ row. b64 row.number) bytes
 may_be_value areas.Cd t bytes = Spells IsChangeRow change_row_spelling bytes
 may_be_value a t bytes = Unit {0}
 

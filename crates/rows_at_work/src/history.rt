@@ -93,7 +93,8 @@ pub fn prune_changes<K: Keeper>(
     }
 }
 
-/// Puts a change row. It is the last one if its key is after the keys of all that stand there.
+/// Puts a change row at its key, in the place of the row there if there is one. It is the last one
+/// if its key is after the keys of all that stand there.
 pub fn append_change<K: Keeper>(
     sites: &mut Sites<K>,
     alloc: Global,

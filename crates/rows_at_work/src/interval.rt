@@ -12,12 +12,13 @@ ghost use Rattle.rows_at_work.specs.Rules.{rules};
 ghost use Rattle.rows_at_work.specs.Applying.{AppliesOne, AppliesNext, AppliesAll};
 ghost use Rattle.rows_at_work.specs.Applying.{in_applying, IsWithinInterval};
 
-use crate::records::{Change, CopiedRow};
+use crate::records::Change;
 use faults::Fault;
 use keep_core::Keeper;
 use row_codec::Table0;
 use site_store::Sites;
 use std::alloc::Global;
+use two_areas::Copied;
 
 /// Puts or removes the row that a change is about.
 fn apply_change<K: Keeper>(
@@ -34,13 +35,13 @@ fn apply_change<K: Keeper>(
         IfErr result (Fails K.kept sites.old sites.new most (AtServer target NoDamage)) }
 {
     if !change.keeps {
-        sites.remove::<CopiedRow>(alloc, target, Table0, &change.key)?;
+        sites.remove::<Copied>(alloc, target, Table0, &change.key)?;
         return Ok(());
     }
-    let row = CopiedRow {
-        value: change.value,
+    let row = Copied {
+        number: change.value,
     };
-    sites.put::<CopiedRow>(alloc, target, Table0, &change.key, &row)?;
+    sites.put::<Copied>(alloc, target, Table0, &change.key, &row)?;
     Ok(())
 }
 

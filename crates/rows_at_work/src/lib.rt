@@ -10,8 +10,8 @@
 //! leave it open at Ok. Their contracts say what they make of the tables, for all rows that stand
 //! in them.
 //!
-//! No program uses this crate. It stands on `site_store`, on `rows_in_order` and on records of
-//! `repl_records`, and shows that the laws of `rows_in_order` suffice for such functions.
+//! No program uses this crate. It stands on `site_store`, on `rows_in_order`, on records of
+//! `repl_records` and on the copied numbers of `two_areas`, and shows that the laws of `rows_in_order` suffice for such functions.
 #![tactic(auto)]
 
 mod history;
@@ -22,4 +22,4 @@ mod records;
 pub use history::{append_change, prune_changes, set_row};
 pub use in_flight::drop_transaction;
 pub use interval::apply_interval;
-pub use records::{Change, CopiedRow};
+pub use records::Change;

@@ -9,9 +9,9 @@
 //! `specs/laws` put parts together: `goes_on` after a part that ended, `stops_in` in a part that
 //! stopped, `going_end` when no part is left.
 //!
-//! For example, a call that commits `next w` and then writes `line` has the events `commits (next
-//! w) ∷ writes line ∷ []`. If the write fails, the call stopped after the commit with a part of the
-//! line, so the line never comes before its commit.
+//! For example, a call that commits `next w` and then writes `line` has the events
+//! `commits (next w) ∷ writes line ∷ []`. If the write fails, the call stopped after the commit
+//! with a part of the line, so the line never comes before its commit.
 #![tactic(auto)]
 
 ghost use Rattle.std.specs.Prelude.{◌≡◌, ◌++◌, List};
