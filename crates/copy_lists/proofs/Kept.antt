@@ -2,6 +2,8 @@
 use Rattle.std.proofs.Common.{◌≡◌, ℕ, ◌+◌, ◌<◌, ◌≤◌, Bool, true, false, cond, List, [], ◌∷◌, ◌++◌, length, Option, Some, None, refl, sym, ap, subst, ◌∙◌}
 use Rattle.std.specs.Prelude.{not, ◌&&◌, ◌==◌, nat_le, IsTrue}
 use Rattle.std.specs.FinMap.{empty}
+use Rattle.std.specs.List.{list_all}
+use Rattle.std.proofs.Math.Bool.{and-true}
 use Rattle.std.proofs.lemmas.Bool.{eqb-true, true≢false, le-leb, lt-leb}
 use Rattle.std.proofs.lemmas.List.Sums.{fold-append}
 use Rattle.std.proofs.lemmas.Option.{none-some}
@@ -19,7 +21,7 @@ use Rattle.repl_model.specs.Applicable.{is_change_applicable, is_applicable}
 use Rattle.repl_model.specs.Copies.{LeavesKeys}
 use Rattle.copy_lists.specs.declared.refused.Cause.TheVariants.{BadLog, NotApplicable}
 use Rattle.copy_lists.specs.declared.source_log.SourceLog.{SourceLog}
-use Rattle.copy_lists.specs.Items.{items_def}
+use Rattle.copy_lists.specs.Items.{items_def, source_tables}
 use Rattle.copy_lists.specs.Feed.{left_open, open_tx, may_go_on, is_taken_form, record_cause}
 use Rattle.copy_lists.specs.SourceLog.{IsKeptLog, Grows}
 
@@ -30,24 +32,29 @@ open_tx-push log r = fold-append (λ (before : Option ℕ) (r : LogRecord). left
 -- ---- why a record isn't taken
 
 -- the cause of a record, by its form and whether it fits
-cause_from : (log : List LogRecord) (r : LogRecord) (form fit : Bool) → is_taken_form log r ≡ form → is_applicable items_def log r ≡ fit
+cause_from : (log : List LogRecord) (r : LogRecord) (form fit : Bool) → is_taken_form log r ≡ form → is_applicable source_tables log r ≡ fit
     → record_cause log r ≡ cond (not form) (Some BadLog) (cond fit None (Some NotApplicable))
 cause_from log r form fit e f =
-    ap (λ (b : Bool). cond (not b) (Some BadLog) (cond (is_applicable items_def log r) None (Some NotApplicable))) e
+    ap (λ (b : Bool). cond (not b) (Some BadLog) (cond (is_applicable source_tables log r) None (Some NotApplicable))) e
     ∙ ap (λ (b : Bool). cond (not form) (Some BadLog) (cond b None (Some NotApplicable))) f
 
 -- the cause of a change record of the transaction that may go on
-pub cause_of_change : (log : List LogRecord) (tx : ℕ) (change : Change) (fit : Bool) → may_go_on (open_tx log) tx ≡ true → is_change_applicable items_def change ≡ fit
+pub cause_of_change : (log : List LogRecord) (tx : ℕ) (change : Change) (fit : Bool) → may_go_on (open_tx log) tx ≡ true → is_change_applicable source_tables change ≡ fit
     → record_cause log (records.Change tx change) ≡ cond fit None (Some NotApplicable)
 unfolding is_applicable
 cause_of_change log tx change fit mine e = cause_from log (records.Change tx change) true fit mine e
+
+-- whether a commit fits the one table
+fits_one_table : (log : List LogRecord) (tx time : ℕ) → (nat_le (last_time (units log)) time && list_all (λ def. all_apply def (unplaced (open_changes tx log)) (source_at def log (last_commit log))) source_tables)
+    ≡ (nat_le (last_time (units log)) time && all_apply items_def (unplaced (open_changes tx log)) (source_at items_def log (last_commit log)))
+fits_one_table log tx time = ap (λ (b : Bool). nat_le (last_time (units log)) time && b) (and-true (all_apply items_def (unplaced (open_changes tx log)) (source_at items_def log (last_commit log))))
 
 -- the cause of a commit record of the transaction that may go on
 pub cause_of_commit : (log : List LogRecord) (tx time : ℕ) (authid : List ℕ) (origin : Option SetId) (fit : Bool) → may_go_on (open_tx log) tx ≡ true
     → (nat_le (last_time (units log)) time && all_apply items_def (unplaced (open_changes tx log)) (source_at items_def log (last_commit log))) ≡ fit
     → record_cause log (records.Commit tx time authid origin) ≡ cond fit None (Some NotApplicable)
 unfolding is_applicable
-cause_of_commit log tx time authid origin fit mine e = cause_from log (records.Commit tx time authid origin) true fit mine e
+cause_of_commit log tx time authid origin fit mine e = cause_from log (records.Commit tx time authid origin) true fit mine (fits_one_table log tx time ∙ e)
 
 -- the transaction that is kept as in flight may go on by the log
 pub may_go_on_by_log : (source : SourceLog) (tx : ℕ) → IsKeptLog source → may_go_on source.in_flight tx ≡ true → may_go_on (open_tx source.records) tx ≡ true
@@ -125,7 +132,7 @@ none_after_commit grows source tx t time authid origin kept h = grows.in_flight_
     go false e = rest_empty source tx t kept h e
 
 -- what is kept after a change record
-pub kept_change : Grows → (source now : SourceLog) (tx : ℕ) (change : Change) → IsKeptLog source → may_go_on (open_tx source.records) tx ≡ true → is_change_applicable items_def change ≡ true
+pub kept_change : Grows → (source now : SourceLog) (tx : ℕ) (change : Change) → IsKeptLog source → may_go_on (open_tx source.records) tx ≡ true → is_change_applicable source_tables change ≡ true
     → now.table ≡ source.table → now.records ≡ source.records ++ records.Change tx change ∷ [] → now.in_flight ≡ Some tx
     → now.changes ≡ source.changes ++ record { pos = length source.records + 1; change = change } ∷ []
     → now.units ≡ source.units → now.rows ≡ source.rows → now.time ≡ source.time → IsKeptLog now
@@ -141,7 +148,7 @@ kept_change grows source now tx change kept h fit t r f c u w z =
       made = u ∙ kept.made ∙ sym (ap units r ∙ grows.units_change tx change source.records);
       committed = w ∙ kept.committed ∙ sym (ap (λ (log : List LogRecord). source_at items_def log (last_commit log)) r ∙ grows.source_change items_def tx change source.records);
       last = z ∙ kept.last ∙ sym (ap (λ (log : List LogRecord). last_time (units log)) r ∙ ap last_time (grows.units_change tx change source.records));
-      keys = subst (LeavesKeys items_def) (sym r) (grows.keys items_def source.records (records.Change tx change) refl kept.keys fit);
+      keys = subst (LeavesKeys items_def) (sym r) (grows.keys items_def source_tables source.records (records.Change tx change) refl refl kept.keys fit);
     }
 
 -- what is kept after a commit record
@@ -167,5 +174,5 @@ kept_commit grows source now tx time authid origin kept h fit t r f c u w z =
           ∙ ap (λ (changes : List Placed). after_changes items_def (unplaced changes) (source_at items_def source.records (last_commit source.records))) (sym (kept.mine tx h))
           ∙ sym (ap (λ (log : List LogRecord). source_at items_def log (last_commit log)) r ∙ grows.source_commit items_def tx time authid origin source.records);
       last = z ∙ sym (ap (λ (log : List LogRecord). last_time (units log)) r ∙ grows.last_time_commit tx time authid origin source.records);
-      keys = subst (LeavesKeys items_def) (sym r) (grows.keys items_def source.records (records.Commit tx time authid origin) refl kept.keys fit);
+      keys = subst (LeavesKeys items_def) (sym r) (grows.keys items_def source_tables source.records (records.Commit tx time authid origin) refl refl kept.keys (fits_one_table source.records tx time ∙ fit));
     }

@@ -11,7 +11,7 @@ use Rattle.copy_lists.specs.declared.refused.Cause.{Cause}
 use Rattle.copy_lists.specs.declared.refused.Cause.TheVariants.{LineTooLong, BadLog, NotApplicable}
 use Rattle.copy_lists.specs.declared.refused.Refused.{Refused}
 use Rattle.line_input.specs.Limits.{line_limit}
-use Rattle.copy_lists.specs.Items.{items_def}
+use Rattle.copy_lists.specs.Items.{source_tables}
 
 -- the line consists of blanks, or is empty
 abbrev pub is_blank : List ℕ → Bool
@@ -42,7 +42,7 @@ is_taken_form log (records.Abort tx) = false
 abbrev pub record_cause : List LogRecord → LogRecord → Option Cause
 record_cause log r =
     if not (is_taken_form log r) then Some BadLog
-    else (if is_applicable items_def log r then None else Some NotApplicable)
+    else (if is_applicable source_tables log r then None else Some NotApplicable)
 
 -- the outcome of a line
 pub data Outcome : Type 0 where

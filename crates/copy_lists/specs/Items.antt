@@ -1,5 +1,5 @@
 -- The table that `copy` copies.
-use Rattle.std.specs.Prelude.{codes, true, false, [], ◌∷◌}
+use Rattle.std.specs.Prelude.{codes, true, false, List, [], ◌∷◌}
 use Rattle.repl_types.specs.declared.table.Kind.TheVariants.{Int, Text}
 use Rattle.repl_types.specs.declared.table.TableDef.{TableDef}
 
@@ -11,3 +11,7 @@ items_def = record {
   key = 0 ∷ [];
   fixed = 0 ∷ [];
 }
+
+-- the tables of the source: items alone
+abbrev pub source_tables : List TableDef
+source_tables = items_def ∷ []

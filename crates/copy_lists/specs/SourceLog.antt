@@ -1,5 +1,5 @@
 -- What is kept beside the log of a source.
-use Rattle.std.specs.Prelude.{◌≡◌, ℕ, ◌+◌, ◌==◌, false, IsTrue, if◌then◌else◌, List, [], ◌∷◌, ◌++◌, length, Option, None}
+use Rattle.std.specs.Prelude.{◌≡◌, ℕ, ◌+◌, ◌==◌, false, IsTrue, if◌then◌else◌, List, [], ◌∷◌, ◌++◌, length, Option, Some, None}
 use Rattle.repl_types.specs.declared.record.Change.{Change}
 use Rattle.repl_types.specs.declared.record.SetId.{SetId}
 use Rattle.repl_types.specs.declared.record.LogRecord.{LogRecord}
@@ -8,7 +8,7 @@ use Rattle.repl_types.specs.declared.table.TableDef.{TableDef}
 use Rattle.repl_model.specs.Tables.{after_changes}
 use Rattle.repl_model.specs.Units.{units, unit_of, open_changes, last_commit, last_time}
 use Rattle.repl_model.specs.SourceAt.{unplaced, source_at}
-use Rattle.repl_model.specs.Applicable.{is_applicable}
+use Rattle.repl_model.specs.Applicable.{table_named, is_applicable}
 use Rattle.repl_model.specs.Copies.{LeavesKeys, is_key_fixed}
 use Rattle.copy_lists.specs.declared.source_log.SourceLog.{SourceLog}
 use Rattle.copy_lists.specs.Items.{items_def}
@@ -37,7 +37,7 @@ pub record Grows : Type 0 where
   pub last_time_commit : (tx time : ℕ) (authid : List ℕ) (origin : Option SetId) (log : List LogRecord) → last_time (units (log ++ records.Commit tx time authid origin ∷ [])) ≡ time
   pub source_change : (def : TableDef) (tx : ℕ) (change : Change) (log : List LogRecord) → source_at def (log ++ records.Change tx change ∷ []) (last_commit (log ++ records.Change tx change ∷ [])) ≡ source_at def log (last_commit log)
   pub source_commit : (def : TableDef) (tx time : ℕ) (authid : List ℕ) (origin : Option SetId) (log : List LogRecord) → source_at def (log ++ records.Commit tx time authid origin ∷ []) (last_commit (log ++ records.Commit tx time authid origin ∷ [])) ≡ after_changes def (unplaced (open_changes tx log)) (source_at def log (last_commit log))
-  pub keys : (def : TableDef) (log : List LogRecord) (r : LogRecord) → IsTrue (is_key_fixed def) → LeavesKeys def log → IsTrue (is_applicable def log r) → LeavesKeys def (log ++ r ∷ [])
+  pub keys : (def : TableDef) (tables : List TableDef) (log : List LogRecord) (r : LogRecord) → table_named def.name tables ≡ Some def → IsTrue (is_key_fixed def) → LeavesKeys def log → IsTrue (is_applicable tables log r) → LeavesKeys def (log ++ r ∷ [])
 
 -- the units kept are those of the records, and the records leave the keys
 pub record KeepsUnits (source : SourceLog) : Type 0 where

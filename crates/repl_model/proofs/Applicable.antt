@@ -1,8 +1,10 @@
 -- What is applicable leaves the keys.
-use Rattle.std.proofs.Common.{◌≡◌, ℕ, suc, true, ◌&&◌, List, [], ◌∷◌, ◌++◌, length, inl, inr, refl, ap, subst, ◌∙◌}
-use Rattle.std.specs.Prelude.{◌==◌, nat_le, sum_by, slice_index_or}
+use Rattle.std.proofs.Common.{◌≡◌, ℕ, suc, true, false, ◌&&◌, List, [], ◌∷◌, ◌++◌, length, Option, Some, inl, inr, refl, sym, ap, subst, ◌∙◌}
+use Rattle.std.specs.Prelude.{IsTrue, ◌==◌, nat_le, sum_by, slice_index_or}
 use Rattle.std.specs.List.{list_all, list_any}
+use Rattle.std.specs.Option.{option_map_or}
 use Rattle.std.specs.Str.{bytes_eq}
+use Rattle.std.proofs.lemmas.Slice.Eq.{bytes_eq-Decides}
 use Rattle.std.proofs.lemmas.Bool.{and_parts, or_cases, eqb-true}
 use Rattle.repl_types.specs.Sizes.{key_limit}
 use Rattle.repl_types.specs.Value.{Values, images, spelled_len}
@@ -15,7 +17,7 @@ use Rattle.repl_types.specs.declared.record.Change.TheVariants.{Insert, Update, 
 use Rattle.repl_types.specs.declared.record.LogRecord.{LogRecord}
 use Rattle.repl_types.specs.declared.record.LogRecord.TheVariants as records
 use Rattle.repl_model.specs.Tables.{key_of, same_values, table_of}
-use Rattle.repl_model.specs.Applicable.{fits_column, fits_columns, fits, change_fits, is_change_applicable, is_applicable}
+use Rattle.repl_model.specs.Applicable.{fits_column, fits_columns, fits, change_fits, table_named, is_change_applicable, is_applicable}
 use Rattle.repl_model.specs.Copies.{IsWhole, LeavesKey, RecordLeavesKey, LeavesKeys, is_key_fixed}
 use Rattle.repl_model.proofs.Lists.{each_push}
 use Rattle.repl_model.proofs.Rows.{same_values_exact}
@@ -70,16 +72,21 @@ fits_leaves def (Delete table row) fixed h = fits_whole def row h
 fits_leaves def (Start table) fixed h = tt
 fits_leaves def (Stop table) fixed h = tt
 
--- an applicable change has whole rows, and leaves the key if the key is fixed
-pub applicable_leaves : (def : TableDef) (change : Change) → is_key_fixed def ≡ true → is_change_applicable def change ≡ true → LeavesKey def change
-applicable_leaves def change fixed h = fits_leaves def change fixed (and_parts (bytes_eq (table_of change) def.name) (change_fits def change) h).1
+-- a change of a table is applicable only if it fits that table
+change_of_table : (tables : List TableDef) (def : TableDef) (change : Change) → table_named def.name tables ≡ Some def → IsTrue (bytes_eq (table_of change) def.name) → is_change_applicable tables change ≡ true → change_fits def change ≡ true
+change_of_table tables def change here named h =
+    sym (ap (λ (found : Option TableDef). option_map_or (λ d. change_fits d change) found false) (ap (λ (name : List ℕ). table_named name tables) ((bytes_eq-Decides (table_of change) def.name).0 named) ∙ here)) ∙ h
+
+-- an applicable change of a table has whole rows, and leaves the key if the key is fixed
+applicable_leaves : (tables : List TableDef) (def : TableDef) (change : Change) → table_named def.name tables ≡ Some def → is_key_fixed def ≡ true → is_change_applicable tables change ≡ true → IsTrue (bytes_eq (table_of change) def.name) → LeavesKey def change
+applicable_leaves tables def change here fixed h named = fits_leaves def change fixed (change_of_table tables def change here named h)
 
 -- one more applicable record leaves the keys
-pub leaves_keys_push : (def : TableDef) (log : List LogRecord) (r : LogRecord) → is_key_fixed def ≡ true → LeavesKeys def log → is_applicable def log r ≡ true → LeavesKeys def (log ++ r ∷ [])
+pub leaves_keys_push : (def : TableDef) (tables : List TableDef) (log : List LogRecord) (r : LogRecord) → table_named def.name tables ≡ Some def → is_key_fixed def ≡ true → LeavesKeys def log → is_applicable tables log r ≡ true → LeavesKeys def (log ++ r ∷ [])
 unfolding is_applicable
-leaves_keys_push def log r fixed h e = each_push (RecordLeavesKey def) log r h (leaves r e)
+leaves_keys_push def tables log r here fixed h e = each_push (RecordLeavesKey def) log r h (leaves r e)
   where
-    leaves : (r : LogRecord) → is_applicable def log r ≡ true → RecordLeavesKey def r
-    leaves (records.Change tx change) e = λ named. applicable_leaves def change fixed e
+    leaves : (r : LogRecord) → is_applicable tables log r ≡ true → RecordLeavesKey def r
+    leaves (records.Change tx change) e = applicable_leaves tables def change here fixed e
     leaves (records.Commit tx time authid origin) e = tt
     leaves (records.Abort tx) e = tt

@@ -117,7 +117,7 @@ changes_leave def tx before log h =
     each_filter_map (change_of tx) here (PlacedLeavesKey def) (change_leaves def tx) (filter between (positions log)) (all_filter here between (positions log) (at_positions def 1 log h))
 
 -- the changes of each unit leave the keys
-units_leave : (def : TableDef) (log : List LogRecord) → LeavesKeys def log → AllByRecursion (λ u. AllByRecursion (PlacedLeavesKey def) u.changes) (units log)
+pub units_leave : (def : TableDef) (log : List LogRecord) → LeavesKeys def log → AllByRecursion (λ u. AllByRecursion (PlacedLeavesKey def) u.changes) (units log)
 unfolding units
 units_leave def log h = each_filter_map (unit_at log) (λ (r : At). RecordLeavesKey def r.1) (λ u. AllByRecursion (PlacedLeavesKey def) u.changes) ended (positions log) (at_positions def 1 log h)
   where

@@ -5,3 +5,15 @@ pub mod Source
 pub mod CopyByRows
 pub mod Applicable
 pub mod Inverse
+pub mod Trees
+pub mod Evaluate
+pub mod Applied
+pub mod WholeMembers
+pub mod LongerLists
+pub mod Longer
+pub mod LongerCopies
+pub mod LongerUnits
+pub mod LongerSets
+pub mod LongerWorlds
+pub mod EmptyWorld
+pub mod WorkedWorld

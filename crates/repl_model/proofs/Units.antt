@@ -44,7 +44,7 @@ positions_within log = all_weaker {X = At} (λ r. (1 ≤ r.0) × (r.0 < 1 + leng
 -- ---- changes up to a position
 
 -- what stands before a position has the last end that it had
-last_end_stays : (tx before : ℕ) (log : List LogRecord) (r : LogRecord) → before ≤ length log + 1 → last_end tx before (log ++ r ∷ []) ≡ last_end tx before log
+pub last_end_stays : (tx before : ℕ) (log : List LogRecord) (r : LogRecord) → before ≤ length log + 1 → last_end tx before (log ++ r ∷ []) ≡ last_end tx before log
 last_end_stays tx before log r h =
     let step = λ (last : ℕ) (r : At). cond (ends tx r.1 && nat_lt r.0 before) r.0 last in
     ap (fold step 0) (positions_push log r) ∙ fold_push step 0 (positions log) (length log + 1, r)

@@ -1,5 +1,7 @@
 -- Which log records are applicable after a log.
-use Rattle.std.specs.Prelude.{Bool, true, false, ◌&&◌, nat_le, List, [], ◌∷◌, sum_by}
+use Rattle.std.specs.Prelude.{ℕ, Bool, true, false, ◌&&◌, nat_le, List, [], ◌∷◌, find, sum_by, Option}
+use Rattle.std.specs.List.{list_all, list_any}
+use Rattle.std.specs.Option.{option_map_or}
 use Rattle.std.specs.Str.{bytes_eq}
 use Rattle.repl_types.specs.Sizes.{key_limit}
 use Rattle.repl_types.specs.Value.{Values, images, spelled_len}
@@ -11,6 +13,7 @@ use Rattle.repl_types.specs.declared.table.ColumnDef.{ColumnDef}
 use Rattle.repl_types.specs.declared.table.TableDef.{TableDef}
 use Rattle.repl_types.specs.declared.record.Change.{Change}
 use Rattle.repl_types.specs.declared.record.Change.TheVariants.{Insert, Update, Delete, Start, Stop}
+use Rattle.repl_types.specs.declared.change_row.Registration.{Registration}
 use Rattle.repl_types.specs.declared.record.LogRecord.{LogRecord}
 use Rattle.repl_types.specs.declared.record.LogRecord.TheVariants as records
 use Rattle.repl_model.specs.Tables.{key_of, same_values, table_of, all_apply}
@@ -50,14 +53,32 @@ change_fits def (Delete table row) = fits def row
 change_fits def (Start table) = false
 change_fits def (Stop table) = false
 
--- a change record of a server with one table is applicable if it is of that table and fits it
-abbrev pub is_change_applicable : TableDef → Change → Bool
-is_change_applicable def change = bytes_eq (table_of change) def.name && change_fits def change
+-- the table of a name, if it is one of these
+abbrev pub table_named : List ℕ → List TableDef → Option TableDef
+table_named name tables = find (λ def. bytes_eq name def.name) tables
 
--- a commit record is applicable if its time isn't below that of the last commit, and its unit's changes
--- apply one after another to the committed rows. An abort is always applicable.
-unfoldable pub is_applicable : TableDef → List LogRecord → LogRecord → Bool
-is_applicable def log (records.Change tx change) = is_change_applicable def change
-is_applicable def log (records.Commit tx time authid origin) = nat_le (last_time (units log)) time
-    && all_apply def (unplaced (open_changes tx log)) (source_at def log (last_commit log))
-is_applicable def log (records.Abort tx) = true
+-- a change record is applicable at a server if its table is defined there and the change fits it
+abbrev pub is_change_applicable : List TableDef → Change → Bool
+is_change_applicable tables change = option_map_or (λ def. change_fits def change) (table_named (table_of change) tables) false
+
+-- At a server with this log, and with these tables after it, a change record is applicable if its change is.
+-- A commit record is if its time isn't below that of the last commit, and its unit's changes apply one after
+-- another to the committed rows of each table. An abort always is.
+unfoldable pub is_applicable : List TableDef → List LogRecord → LogRecord → Bool
+is_applicable tables log (records.Change tx change) = is_change_applicable tables change
+is_applicable tables log (records.Commit tx time authid origin) = nat_le (last_time (units log)) time
+    && list_all (λ def. all_apply def (unplaced (open_changes tx log)) (source_at def log (last_commit log))) tables
+is_applicable tables log (records.Abort tx) = true
+
+-- the change starts or stops a registration
+abbrev pub is_signal : Change → Bool
+is_signal (Insert table row) = false
+is_signal (Update table before after) = false
+is_signal (Delete table row) = false
+is_signal (Start table) = true
+is_signal (Stop table) = true
+
+-- A start or a stop is applicable at a server if its table is registered there. Only the program writes
+-- these, and their units apply to all rows.
+abbrev pub is_signal_applicable : List Registration → Change → Bool
+is_signal_applicable regs change = is_signal change && list_any (λ reg. bytes_eq (table_of change) reg.table) regs

@@ -7,7 +7,7 @@ use Rattle.repl_types.specs.declared.table.TableDef.{TableDef}
 use Rattle.repl_types.specs.declared.unit.Placed.{Placed}
 use Rattle.repl_types.specs.declared.unit.Unit.{Unit}
 use Rattle.repl_model.specs.Tables.{Rows, after_changes}
-use Rattle.repl_model.specs.Units.{units}
+use Rattle.repl_model.specs.Units.{units, last_time}
 
 -- changes without their positions
 abbrev pub unplaced : List Placed → List Change
@@ -29,3 +29,11 @@ units_between low high log = filter (λ u. nat_lt low u.head.seq && nat_le u.hea
 -- the rows of a table after all units up to a point, from no rows
 unfoldable pub source_at : TableDef → List LogRecord → ℕ → Rows
 source_at def log point = after_units def (units_up_to point log) empty
+
+-- the time of the last unit up to a point, in seconds, 0 if there is none
+unfoldable pub time_at : List LogRecord → ℕ → ℕ
+time_at log point = last_time (units_up_to point log)
+
+-- a table as it is after a log. No record changes a table's columns, so it is as it was defined.
+abbrev pub table_after : List LogRecord → TableDef → TableDef
+table_after log def = def

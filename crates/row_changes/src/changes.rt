@@ -1,6 +1,6 @@
 //! Changes: which fit their table, which apply, and what they do to its rows.
 
-ghost use Rattle.std.specs.Prelude.{◌≡◌, ◌≤◌, ◌&&◌, ◌||◌, IsTrue, IfOk, if◌then◌else◌, nat_le};
+ghost use Rattle.std.specs.Prelude.{◌≡◌, ◌≤◌, ◌&&◌, ◌||◌, IsTrue, IfOk, if◌then◌else◌, nat_le, ◌∷◌, []};
 ghost use Rattle.std.specs.Prelude.{sum_by, is_none};
 ghost use Rattle.std.specs.List.{list_all, zip};
 ghost use Rattle.std.specs.FinMap.{get, insert, remove};
@@ -156,7 +156,7 @@ pub fn is_change_applicable(
     def: &TableDef,
     change: &Change,
 ) -> Result<bool, AllocError>
-    ensures { IfOk result (λ fit. fit ≡ is_change_applicable_lem def.now change.now) }
+    ensures { IfOk result (λ fit. fit ≡ is_change_applicable_lem (def.now ∷ []) change.now) }
 {
     if *table_of(change) != def.name {
         return Ok(false);

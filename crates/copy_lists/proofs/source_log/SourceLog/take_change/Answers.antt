@@ -9,19 +9,19 @@ pub returns-then-not-branch-clause-cause : goal.returns-then-not-branch-clause-c
 returns-then-not-branch-clause-cause c =
     sym (cause_of_change c.args.self.now.records c.args.tx c.args.change false
     (may_go_on_by_log c.args.self.now c.args.tx c.requires (sym c.may_go_on.ensures ∙ c.if-not-may_go_on.false))
-    (ap (λ (def : TableDef). is_change_applicable def c.args.change) (sym c.requires.table) ∙ sym c.in_ok-is_change_applicable.ensures ∙ c.if-not-branch.true))
+    (ap (λ (def : TableDef). is_change_applicable (def ∷ []) c.args.change) (sym c.requires.table) ∙ sym c.in_ok-is_change_applicable.ensures ∙ c.if-not-branch.true))
 
 pub returns-clause-cause : goal.returns-clause-cause
 returns-clause-cause c =
     sym (cause_of_change c.args.self.now.records c.args.tx c.args.change true
     (may_go_on_by_log c.args.self.now c.args.tx c.requires (sym c.may_go_on.ensures ∙ c.if-not-may_go_on.false))
-    (ap (λ (def : TableDef). is_change_applicable def c.args.change) (sym c.requires.table) ∙ sym c.in_ok-is_change_applicable.ensures ∙ c.if-not-branch.false))
+    (ap (λ (def : TableDef). is_change_applicable (def ∷ []) c.args.change) (sym c.requires.table) ∙ sym c.in_ok-is_change_applicable.ensures ∙ c.if-not-branch.false))
 
 pub returns-clause-taken : goal.returns-clause-taken
 returns-clause-taken c e = (
   kept_change c.one_more_record.ensures c.args.self.now (record c.args.self.now { records = c.push-2.new.self; in_flight = Some c.args.tx; changes = c.push.new.self }) c.args.tx c.args.change c.requires
       (may_go_on_by_log c.args.self.now c.args.tx c.requires (sym c.may_go_on.ensures ∙ c.if-not-may_go_on.false))
-      (ap (λ (def : TableDef). is_change_applicable def c.args.change) (sym c.requires.table) ∙ sym c.in_ok-is_change_applicable.ensures ∙ c.if-not-branch.false)
+      (ap (λ (def : TableDef). is_change_applicable (def ∷ []) c.args.change) (sym c.requires.table) ∙ sym c.in_ok-is_change_applicable.ensures ∙ c.if-not-branch.false)
       refl c.in_ok-push-2.ensures.items refl
       (c.in_ok-push.ensures.items ∙ ap (λ (placed : Placed). c.args.self.now.changes ++ placed ∷ []) c.in_ok-place_change.ensures ∙ ap (λ (n : ℕ). c.args.self.now.changes ++ record { pos = n + 1; change = c.args.change } ∷ []) c.len.ensures.len)
       refl refl refl,

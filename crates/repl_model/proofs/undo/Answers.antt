@@ -1,5 +1,0 @@
-use Rattle.repl_model.proofs.Inverse.{undo}
-use Rattle.repl_model.proofs.undo.Goals as goal
-
-pub returns : goal.returns
-returns c = undo
