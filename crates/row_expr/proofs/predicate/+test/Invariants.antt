@@ -1,0 +1,32 @@
+use Rattle.std.proofs.Common.{◌≡◌, ◌≤◌, ◌+◌, ◌*◌, ◌<◌, length}
+use Rattle.repl_model.specs.Expressions.{is_true_of}
+use Rattle.row_expr.specs.declared.pending.TheConstants.{ROOM}
+use Rattle.row_expr.specs.PendingPredicates.{predicate_size, left_sizes, whole_truth}
+use Rattle.row_expr.proofs.predicate.+test.Given as goal
+
+abbrev pub decreases-descend : goal.decreases-descend
+decreases-descend l = 2 * predicate_size l.predicate.now
+
+abbrev pub decreases-test : goal.decreases-test
+decreases-test l = 2 * predicate_size l.predicate.now + 1
+
+abbrev pub invariant-descend-loop-truth : goal.invariant-descend-loop-truth
+invariant-descend-loop-truth l = record {
+  room : length l.pending < ROOM;
+  same : whole_truth l.row l.pending (is_true_of l.row l.current) ≡ whole_truth l.row l.fn.pending (is_true_of l.row l.predicate);
+  smaller : left_sizes l.pending + predicate_size l.current ≤ left_sizes l.fn.pending + predicate_size l.predicate;
+  below : predicate_size l.current ≤ predicate_size l.predicate;
+}
+
+abbrev pub decreases-descend-loop-truth : goal.decreases-descend-loop-truth
+decreases-descend-loop-truth l = predicate_size l.current
+
+abbrev pub invariant-test-loop-left : goal.invariant-test-loop-left
+invariant-test-loop-left l = record {
+  room : length l.pending < ROOM;
+  same : whole_truth l.row l.pending (is_true_of l.row l.current) ≡ is_true_of l.row l.predicate;
+  smaller : left_sizes l.pending + predicate_size l.current ≤ predicate_size l.predicate;
+}
+
+abbrev pub decreases-test-loop-left : goal.decreases-test-loop-left
+decreases-test-loop-left l = left_sizes l.pending + predicate_size l.current

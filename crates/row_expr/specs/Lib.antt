@@ -1,0 +1,4 @@
+pub mod Chains
+pub mod Evaluation
+pub mod Operations
+pub mod PendingPredicates
