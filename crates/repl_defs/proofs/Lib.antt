@@ -1,0 +1,14 @@
+pub mod Capitals
+pub mod Quoted
+pub mod Rests
+pub mod Names
+pub mod OneWord
+pub mod Choices
+pub mod Fronts
+pub mod TreeKinds
+pub mod ExpressionsRead
+pub mod ExpressionReader
+pub mod PredicateSteps
+pub mod PredicatesRead
+pub mod PredicateReader
+pub mod TextsRead
