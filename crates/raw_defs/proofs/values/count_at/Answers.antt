@@ -1,0 +1,15 @@
+use Rattle.std.proofs.Common.{◌∙◌, ap}
+use Rattle.std.specs.Option.{option_and_then}
+use Rattle.toml.proofs.Views.{table_get}
+use Rattle.raw_defs.specs.Shape.{count_of}
+use Rattle.raw_defs.proofs.values.count_at.Goals as goal
+
+pub returns-in-Some : goal.returns-in-Some
+returns-in-Some c =
+    let found = table_get c.get.result c.args.key.now c.args.table.now.entries c.get.ensures.value in
+    (c.count_of.ensures ∙ ap (option_and_then count_of) c.as_integer.ensures) ∙ rw (← rw c.in-Some.is at found)
+
+pub returns-in-None : goal.returns-in-None
+returns-in-None c =
+    let found = table_get c.get.result c.args.key.now c.args.table.now.entries c.get.ensures.value in
+    rw (← rw c.in-None.is at found)
