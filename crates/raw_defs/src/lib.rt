@@ -17,6 +17,8 @@ ghost use Rattle.repl_types.specs.declared.refusal.DefPlace.{DefPlace as Place};
 ghost use Rattle.raw_defs.specs.Raw.{AreRawDefs};
 
 mod fit;
+#[cfg(test)]
+mod hostile_tests;
 mod keys;
 mod read;
 mod shape;
