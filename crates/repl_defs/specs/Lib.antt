@@ -6,3 +6,4 @@ pub mod Reading
 pub mod ReadingExpressions
 pub mod ReadingPredicates
 pub mod ReadingTexts
+pub mod Entries

@@ -4,6 +4,8 @@
 //! means is in `specs/`: its tokens (`Tokens.antt`), the productions of the grammar, one case each
 //! (`Grammar.antt`), and the limits (`Texts.antt`). A text has one tree at most
 //! (`a_text_has_one_tree`). `Reading*.antt` are words for the contracts of the reader itself.
+//! `split_column` and `split_target` split the entries in which such texts and forms of columns
+//! stand (`Entries.antt`).
 //!
 //! It stands on `repl_definitions`, which has the trees, on `repl_model`, which says what kinds
 //! operands may have, and on `repl_types`; tests compare spellings by `row_codec`. No crate stands
@@ -13,6 +15,9 @@
 //! integer 1, and `qty >= 10 and id <> 3` is both comparisons.
 #![tactic(auto)]
 
+mod entries;
+#[cfg(test)]
+mod entry_tests;
 mod error;
 mod reader;
 #[cfg(test)]
@@ -23,5 +28,6 @@ mod token;
 mod token_tests;
 mod words;
 
+pub use entries::{split_column, split_target};
 pub use error::TextError;
 pub use texts::{a_text_has_one_tree, read_predicate, read_source};
