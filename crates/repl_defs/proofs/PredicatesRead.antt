@@ -25,7 +25,7 @@ use Rattle.repl_defs.proofs.Fronts.{front}
 use Rattle.repl_defs.proofs.Names.{named, names}
 use Rattle.repl_defs.proofs.OneWord.{or_isn't_and}
 use Rattle.repl_defs.proofs.PredicateSteps.{left_leads, right_leads, comparison_leads, is_leads, not_leads, null_leads, not_null_leads, and_leads, or_leads, settles, open_close}
-use Rattle.repl_defs.proofs.TreeKinds.{fits_compare, fits_null, fits_not_null, fits_and, fits_or}
+use Rattle.repl_model.specs.laws.Kinds.{fits_compare, fits_null, fits_not_null, fits_and, fits_or}
 
 -- ---- a predicate of the grammar is read
 

@@ -18,6 +18,7 @@ part_before byte entry = option_map (λ place. take place entry) (place_of byte 
 abbrev pub part_after : ℕ → List ℕ → Option (List ℕ)
 part_after byte entry = option_map (λ place. drop (place + 1) entry) (place_of byte entry)
 
+-- a blank
 abbrev pub is_blank : ℕ → Bool
 is_blank b = b == 32
 

@@ -14,6 +14,7 @@ use Rattle.repl_defs.specs.declared.token.Token.TheVariants.{Word, Number, Text,
 abbrev pub is_capital : ℕ → Bool
 is_capital b = nat_le 65 b && nat_le b 90
 
+-- a digit
 abbrev pub is_digit : ℕ → Bool
 is_digit b = nat_le 48 b && nat_le b 57
 

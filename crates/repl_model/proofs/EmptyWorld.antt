@@ -35,7 +35,7 @@ always (name ∷ names) = (tt, always names)
 -- a server with nothing has a sound log
 log_sound : (name : List ℕ) → LogIsSound (empty_server name)
 unfolding units
-log_sound name = record { short = omega arith; fits = tt; apply = tt; times = refl; early = tt; own = refl; signals = tt }
+log_sound name = record { short = omega arith; typed = tt; fits = tt; apply = tt; times = refl; early = tt; own = refl; signals = tt }
 
 -- its numbers are sound
 numbers_sound : (name : List ℕ) → NumbersAreSound (empty_server name)

@@ -1,12 +1,10 @@
 -- The value of an expression, the truth of a predicate, and what both read, node by node.
-use Rattle.std.proofs.Common.{◌≡◌, ℕ, ℤ, Bool, ◌&&◌, ◌||◌, not, List, [], ◌∷◌, ◌++◌, Option, sym, ap, ◌∙◌}
+use Rattle.std.proofs.Common.{◌≡◌, ℕ, ℤ, Bool, ◌&&◌, ◌||◌, not, List, [], ◌∷◌, ◌++◌, sym, ap, ◌∙◌}
 use Rattle.std.specs.Prelude.{◌+ℤ◌, ◌-ℤ◌, ◌*ℤ◌, slice_index_or}
 use Rattle.repl_types.specs.Value.{Values}
 use Rattle.repl_types.specs.declared.value.Value.{Value}
 use Rattle.repl_types.specs.declared.value.Value.TheVariants.{Null}
 use Rattle.repl_types.specs.declared.value.Value.TheVariants as values
-use Rattle.repl_types.specs.declared.table.Kind.{Kind}
-use Rattle.repl_types.specs.declared.table.ColumnDef.{ColumnDef}
 use Rattle.repl_definitions.specs.declared.expr.Expr.{Expr, fold-roll-Expr}
 use Rattle.repl_definitions.specs.declared.expr.Expr.TheOpen as layer
 use Rattle.repl_definitions.specs.declared.expr.Expr.TheVariants as exprs
@@ -16,7 +14,8 @@ use Rattle.repl_definitions.specs.declared.predicate.Predicate.{Predicate, fold-
 use Rattle.repl_definitions.specs.declared.predicate.Predicate.TheOpen as test
 use Rattle.repl_definitions.specs.declared.predicate.Predicate.TheVariants as predicates
 use Rattle.repl_model.specs.Expressions.{is_null, of_integers, of_texts, layer_value, value_of, operand_value, compares, layer_truth, is_true_of}
-use Rattle.repl_model.specs.Rules.{layer_columns, columns_read, column_kind, is_int, is_text, layer_kind, kind_of, operand_columns, layer_tested, columns_tested, operand_kind, layer_fits, kinds_fit}
+use Rattle.repl_model.specs.Rules.{layer_columns, columns_read, operand_columns, layer_tested, columns_tested}
+use Rattle.repl_model.specs.laws.Kinds.{kind_column, fits_compare}
 
 -- ---- expressions
 
@@ -76,20 +75,12 @@ pub read_column : (place : ℕ) → columns_read (exprs.Column place) ≡ place 
 unfolding columns_read
 read_column place = ap columns_read (sym (exprs.rolls-Column place)) ∙ fold-roll-Expr (List ℕ) layer_columns (layer.Column place)
 
-pub kind_column : (columns : List ColumnDef) (place : ℕ) → kind_of columns (exprs.Column place) ≡ column_kind columns place
-unfolding kind_of
-kind_column columns place = ap (kind_of columns) (sym (exprs.rolls-Column place)) ∙ fold-roll-Expr (Option Kind) (layer_kind columns) (layer.Column place)
-
 pub tested_compare : (left : Operand) (op : CompareOp) (right : Operand) → columns_tested (predicates.Compare left op right) ≡ operand_columns left ++ operand_columns right
 unfolding columns_tested
 tested_compare left op right = ap columns_tested (sym (predicates.rolls-Compare left op right)) ∙ fold-roll-Predicate (List ℕ) layer_tested (test.Compare left op right)
-
-pub fit_compare : (columns : List ColumnDef) (left : Operand) (op : CompareOp) (right : Operand) → kinds_fit columns (predicates.Compare left op right) ≡ (is_int (operand_kind columns left) && is_int (operand_kind columns right) || is_text (operand_kind columns left) && is_text (operand_kind columns right))
-unfolding kinds_fit
-fit_compare columns left op right = ap (kinds_fit columns) (sym (predicates.rolls-Compare left op right)) ∙ fold-roll-Predicate Bool (layer_fits columns) (test.Compare left op right)
 
 -- trees, node by node
 pub ruleset by_nodes = (value_column, value_int, value_text, value_add, value_sub, value_mul, value_concat, truth_compare, truth_null, truth_not_null, truth_and, truth_or)
 
 -- what trees read, node by node
-pub ruleset read_by_nodes = (read_column, kind_column, tested_compare, fit_compare)
+pub ruleset read_by_nodes = (read_column, kind_column, tested_compare, fits_compare)

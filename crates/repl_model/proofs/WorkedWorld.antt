@@ -1,8 +1,10 @@
 -- The worked world is sound.
-use Rattle.std.proofs.Common.{◌≡◌, ◌≤◌, ◌+◌, [], ◌∷◌, length, refl, inl, arith}
+use Rattle.std.proofs.Common.{◌≡◌, ℕ, ◌≤◌, ◌<◌, ◌+◌, List, [], ◌∷◌, length, codes, refl, inl, arith}
+use Rattle.std.specs.Prelude.{pos}
 use Rattle.std.specs.List.{flat_map}
 use Rattle.repl_types.specs.Sizes.{value_limit}
-use Rattle.row_codec.specs.Spelling.{b16, b32, b64}
+use Rattle.repl_types.specs.declared.value.Value.TheVariants.{Int}
+use Rattle.row_codec.specs.Spelling.{b16, b32, b64, IsRow, IsText}
 use Rattle.repl_definitions.specs.declared.expr.Expr.TheVariants as exprs
 use Rattle.repl_definitions.specs.Members.{IsMember}
 use Rattle.repl_definitions.specs.Sets.{IsSetDef, set_def_spelling}
@@ -16,7 +18,7 @@ use Rattle.repl_model.specs.Rules.{MemberKeepsRules}
 use Rattle.repl_model.specs.SoundLogs.{LogIsSound}
 use Rattle.repl_model.specs.SoundDefinitions.{SetKeepsLimits, ServerKeepsRules, KnownSetKeepsRules, DefinitionsAreSound}
 use Rattle.repl_model.specs.Sound.{NumbersAreSound, TrailIsSound, IsSound}
-use Rattle.repl_model.specs.WorkedOrders.{orders, orders_of}
+use Rattle.repl_model.specs.WorkedOrders.{orders, orders_of, order}
 use Rattle.repl_model.specs.WorkedCopies.{changed_log}
 use Rattle.repl_model.specs.WorkedWorld.{orders_copy, copied_set, hq, shop, worked_world, copied}
 use Rattle.repl_model.proofs.Trees.{read_by_nodes}
@@ -31,11 +33,49 @@ one_known = refl
 
 -- ---- logs
 
+-- the items are texts
+pen_is_text : IsText (codes "pen")
+unfolding lib.Utf8.encode
+pen_is_text = (omega arith, (codes "pen", (refl, refl)))
+
+ink_is_text : IsText (codes "ink")
+unfolding lib.Utf8.encode
+ink_is_text = (omega arith, (codes "ink", (refl, refl)))
+
+-- an order of small numbers is a row
+order_is_row : (id qty : ℕ) (thing : List ℕ) → id < 1000 → qty < 1000 → IsText thing → IsRow (order id thing (Int (pos qty)))
+order_is_row id qty thing small few text = (omega arith, (record { sfits = omega (arith, small) }, (text, (record { sfits = omega (arith, few) }, tt))))
+
 -- the log of the source is sound
 hq_log_sound : LogIsSound hq
 unfolding units change_fits
 hq_log_sound = record {
   short = omega arith;
+  typed = (
+    (omega arith, refl),
+    (
+      (omega arith, omega arith, refl, (refl, refl)),
+      (
+        (omega arith, refl, order_is_row 1 20 (codes "pen") (omega arith) (omega arith) pen_is_text),
+        (
+          (omega arith, refl, order_is_row 2 5 (codes "ink") (omega arith) (omega arith) ink_is_text),
+          (
+            (omega arith, omega arith, refl, tt),
+            (
+              (omega arith, refl, order_is_row 2 5 (codes "ink") (omega arith) (omega arith) ink_is_text, order_is_row 2 12 (codes "ink") (omega arith) (omega arith) ink_is_text),
+              (
+                (omega arith, refl, order_is_row 1 20 (codes "pen") (omega arith) (omega arith) pen_is_text, order_is_row 1 9 (codes "pen") (omega arith) (omega arith) pen_is_text),
+                (
+                  (omega arith, omega arith, refl, tt),
+                  tt,
+                ),
+              ),
+            ),
+          ),
+        ),
+      ),
+    ),
+  );
   fits = (refl, (refl, (refl, (refl, (refl, (refl, (refl, (refl, tt))))))));
   apply = (all_apply_first orders (flat_map (λ u. unplaced u.changes) (units changed_log)), tt);
   times = refl;
@@ -47,7 +87,7 @@ hq_log_sound = record {
 -- and that of the target, which is empty
 shop_log_sound : LogIsSound shop
 unfolding units
-shop_log_sound = record { short = omega arith; fits = tt; apply = tt; times = refl; early = tt; own = refl; signals = tt }
+shop_log_sound = record { short = omega arith; typed = tt; fits = tt; apply = tt; times = refl; early = tt; own = refl; signals = tt }
 
 -- ---- numbers
 

@@ -26,3 +26,4 @@ pub mod WorkedCopies
 pub mod WorkedExpressions
 pub mod WorkedSums
 pub mod WorkedWorld
+pub mod laws

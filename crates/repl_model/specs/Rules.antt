@@ -1,5 +1,5 @@
--- The rules that definitions keep. Each says what is not allowed to a table, a registration, a member, or
--- two of them, in the words of the refusal that names it.
+-- The rules that definitions keep: what must hold of a table, of a registration, and of a member over its
+-- source.
 use Rattle.std.specs.Prelude.{◌≡◌, ℕ, Bool, true, false, IsTrue, ◌&&◌, ◌||◌, not, ◌==◌, nat_lt, if◌then◌else◌, List, [], ◌∷◌, ◌++◌, length, count_by, Option, Some, None, is_some, slice_get}
 use Rattle.std.specs.List.{list_all, list_any, range_with_len}
 use Rattle.std.specs.Option.{option_map, option_map_or}
@@ -84,7 +84,7 @@ before_images_fit reg = places_rise reg.before && are_among reg.after reg.before
 
 -- ---- expressions and predicates
 
--- the columns that an expression reads
+-- the columns that an expression reads, given those that the expressions below it read
 abbrev pub layer_columns : Expr-F (List ℕ) → List ℕ
 layer_columns (layer.Column place) = place ∷ []
 layer_columns (layer.Int n) = []
@@ -94,6 +94,7 @@ layer_columns (layer.Sub left right) = left ++ right
 layer_columns (layer.Mul left right) = left ++ right
 layer_columns (layer.Concat left right) = left ++ right
 
+-- the columns that an expression reads
 unfoldable pub columns_read : Expr → List ℕ
 columns_read = fold-Expr (List ℕ) layer_columns
 
@@ -113,7 +114,7 @@ is_text None = false
 is_text (Some kinds.Int) = false
 is_text (Some kinds.Text) = true
 
--- the kind of an expression, if its operations have operands of their kinds
+-- the kind of an expression, given the kinds of those below it, if its operation has operands of its kind
 abbrev pub layer_kind : List ColumnDef → Expr-F (Option Kind) → Option Kind
 layer_kind columns (layer.Column place) = column_kind columns place
 layer_kind columns (layer.Int n) = Some kinds.Int
@@ -123,6 +124,7 @@ layer_kind columns (layer.Sub left right) = if is_int left && is_int right then 
 layer_kind columns (layer.Mul left right) = if is_int left && is_int right then Some kinds.Int else None
 layer_kind columns (layer.Concat left right) = if is_text left && is_text right then Some kinds.Text else None
 
+-- the kind of an expression, if its operations have operands of their kinds
 unfoldable pub kind_of : List ColumnDef → Expr → Option Kind
 kind_of columns = fold-Expr (Option Kind) (layer_kind columns)
 
@@ -131,7 +133,7 @@ abbrev pub operand_columns : Operand → List ℕ
 operand_columns (operands.Column place) = place ∷ []
 operand_columns (operands.Value v) = []
 
--- the columns that a predicate reads
+-- the columns that a predicate reads, given those that the predicates below it read
 abbrev pub layer_tested : Predicate-F (List ℕ) → List ℕ
 layer_tested (test.Compare left op right) = operand_columns left ++ operand_columns right
 layer_tested (test.IsNull place) = place ∷ []
@@ -139,6 +141,7 @@ layer_tested (test.IsNotNull place) = place ∷ []
 layer_tested (test.And left right) = left ++ right
 layer_tested (test.Or left right) = left ++ right
 
+-- the columns that a predicate reads
 unfoldable pub columns_tested : Predicate → List ℕ
 columns_tested = fold-Predicate (List ℕ) layer_tested
 
@@ -153,7 +156,7 @@ abbrev pub operand_kind : List ColumnDef → Operand → Option Kind
 operand_kind columns (operands.Column place) = column_kind columns place
 operand_kind columns (operands.Value v) = value_kind v
 
--- the two sides of each comparison of a predicate have one kind
+-- the two sides of a comparison have one kind, and what is below fits
 abbrev pub layer_fits : List ColumnDef → Predicate-F Bool → Bool
 layer_fits columns (test.Compare left op right) = is_int (operand_kind columns left) && is_int (operand_kind columns right)
     || is_text (operand_kind columns left) && is_text (operand_kind columns right)
@@ -162,6 +165,7 @@ layer_fits columns (test.IsNotNull place) = true
 layer_fits columns (test.And left right) = left && right
 layer_fits columns (test.Or left right) = left && right
 
+-- the two sides of each comparison of a predicate have one kind
 unfoldable pub kinds_fit : List ColumnDef → Predicate → Bool
 kinds_fit columns = fold-Predicate Bool (layer_fits columns)
 
@@ -226,6 +230,7 @@ sums_texts columns (Max place) = false
 abbrev pub filter_columns : Member → List ℕ
 filter_columns member = option_map_or columns_tested member.filter []
 
+-- a replica
 abbrev pub is_replica : TargetKind → Bool
 is_replica UserCopy = false
 is_replica PointInTime = false
@@ -238,6 +243,7 @@ is_replica Replica = true
 abbrev pub is_replica_set : SetDef → Bool
 is_replica_set def = list_any (λ member. is_replica member.kind) def.members
 
+-- an aggregate of either kind
 abbrev pub is_aggregate : TargetKind → Bool
 is_aggregate UserCopy = false
 is_aggregate PointInTime = false
@@ -255,6 +261,7 @@ is_copy ChangeAggregate = false
 is_copy (Ccd complete condensed) = false
 is_copy Replica = false
 
+-- a condensed consistent-change-data table
 abbrev pub is_condensed : TargetKind → Bool
 is_condensed UserCopy = false
 is_condensed PointInTime = false

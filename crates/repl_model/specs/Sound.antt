@@ -23,13 +23,13 @@ is_seq log point = list_any (λ u. u.head.seq == point) (units log)
 abbrev pub is_seq_or_zero : List LogRecord → ℕ → Bool
 is_seq_or_zero log point = point == 0 || is_seq log point
 
--- The numbers part, of one server: captured is a unit's seq or 0, and no start, floor or shown code is above
--- it.
+-- The numbers part, of one server: captured is a unit's seq or 0, no start, floor or shown code is above it,
+-- and the shown codes are 1 to 4.
 pub record NumbersAreSound (server : Server) : Type 0 where
   pub captured : IsTrue (is_seq_or_zero server.log server.captured)
   pub floor : server.floor ≤ server.captured
   pub registered : AllByRecursion (λ r. (r.start ≤ server.captured) × (r.floor ≤ server.captured)) (registered_of server)
-  pub shown : AllByRecursion (λ c. c.0 ≤ server.captured) server.shown
+  pub shown : AllByRecursion (λ c. (c.0 ≤ server.captured) × (0 < c.1) × (c.1 ≤ 4)) server.shown
 
 -- ---- trails
 

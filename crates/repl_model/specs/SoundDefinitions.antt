@@ -17,20 +17,23 @@ use Rattle.repl_model.specs.World.{ServerTable, SourceSide, TargetSide, Server, 
 use Rattle.repl_model.specs.Replicas.{comes_from}
 use Rattle.repl_model.specs.Rules.{all_differ, is_replica, is_replica_set, TableKeepsRules, RegistrationKeepsRules, MemberKeepsRules, ReplicaKeepsRules}
 
--- how many servers a group may have, how many tables, and how many sets at each of its sides, a server, how
--- many columns a table or a target, and how many members a set
+-- the most servers of a group
 abbrev pub server_limit : ℕ
 server_limit = 16
 
+-- the most tables of a server
 abbrev pub table_limit : ℕ
 table_limit = 256
 
+-- the most sets of a server at each of its two sides
 abbrev pub set_limit : ℕ
 set_limit = 256
 
+-- the most columns of a table or of a target
 abbrev pub column_limit : ℕ
 column_limit = 64
 
+-- the most members of a set
 abbrev pub member_limit : ℕ
 member_limit = 64
 

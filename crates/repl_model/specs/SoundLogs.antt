@@ -4,6 +4,7 @@ use Rattle.std.specs.List.{AllByRecursion, flat_map, list_all, list_any}
 use Rattle.std.specs.FinMap.{empty}
 use Rattle.repl_types.specs.declared.record.LogRecord.{LogRecord}
 use Rattle.repl_types.specs.declared.unit.Unit.{Unit}
+use Rattle.row_codec.specs.LogRecords.{IsLogRecord}
 use Rattle.repl_model.specs.Tables.{all_apply}
 use Rattle.repl_model.specs.Units.{units}
 use Rattle.repl_model.specs.SourceAt.{unplaced}
@@ -65,11 +66,12 @@ times_rise time (u ∷ us) = nat_le time u.head.time && times_rise u.head.time u
 abbrev pub time_limit : ℕ
 time_limit = 1000000000000
 
--- The logs part, of one server: the log is short enough, its records fit the server, its units apply one
--- after another to each table and their times rise, and the program's own units are whole, with starts and
--- stops in units of their own.
+-- The logs part, of one server: the log is short enough; its names are names, and its numbers and values are
+-- in their ranges; its records fit the server, its units apply one after another to each table and their
+-- times don't fall; and the program's own units are whole, with starts and stops in units of their own.
 pub record LogIsSound (server : Server) : Type 0 where
   pub short : length server.log ≤ log_limit
+  pub typed : AllByRecursion IsLogRecord server.log
   pub fits : AllByRecursion (λ r. IsTrue (record_fits server r)) server.log
   pub apply : AllByRecursion (λ def. IsTrue (all_apply def (flat_map (λ u. unplaced u.changes) (units server.log)) empty)) (tables_of server)
   pub times : IsTrue (times_rise 0 (units server.log))

@@ -3,36 +3,38 @@ use Rattle.std.specs.Prelude.{◌≡◌, ◌⊎◌, ℕ, ◌<◌, ◌≤◌, IsT
 use Rattle.std.specs.List.{AllByRecursion, AllZip, list_all, list_any}
 use Rattle.repl_types.specs.declared.record.Change.{Change}
 use Rattle.repl_types.specs.declared.unit.Unit.{Unit}
+use Rattle.row_codec.specs.Spelling.{Is64}
 use Rattle.repl_model.specs.Units.{units, last_commit}
 use Rattle.repl_model.specs.SourceAt.{source_at, units_between}
 use Rattle.repl_model.specs.Trails.{Trail, refresh, block, load, settle, synchpoint, replica_point, loaded_at}
 use Rattle.repl_model.specs.World.{KnownSet, tables_of, source_named, code_in}
 use Rattle.repl_model.specs.Replicas.{comes_from, part_of, has_part, meets}
 
--- the points of a settling are no lower than those before, and one is higher
+-- the points of a settling are no lower than those before, and one is higher; its counts have eight bytes
 abbrev pub SettlesFrom : ℕ → ℕ → Trail → Type 0
 SettlesFrom m f [] = ⊤
-SettlesFrom m f (settle m' f' rejected applied ∷ trail) = (m ≤ m') × (f ≤ f') × ((m < m') ⊎ (f < f')) × SettlesFrom m' f' trail
+SettlesFrom m f (settle m' f' rejected applied ∷ trail) = (m ≤ m') × (f ≤ f') × ((m < m') ⊎ (f < f')) × Is64 rejected × Is64 applied × SettlesFrom m' f' trail
 SettlesFrom m f (load m' f' rows ∷ trail) = ⊥
 SettlesFrom m f (refresh p q ∷ trail) = ⊥
 SettlesFrom m f (block low high q ∷ trail) = ⊥
 
--- the trail of a replica set: one load, and settlings after it
+-- the trail of a replica set: one load, whose count has eight bytes, and settlings after it
 abbrev pub IsReplicaTrail : Trail → Type 0
 IsReplicaTrail [] = ⊤
-IsReplicaTrail (load m f rows ∷ trail) = SettlesFrom m f trail
+IsReplicaTrail (load m f rows ∷ trail) = Is64 rows × SettlesFrom m f trail
 IsReplicaTrail (settle m f rejected applied ∷ trail) = ⊥
 IsReplicaTrail (refresh p q ∷ trail) = ⊥
 IsReplicaTrail (block low high q ∷ trail) = ⊥
 
--- the points of a replica set: the master's, and the replica's
+-- the master's point of a replica set: up to there the replica has the master's units
 abbrev pub master_point : KnownSet → ℕ
 master_point k = synchpoint k.at_target.trail
 
+-- the replica's point: up to there its own units are settled
 abbrev pub settled_point : KnownSet → ℕ
 settled_point k = replica_point k.at_target.trail
 
--- the units of the replica after its load and up to a point that aren't from the set
+-- the units of the replica after one point and up to another that aren't from the set
 abbrev pub users_units : KnownSet → ℕ → ℕ → List Unit
 users_units k low high = filter (λ u. not (comes_from k.at_target.def.id u)) (units_between low high k.target.log)
 

@@ -15,6 +15,7 @@ pub data Entry : Type 0 where
   -- rejected, and how many of the master's were applied
   settle : ℕ → ℕ → ℕ → ℕ → Entry
 
+-- what was done, in order
 abbrev pub Trail : Type 0
 Trail = List Entry
 

@@ -34,6 +34,7 @@ uow_rows server = map (λ u. (u.head.seq, record { time = u.head.time; authid = 
 abbrev pub capture_state : Server → CaptureState
 capture_state server = record { captured = server.captured; restart = restart_after server.log server.captured; floor = server.floor }
 
+-- its one row
 abbrev pub capture_rows : Server → List (Single × CaptureState)
 capture_rows server = (record {}, capture_state server) ∷ []
 

@@ -16,6 +16,7 @@ use Rattle.repl_model.specs.World.{ServerTable, Server}
 abbrev pub numbered_tables : Server → List (ℕ × ServerTable)
 numbered_tables server = enumerate_from 0 server.tables
 
+-- the tables, under their names
 abbrev pub table_rows : Server → List (List ℕ × DefinedTable)
 table_rows server = by_key name_cmp (map (λ t. (t.1.def.name, record { number = t.0; def = t.1.def })) (numbered_tables server))
 
@@ -23,11 +24,14 @@ table_rows server = by_key name_cmp (map (λ t. (t.1.def.name, record { number =
 abbrev pub defined_registration : ℕ × ServerTable → Option (List ℕ × DefinedRegistration)
 defined_registration t = option_map (λ r. (t.1.def.name, record { number = t.0; registration = r.reg })) t.1.registered
 
+-- the registrations, under the names of their tables
 abbrev pub registration_rows : Server → List (List ℕ × DefinedRegistration)
 registration_rows server = by_key name_cmp (filter_map defined_registration (numbered_tables server))
 
+-- the sets whose source the server is, under their names
 abbrev pub source_set_rows : Server → List (SetId × SourceSet)
 source_set_rows server = by_key set_cmp (map (λ s. (s.1.def.id, record { number = s.0; def = s.1.def })) (enumerate_from 0 server.source_sets))
 
+-- the sets whose target it is, under their names
 abbrev pub target_set_rows : Server → List (SetId × TargetSet)
 target_set_rows server = by_key set_cmp (map (λ s. (s.1.def.id, record { number = s.0; def = s.1.def })) (enumerate_from 0 server.target_sets))

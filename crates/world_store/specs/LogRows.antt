@@ -40,5 +40,6 @@ in_flight_rows server = by_key in_flight_key_cmp (map (λ key. (key, record {}))
 abbrev pub head_of : Server → Head
 head_of server = record { last = length server.log; commit = last_commit server.log; time = last_time (units server.log) }
 
+-- its one row
 abbrev pub head_rows : Server → List (Single × Head)
 head_rows server = (record {}, head_of server) ∷ []

@@ -80,6 +80,7 @@ state_of world side = if is_replica_set side.def
 abbrev pub numbered_target_sets : Server → List (ℕ × TargetSide)
 numbered_target_sets server = enumerate_from 0 server.target_sets
 
+-- the states of the sets, under their numbers
 abbrev pub set_state_rows : World → Server → List (ℕ × SetState)
 set_state_rows world server = map (λ s. (s.0, state_of world s.1)) (numbered_target_sets server)
 
@@ -149,16 +150,19 @@ member_changes world def low high member = by_kind member.kind
 abbrev pub count_op : (Op → Bool) → List CdRow → ℕ
 count_op is_op changes = count_by (λ change. is_op change.op) changes
 
+-- an insert
 abbrev pub is_insert : Op → Bool
 is_insert I = true
 is_insert U = false
 is_insert D = false
 
+-- an update
 abbrev pub is_update : Op → Bool
 is_update I = false
 is_update U = true
 is_update D = false
 
+-- a delete
 abbrev pub is_delete : Op → Bool
 is_delete I = false
 is_delete U = false
