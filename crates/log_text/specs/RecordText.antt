@@ -9,9 +9,9 @@ use Rattle.repl_types.specs.declared.record.Change.TheVariants.{Insert, Update, 
 use Rattle.repl_types.specs.declared.record.LogRecord.{LogRecord}
 use Rattle.repl_types.specs.declared.record.LogRecord.TheVariants as records
 use Rattle.repl_types.specs.declared.record.SetId.{SetId}
-use Rattle.repl_types.specs.Sizes.{row_limit}
+use Rattle.repl_types.specs.Sizes.{row_limit, time_limit}
 use Rattle.log_text.specs.Words.{blank}
-use Rattle.log_text.specs.Records.{tx_limit, time_limit}
+use Rattle.log_text.specs.Records.{tx_limit}
 
 -- ---- writing
 

@@ -6,7 +6,7 @@ use Rattle.std.specs.Str.{bytes_eq}
 use Rattle.repl_types.specs.Value.{Values}
 use Rattle.repl_types.specs.Name.{name_of}
 use Rattle.repl_types.specs.Numbers.{number_of}
-use Rattle.repl_types.specs.Sizes.{row_limit}
+use Rattle.repl_types.specs.Sizes.{row_limit, time_limit}
 use Rattle.repl_types.specs.ValueText.{value_of}
 use Rattle.repl_types.specs.declared.record.Change.{Change}
 use Rattle.repl_types.specs.declared.record.Change.TheVariants.{Insert, Update, Delete}
@@ -22,10 +22,6 @@ o >>= f = option_and_then f o
 -- the highest number of a user's transaction
 abbrev pub tx_limit : ℕ
 tx_limit = 4294967295
-
--- the latest time of a user's commit, in seconds
-abbrev pub time_limit : ℕ
-time_limit = 1000000000000
 
 -- the number of a user's transaction, 1 to 4294967295
 abbrev pub tx_of : List ℕ → Option ℕ

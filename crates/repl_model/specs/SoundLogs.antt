@@ -2,6 +2,7 @@
 use Rattle.std.specs.Prelude.{ℕ, ◌≤◌, Bool, true, false, IsTrue, ◌&&◌, ◌||◌, not, ◌==◌, nat_le, List, [], ◌∷◌, length, map}
 use Rattle.std.specs.List.{AllByRecursion, flat_map, list_all, list_any}
 use Rattle.std.specs.FinMap.{empty}
+use Rattle.repl_types.specs.Sizes.{time_limit}
 use Rattle.repl_types.specs.declared.record.LogRecord.{LogRecord}
 use Rattle.repl_types.specs.declared.unit.Unit.{Unit}
 use Rattle.row_codec.specs.LogRecords.{IsLogRecord}
@@ -61,10 +62,6 @@ signals_stand_alone u = list_all is_signal (unplaced u.changes) || not (list_any
 abbrev pub times_rise : ℕ → List Unit → Bool
 times_rise time [] = true
 times_rise time (u ∷ us) = nat_le time u.head.time && times_rise u.head.time us
-
--- the latest time of a commit, in seconds
-abbrev pub time_limit : ℕ
-time_limit = 1000000000000
 
 -- The logs part, of one server: the log is short enough; its names are names, and its numbers and values are
 -- in their ranges; its records fit the server, its units apply one after another to each table and their

@@ -1,4 +1,4 @@
--- How large a name, a text, a row of a log record, a stored key and a stored value may be.
+-- How large a name, a text, a row of a log record, a time, a stored key and a stored value may be.
 use Rattle.std.specs.Prelude.{ℕ, ◌<◌, ◌≤◌, List, length}
 
 -- the most bytes of a name
@@ -12,6 +12,10 @@ text_limit = 1000
 -- the most values of a row in a log record that a line spells
 abbrev pub row_limit : ℕ
 row_limit = 64
+
+-- the latest time, in seconds
+abbrev pub time_limit : ℕ
+time_limit = 1000000000000
 
 -- the most bytes of a stored key
 abbrev pub key_limit : ℕ

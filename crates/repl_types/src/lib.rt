@@ -32,7 +32,7 @@ pub use area::Area;
 pub use change_row::{CdRow, Op, Registration};
 pub use laws::{keys_in_order, one_spelling_of_a_number, one_spelling_of_a_value, value_fits};
 pub use list::{Bytes, List};
-pub use name::{Name, NameError};
+pub use name::{Name, NameError, is_name};
 pub use record::{Change, LogRecord, SetId};
 pub use refusal::{DefPlace, GapPlace, ItemName, LimitKind, Refusal};
 pub use sequence::{Sequence, sequence_order, write_sequence};

@@ -88,7 +88,7 @@ fn is_name_byte(byte: u8) -> bool
 }
 
 /// Whether bytes are a name.
-fn is_name(bytes: &[u8]) -> bool
+pub fn is_name(bytes: &[u8]) -> bool
     ensures { result ≡ is_name_lem bytes.now }
 {
     match bytes {

@@ -36,11 +36,11 @@ only n s a q b = if same_area a b && (s == q) then n else 0
 abbrev pub no_access : Bounds
 no_access = record { reads = λ s a. 0; writes = λ s a. 0 }
 
--- one area of one server is read at most so often, and nothing is written
+-- one area of one server is read at most this many times, and nothing is written
 abbrev pub reads_of_one : ℕ → ℕ → Area → Bounds
 reads_of_one n s a = record { reads = only n s a; writes = λ q b. 0 }
 
--- one area of one server is written at most so often, and nothing is read
+-- one area of one server is written at most this many times, and nothing is read
 abbrev pub writes_of_one : ℕ → ℕ → Area → Bounds
 writes_of_one n s a = record { reads = λ q b. 0; writes = only n s a }
 
@@ -48,17 +48,17 @@ writes_of_one n s a = record { reads = λ q b. 0; writes = only n s a }
 abbrev pub both : Bounds → Bounds → Bounds
 both x y = record { reads = λ s a. x.reads s a + y.reads s a; writes = λ s a. x.writes s a + y.writes s a }
 
--- one area of one server is read at most so often, and one area of one server written
+-- one area of one server is read, and one area of one server written, at most these numbers of times
 abbrev pub reads_and_writes : ℕ → ℕ → Area → ℕ → ℕ → Area → Bounds
 reads_and_writes m s a n t b = both (reads_of_one m s a) (writes_of_one n t b)
 
--- Each area of each server was read, and written, at most so often.
+-- Each area of each server was read and written at most as many times as the bounds say.
 pub record IsWithin {K : Type 0} (kept : K → Kept) (old new : Sites K) (most : Bounds) : Type 0 where
   pub reads : (s : ℕ) (a : Area) → slice_index_or (reads_in kept a new) s 0 ≤ slice_index_or (reads_in kept a old) s 0 + most.reads s a
   pub writes : (s : ℕ) (a : Area) → slice_index_or (writes_in kept a new) s 0 ≤ slice_index_or (writes_in kept a old) s 0 + most.writes s a
 
 -- What every call keeps: the names stay, no count of faults falls, nor one of reads or of writes that
--- is below its maximum, and areas are read and written so often at most.
+-- is below its maximum, and areas are read and written within the bounds.
 pub record Passes {K : Type 0} (kept : K → Kept) (old new : Sites K) (most : Bounds) : Type 0 where
   pub names : names new ≡ names old
   pub faults : NoneFell (fault_counts kept old) (fault_counts kept new)

@@ -16,7 +16,7 @@ pub record ChangesOne (rules : Rules) (a : Area) (t : ℕ) (c d : Contents) : Ty
   pub areas : (b : Area) (u : ℕ) → same_area a b ≡ false → d b u ≡ c b u
   pub adds : AddsOnlySpelt rules c d
 
--- The server's open transaction went on by this step, and every server holds what it held.
+-- The server's open transaction went on by this step, within these bounds, and every server holds what it held.
 pub record WorksOn {K : Type 0} (kept : K → Kept) (old new : Sites K) (server : ℕ) (most : Bounds) (step : Contents → Contents → Type 0) : Type 0 where
   pub passes : Passes kept old new most
   pub held : held kept new ≡ held kept old
