@@ -12,3 +12,4 @@ pub mod PredicateSteps
 pub mod PredicatesRead
 pub mod PredicateReader
 pub mod TextsRead
+pub mod TextTrees

@@ -71,7 +71,7 @@ found : (columns : List ColumnDef) (word column : List ℕ) (place : ℕ) (from 
 found columns word column place from n h = inr (ap (option_and_then (function_named word)) (named n) ∙ h)
 
 -- each source is found
-is_found : (columns : List ColumnDef) (ts : List Token) (from : ColumnFrom) → IsSource columns ts from → IsFound columns ts from
+pub is_found : (columns : List ColumnDef) (ts : List Token) (from : ColumnFrom) → IsSource columns ts from → IsFound columns ts from
 is_found columns ts from (plain us e d) = inl (e, refl, d)
 is_found columns ts from (rows word h) = inr (if_true _ _ h)
 is_found columns ts from (count word column place h n) = found columns word column place (CountOf place) n (if_true _ _ h)
@@ -89,7 +89,7 @@ nothing None e h = cc
 nothing (Some place) e h = cc
 
 -- an expression is no function of rows
-no_summary : (columns : List ColumnDef) (ts : List Token) (e : Expr) → outcome columns (awaits same same []) ts ≡ Some e → summary_of columns ts ≡ None
+pub no_summary : (columns : List ColumnDef) (ts : List Token) (e : Expr) → outcome columns (awaits same same []) ts ≡ Some e → summary_of columns ts ≡ None
 unfolding outcome
 no_summary columns (Word word ∷ Open ∷ Times ∷ Close ∷ []) e h = absurd (nothing (place_named columns word) e h)
 no_summary columns (Word word ∷ Open ∷ Word column ∷ Close ∷ []) e h = absurd (nothing (place_named columns word) e h)

@@ -6,4 +6,5 @@ pub mod Reading
 pub mod ReadingExpressions
 pub mod ReadingPredicates
 pub mod ReadingTexts
+pub mod Trees
 pub mod Entries

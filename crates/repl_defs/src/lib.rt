@@ -30,4 +30,7 @@ mod words;
 
 pub use entries::{split_column, split_target};
 pub use error::TextError;
-pub use texts::{a_text_has_one_tree, read_predicate, read_source};
+pub use texts::{
+    DEFINITION_TEXT_LIMIT, a_text_has_one_tree, find_predicate, find_source, read_predicate,
+    read_source, the_tree_of_a_text,
+};

@@ -1,0 +1,4 @@
+pub mod Spelled
+pub mod Context
+pub mod Rules
+pub mod Broken

@@ -1,0 +1,60 @@
+//! Definitions that keep the rules: `check` takes definitions as they are written, together with
+//! those that are known, and gives the definitions that they spell, or the lowest rule that they
+//! break and the first item that breaks it.
+//!
+//! Below it are `repl_commands`, whose `RawDefs` it takes, `repl_defs`, which reads the texts of
+//! columns and predicates, `repl_definitions`, which has sets and members, and `repl_model`, whose
+//! rules over a member and its source it asks. No crate stands on it yet. `specs/Spelled.antt` says
+//! which definitions items spell, `specs/Context.antt` what stands beside a text,
+//! `specs/Rules.antt` has each rule, and `specs/Broken.antt` says which one is broken, and where.
+//!
+//! For example, a text with a registration of the table `pens` at `hq`, where neither the text nor
+//! what is known has such a table, breaks rule 6 at its first registration.
+#![tactic(auto)]
+
+ghost use Rattle.std.specs.Prelude.{◌≡◌, ℕ, Some, None, IfOk};
+ghost use Rattle.repl_types.specs.declared.refusal.DefPlace.{DefPlace as Place};
+ghost use Rattle.checked_defs.specs.Context.{context_of as context_of_lem};
+ghost use Rattle.checked_defs.specs.Broken.{rules, first_broken, defs_of};
+
+mod beside;
+mod columns;
+mod context;
+mod defs;
+mod find_break;
+mod links;
+mod members;
+mod names;
+mod once;
+mod reads;
+mod registrations;
+mod replicas;
+mod rule;
+mod spelled;
+mod tables;
+#[cfg(test)]
+mod tests;
+
+use crate::beside::context_of;
+use crate::find_break::find_break;
+use crate::spelled::read_defs;
+pub use defs::{Defs, RegistrationAt, TableAt};
+use repl_commands::{DefsError, RawDefs};
+use std::alloc::Global;
+
+/// The definitions that a text spells, if it keeps rules 2 to 14 together with the known
+/// definitions whose names don't stand in it. `Broken` names the lowest rule that is broken, and
+/// the first item of the text that breaks it. `Memory` may be answered whenever the machine runs
+/// out of memory.
+pub fn check(alloc: Global, raw: &RawDefs, known: &Defs) -> Result<Defs, DefsError>
+    ensures ok { IfOk result (λ defs. defs ≡ defs_of raw.now (context_of_lem raw.now known.now).tables) }
+    ensures kept { IfOk result (λ _. first_broken raw.now (context_of_lem raw.now known.now) rules ≡ None) }
+    ensures broken { (rule : ℕ) (place : Place) → result ≡ Err (DefsError.Broken rule place)
+        → first_broken raw.now (context_of_lem raw.now known.now) rules ≡ Some (rule, place) }
+{
+    let context = context_of(alloc, raw, known)?;
+    if let Some((rule, place)) = find_break(alloc, raw, &context)? {
+        return Err(DefsError::Broken { rule, place });
+    }
+    Ok(read_defs(alloc, raw, context.tables.as_slice())?)
+}
