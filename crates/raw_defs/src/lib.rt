@@ -2,7 +2,7 @@
 //! written.
 //!
 //! It stands on `repl_commands`, whose `RawDefs` it gives, and on `toml`, which reads the document.
-//! No crate stands on it yet. `specs/Shape.antt` lists the keys of each kind of item and says which
+//! Tests of `checked_defs` use it. `specs/Shape.antt` lists the keys of each kind of item and says which
 //! documents have the shape of definitions; `specs/Raw.antt` says which definitions a document
 //! states. A document that hasn't this shape breaks rule 1; all other rules are checked later, on
 //! `RawDefs`.

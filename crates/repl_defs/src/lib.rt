@@ -1,6 +1,7 @@
 //! Definitions as a user writes them: the texts of columns and predicates.
 //!
-//! `read_source` and `read_predicate` give the tree of a text, or say that it has none. What a text
+//! `read_source` and `read_predicate` give the tree of a text, or say that it has none;
+//! `find_source` and `find_predicate` do so for bytes. What a text
 //! means is in `specs/`: its tokens (`Tokens.antt`), the productions of the grammar, one case each
 //! (`Grammar.antt`), and the limits (`Texts.antt`). A text has one tree at most
 //! (`a_text_has_one_tree`). `Reading*.antt` are words for the contracts of the reader itself.
@@ -8,8 +9,8 @@
 //! stand (`Entries.antt`).
 //!
 //! It stands on `repl_definitions`, which has the trees, on `repl_model`, which says what kinds
-//! operands may have, and on `repl_types`; tests compare spellings by `row_codec`. No crate stands
-//! on it yet.
+//! operands may have, and on `repl_types`; tests compare spellings by `row_codec`. On it stands
+//! `checked_defs`.
 //!
 //! For example, over the columns `id` and `qty` the text `qty + 1` is the sum of column 1 and the
 //! integer 1, and `qty >= 10 and id <> 3` is both comparisons.
