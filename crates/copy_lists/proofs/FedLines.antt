@@ -2,6 +2,7 @@
 use Rattle.std.proofs.Common.{◌≡◌, ℕ, ◌+◌, ◌<◌, ◌≤◌, Bool, true, cond, List, [], ◌∷◌, length, Option, Some, None, refl, sym, ap, subst, ◌∙◌, arith}
 use Rattle.std.specs.Prelude.{is_some, not, IfSome}
 use Rattle.std.specs.Option.{option_map}
+use Rattle.std.specs.Str.Lines.{lines}
 use Rattle.std.proofs.lemmas.Option.{same_Some}
 use Rattle.std.proofs.lemmas.List.{nil_from_length, length-append}
 use Rattle.std.proofs.lemmas.Bool.{lt-ltb, le-ltb, true≢false}
@@ -14,7 +15,7 @@ use Rattle.line_input.specs.Limits.{line_limit, input_limit}
 use Rattle.copy_lists.specs.Feed.{Outcome, skipped, taken, refused, short_outcome, outcome, after_outcome, feed_from}
 use Rattle.copy_lists.specs.declared.feed.Fed.{Fed}
 use Rattle.line_input.specs.declared.input.Input.{Input}
-use Rattle.line_input.specs.declared.input.Next.TheVariants.{End}
+use Rattle.line_input.specs.declared.input.Next.TheVariants.{End, LongLine}
 use Rattle.line_input.specs.Input.{piece_left, left_of, total_of, ReadsLine}
 use Rattle.copy_lists.specs.Fed.{resumed, Leaves, LeadsToFeed}
 
@@ -53,6 +54,18 @@ line_fed before now refusal number line more cause none h leaves =
     outcome_fed before now number more (short_outcome before.records line) cause leaves
     ∙ sym (ap (λ (r : Option Refused). resumed before.records r number (line ∷ more)) none
     ∙ ap (λ (b : Bool). after_outcome (cond b (refused LineTooLong) (short_outcome before.records line)) number before.records (λ longer. feed_from (number + 1) longer more)) (le-ltb line_limit (length line) h))
+
+-- a line over the limit was read and fed, so the lines that are left lead to the feed
+pub long_leads : (first before now : Option (List ℕ)) (fed next : Fed) (number : ℕ) (line : List ℕ) → LeadsToFeed first before fed number → ReadsLine LongLine line before now
+    → ((long : List ℕ) (more : List (List ℕ)) → line_limit < length long
+    → resumed next.source.records next.refused (number + 1) more ≡ resumed fed.source.records fed.refused number (long ∷ more))
+    → LeadsToFeed first now next (number + 1)
+long_leads None None now fed next number line leads reads step = reads
+long_leads None (Some b) now fed next number line leads reads step = absurd cc
+long_leads (Some bytes) None now fed next number line leads reads step = absurd leads
+long_leads (Some bytes) (Some b) None fed next number line leads reads step = absurd reads
+long_leads (Some bytes) (Some b) (Some rest) fed next number line leads (long, same, over, kept) step =
+    step long (lines rest) over ∙ ap (resumed fed.source.records fed.refused number) (sym same) ∙ leads
 
 -- ---- the end of the input
 

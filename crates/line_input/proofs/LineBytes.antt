@@ -4,14 +4,13 @@ use Rattle.std.specs.Prelude.{◌==◌}
 use Rattle.std.specs.Option.{option_map, IfSome}
 use Rattle.std.specs.List.{AllByRecursion, slice_split, onto_first}
 use Rattle.std.specs.Str.Lines.{lines, lines_of_parts, strip_carriage_return}
-use Rattle.std.proofs.lemmas.List.{length-append, length-take, take_all, take-append-le, append-nil}
+use Rattle.std.proofs.lemmas.List.{length-append, length-take, take_all, take-take, take-append-le, append-nil}
 use Rattle.std.proofs.lemmas.List.Splits.{length-slice_split}
 use Rattle.std.proofs.lemmas.Bool.{lt-ltb, le-ltb, ltb-true, ltb-false, cases_Bool}
 use Rattle.std.proofs.lemmas.Bool.Decides.{nat_tests}
 use Rattle.line_input.specs.declared.input.Next.{Next}
 use Rattle.line_input.specs.declared.input.Next.TheVariants.{End, Line, LongLine}
-use Rattle.line_input.specs.Input.{IsKept, EndsAs, EndsInputAs, NextLineIs, ReadsLine}
-use Rattle.line_input.specs.Limits.{line_limit}
+use Rattle.line_input.specs.Input.{kept_limit, IsKept, EndsAs, EndsInputAs, NextLineIs, ReadsLine}
 
 -- no byte is a line feed
 abbrev pub IsPlain : List ℕ → Type 0
@@ -67,39 +66,39 @@ lines-last (b ∷ bytes) plain some =
 
 -- ---- what is kept of a line
 
--- one more byte below the limit is kept
-pub kept-pushed : (bytes line : List ℕ) (long : Bool) (b : ℕ) → IsKept bytes line long → length line ≤ line_limit → IsKept (bytes ++ b ∷ []) (line ++ b ∷ []) long
+-- one more byte is kept if there is room
+pub kept-pushed : (bytes line : List ℕ) (long : Bool) (b : ℕ) → IsKept bytes line long → length line < kept_limit → IsKept (bytes ++ b ∷ []) (line ++ b ∷ []) long
 kept-pushed bytes line long b kept few =
-    let short : length bytes ≤ line_limit = omega (arith, ap length kept.prefix, length-take (line_limit + 1) bytes) in
-    let all : take (line_limit + 1) bytes ≡ bytes = take_all (line_limit + 1) bytes (omega arith) in
+    let short : length bytes < kept_limit = omega (arith, ap length kept.prefix, length-take kept_limit bytes) in
+    let all : take kept_limit bytes ≡ bytes = take_all kept_limit bytes (omega arith) in
     let longer : length (bytes ++ b ∷ []) ≡ length bytes + 1 = omega (arith, length-append bytes (b ∷ [])) in
     record {
-      prefix = ap (λ (line : List ℕ). line ++ b ∷ []) (kept.prefix ∙ all) ∙ sym (take_all (line_limit + 1) (bytes ++ b ∷ []) (omega arith));
-      more = kept.more ∙ le-ltb (line_limit + 1) (length bytes) (omega arith) ∙ sym (le-ltb (line_limit + 1) (length (bytes ++ b ∷ [])) (omega arith));
+      prefix = ap (λ (line : List ℕ). line ++ b ∷ []) (kept.prefix ∙ all) ∙ sym (take_all kept_limit (bytes ++ b ∷ []) (omega arith));
+      more = kept.more ∙ le-ltb kept_limit (length bytes) (omega arith) ∙ sym (le-ltb kept_limit (length (bytes ++ b ∷ [])) (omega arith));
     }
 
--- one more byte over the limit isn't kept
-pub kept-passed : (bytes line : List ℕ) (long : Bool) (b : ℕ) → IsKept bytes line long → line_limit < length line → IsKept (bytes ++ b ∷ []) line true
+-- one more byte isn't kept if there is no room
+pub kept-passed : (bytes line : List ℕ) (long : Bool) (b : ℕ) → IsKept bytes line long → kept_limit ≤ length line → IsKept (bytes ++ b ∷ []) line true
 kept-passed bytes line long b kept many =
-    let enough : line_limit + 1 ≤ length bytes = omega (arith, ap length kept.prefix, length-take (line_limit + 1) bytes) in
+    let enough : kept_limit ≤ length bytes = omega (arith, ap length kept.prefix, length-take kept_limit bytes) in
     record {
-      prefix = kept.prefix ∙ sym (take-append-le (line_limit + 1) bytes (b ∷ []) enough);
-      more = sym (lt-ltb (line_limit + 1) (length (bytes ++ b ∷ [])) (omega (arith, length-append bytes (b ∷ []))));
+      prefix = kept.prefix ∙ sym (take-append-le kept_limit bytes (b ∷ []) enough);
+      more = sym (lt-ltb kept_limit (length (bytes ++ b ∷ [])) (omega (arith, length-append bytes (b ∷ []))));
     }
 
 -- if there are no more bytes than are kept, all are kept
 pub kept_all : (bytes line : List ℕ) (long : Bool) → IsKept bytes line long → long ≡ false → line ≡ bytes
 kept_all bytes line long kept short =
-    let few : length bytes ≤ line_limit + 1 = ltb-false (line_limit + 1) (length bytes) (sym kept.more ∙ short) in
-    kept.prefix ∙ take_all (line_limit + 1) bytes few
+    let few : length bytes ≤ kept_limit = ltb-false kept_limit (length bytes) (sym kept.more ∙ short) in
+    kept.prefix ∙ take_all kept_limit bytes few
 
--- if there are more bytes than are kept, they are over the limit and one byte
-pub kept_more : (bytes line : List ℕ) (long : Bool) → IsKept bytes line long → long ≡ true → line_limit + 1 < length bytes
-kept_more bytes line long kept more = ltb-true (line_limit + 1) (length bytes) (sym kept.more ∙ more)
+-- if there are more bytes than are kept, they are more than may be kept
+pub kept_more : (bytes line : List ℕ) (long : Bool) → IsKept bytes line long → long ≡ true → kept_limit < length bytes
+kept_more bytes line long kept more = ltb-true kept_limit (length bytes) (sym kept.more ∙ more)
 
 -- at most as many bytes are kept as there are
 pub kept_over : (bytes line : List ℕ) (long : Bool) → IsKept bytes line long → length line ≤ length bytes
-kept_over bytes line long kept = omega (arith, ap length kept.prefix, length-take (line_limit + 1) bytes)
+kept_over bytes line long kept = omega (arith, ap length kept.prefix, length-take kept_limit bytes)
 
 -- removing a carriage return removes at most one byte
 pub stripped_len : (bytes : List ℕ) → length bytes ≤ length (strip_carriage_return bytes) + 1
@@ -107,6 +106,29 @@ stripped_len bytes = elim (cases_Bool (get_or bytes (length bytes - 1) 0 == 13))
   | inl ends ↦ rw ends (omega (arith, length-take (length bytes - 1) bytes))
   | inr plain ↦ rw plain (omega arith)
 ]
+
+-- removing a carriage return adds no byte
+stripped_short : (bytes : List ℕ) → length (strip_carriage_return bytes) ≤ length bytes
+stripped_short bytes = elim (cases_Bool (get_or bytes (length bytes - 1) 0 == 13)) [
+  | inl ends ↦ rw ends (omega (arith, length-take (length bytes - 1) bytes))
+  | inr plain ↦ rw plain (omega arith)
+]
+
+-- what remains of a line that was kept whole, after its carriage return is removed, may be kept whole too
+pub stripped_whole : (bytes line line' : List ℕ) (long : Bool) → IsKept bytes line long → long ≡ false → line' ≡ strip_carriage_return line → line' ≡ take kept_limit (strip_carriage_return bytes)
+stripped_whole bytes line line' long kept short stripped =
+    let same : line' ≡ strip_carriage_return bytes = stripped ∙ ap strip_carriage_return (kept_all bytes line long kept short) in
+    let few : length bytes ≤ kept_limit = ltb-false kept_limit (length bytes) (sym kept.more ∙ short) in
+    same ∙ sym (take_all kept_limit (strip_carriage_return bytes) (omega (arith, stripped_short bytes)))
+
+-- what is kept of a line doesn't change by removing a carriage return, if more bytes were read than are kept
+pub stripped_kept : (bytes line : List ℕ) (long : Bool) → IsKept bytes line long → long ≡ true → line ≡ take kept_limit (strip_carriage_return bytes)
+stripped_kept bytes line long kept more =
+    let many : kept_limit < length bytes = kept_more bytes line long kept more in
+    elim (cases_Bool (get_or bytes (length bytes - 1) 0 == 13)) [
+      | inl ends ↦ rw ends (kept.prefix ∙ sym (take-take kept_limit (length bytes - 1) bytes (omega arith)))
+      | inr plain ↦ rw plain kept.prefix
+    ]
 
 plain-pushed : (bytes : List ℕ) (b : ℕ) → IsPlain bytes → b ≢ 10 → IsPlain (bytes ++ b ∷ [])
 plain-pushed [] b plain ne = (ne, tt)
@@ -133,7 +155,7 @@ line_read_more {before} {now} {after} read b line' long' next fewer ne kept = re
 feed_is : (next : Next) (line' bytes rest : List ℕ) → IsPlain bytes → EndsAs next line' bytes → NextLineIs next line' (bytes ++ 10 ∷ rest) rest
 feed_is End line' bytes rest plain ends = absurd ends
 feed_is Line line' bytes rest plain ends = (lines-feed bytes rest plain ∙ ap (λ (line : List ℕ). line ∷ lines rest) (sym ends.0), ends.1)
-feed_is LongLine line' bytes rest plain ends = (strip_carriage_return bytes, lines-feed bytes rest plain, ends)
+feed_is LongLine line' bytes rest plain ends = (strip_carriage_return bytes, lines-feed bytes rest plain, ends.0, ends.1)
 
 -- a line that ends at a line feed was read
 pub read_to_feed : (next : Next) (line' : List ℕ) (before now after : Option (List ℕ)) (bytes : List ℕ) → IsPlain bytes
@@ -150,7 +172,7 @@ end_is Line line' bytes rest plain none ends =
     (ap lines all ∙ lines-last bytes plain ends.1 ∙ ap (λ (line : List ℕ). line ∷ []) (sym ends.0) ∙ ap (λ (r : List ℕ). line' ∷ lines r) (sym none), ends.2)
 end_is LongLine line' bytes rest plain none ends =
     let all : bytes ++ rest ≡ bytes = ap (λ (r : List ℕ). bytes ++ r) none ∙ append-nil bytes in
-    (bytes, ap lines all ∙ lines-last bytes plain (omega arith) ∙ ap (λ (r : List ℕ). bytes ∷ lines r) (sym none), ends)
+    (bytes, ap lines all ∙ lines-last bytes plain (omega arith) ∙ ap (λ (r : List ℕ). bytes ∷ lines r) (sym none), ends.0, ends.1)
 
 -- a line that ends at the end of the input was read
 pub read_to_end : (next : Next) (line' : List ℕ) (before now after : Option (List ℕ)) (bytes : List ℕ) → IsPlain bytes

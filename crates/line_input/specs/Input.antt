@@ -36,11 +36,17 @@ has_ended i = i.met_end
 abbrev pub NothingAfterEnd : Input → Option (List ℕ) → Type 0
 NothingAfterEnd i later = has_ended i ≡ true → IfSome later (λ bytes. bytes ≡ [])
 
--- this is the next line of these bytes, and these are the bytes after it
+-- the most bytes that are kept of a line: two more than a line may have, so that a line of one byte over
+-- the limit is kept whole and can be told from a longer one
+abbrev pub kept_limit : ℕ
+kept_limit = line_limit + 2
+
+-- this is the next line of these bytes, and these are the bytes after it; of a line over the limit the first
+-- bytes are kept
 abbrev pub NextLineIs : Next → List ℕ → List ℕ → List ℕ → Type 0
 NextLineIs End line bytes rest = (bytes ≡ []) × (rest ≡ [])
 NextLineIs Line line bytes rest = (lines bytes ≡ line ∷ lines rest) × (length line ≤ line_limit)
-NextLineIs LongLine line bytes rest = (long : List ℕ) × (lines bytes ≡ long ∷ lines rest) × (line_limit < length long)
+NextLineIs LongLine line bytes rest = (long : List ℕ) × (lines bytes ≡ long ∷ lines rest) × (line_limit < length long) × (line ≡ take kept_limit long)
 
 -- this is the next line of the bytes that were left, and the bytes after it are left, if the source reveals them
 abbrev pub ReadsLine : Next → List ℕ → Option (List ℕ) → Option (List ℕ) → Type 0
@@ -69,22 +75,22 @@ pub record InputHasCause {X : Type 0} (result : Result X InputError) (total : Op
   pub failed : result ≡ Err inputs.Failed → Rises before now
   pub too_long : result ≡ Err inputs.TooLong → IfSome total (λ bytes. input_limit < bytes)
 
--- what is kept of the bytes of a line so far: at most the limit and one more, and whether there are more
+-- what is kept of the bytes of a line so far, and whether there are more
 pub record IsKept (so_far line : List ℕ) (long : Bool) : Type 0 where
-  pub prefix : line ≡ take (line_limit + 1) so_far
-  pub more : long ≡ nat_lt (line_limit + 1) (length so_far)
+  pub prefix : line ≡ take kept_limit so_far
+  pub more : long ≡ nat_lt kept_limit (length so_far)
 
 -- how a line with these bytes ends at its line feed
 abbrev pub EndsAs : Next → List ℕ → List ℕ → Type 0
 EndsAs End line bytes = ⊥
 EndsAs Line line bytes = (line ≡ strip_carriage_return bytes) × (length line ≤ line_limit)
-EndsAs LongLine line bytes = line_limit < length (strip_carriage_return bytes)
+EndsAs LongLine line bytes = (line_limit < length (strip_carriage_return bytes)) × (line ≡ take kept_limit (strip_carriage_return bytes))
 
 -- how a line with these bytes ends at the end of the input
 abbrev pub EndsInputAs : Next → List ℕ → List ℕ → Type 0
 EndsInputAs End line bytes = bytes ≡ []
 EndsInputAs Line line bytes = (line ≡ bytes) × (0 < length bytes) × (length line ≤ line_limit)
-EndsInputAs LongLine line bytes = line_limit < length bytes
+EndsInputAs LongLine line bytes = (line_limit < length bytes) × (line ≡ take kept_limit bytes)
 
 -- the input's error for an error of the source
 abbrev pub input_error_of : ReadError → InputError

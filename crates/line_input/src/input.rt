@@ -6,7 +6,7 @@ ghost use Rattle.std.specs.Option.{option_map, option_to_list};
 ghost use Rattle.line_input.specs.Limits.{input_limit};
 ghost use Rattle.line_input.specs.Pieces.{piece_size};
 
-use crate::line_end::{LINE_LIMIT, end_line, last};
+use crate::line_end::{KEPT_LIMIT, end_line, last};
 use keep_core::{ReadError, Source};
 use std::alloc::{AllocError, AllocFailed, Global};
 
@@ -48,7 +48,7 @@ pub struct Input {
 pub enum Next {
     End,
     Line,
-    /// A line over the limit.
+    /// A line over the limit, of which the first bytes are kept.
     LongLine,
 }
 
@@ -178,9 +178,9 @@ impl Input {
     }
 
     /// Reads the next line into `line`, without its line feed and one carriage return before that.
-    /// A last line needs no line feed, and without one it keeps a carriage return. At most the
-    /// limit and one more byte of a line are kept. Once a read has met the end, the source isn't
-    /// asked again.
+    /// A last line needs no line feed, and without one it keeps a carriage return. Of a line over
+    /// the limit the first `KEPT_LIMIT` bytes are kept. Once a read has met the end, the source
+    /// isn't asked again.
     pub fn next_line<I: Source>(
         &mut self,
         source: &mut I,
@@ -211,7 +211,7 @@ impl Input {
             if byte == b'\n' {
                 return Ok(end_line(line, long));
             }
-            if line.len() <= LINE_LIMIT {
+            if line.len() < KEPT_LIMIT {
                 line.push(byte)?;
             } else {
                 long = true;

@@ -3,9 +3,10 @@
 //! Below it is `keep_core`, whose `Source` it reads. Above it, `copy_lists` feeds the lines to a
 //! log, and the contract of `session_core` cites its limits.
 //!
-//! `next_line` gives a line without its line feed and one carriage return before that. It keeps at
-//! most `LINE_LIMIT` bytes of a line and one more, and answers `LongLine` for a longer one. Once a
-//! read has met the end, the source isn't asked again.
+//! `next_line` gives a line without its line feed and one carriage return before that. For a line
+//! of more than 1,048,576 bytes it answers `LongLine`, and keeps the first `KEPT_LIMIT` bytes. So a
+//! caller knows how such a line begins, and whether it is only one byte over the limit. Once a read
+//! has met the end, the source isn't asked again.
 //!
 //! For example, the bytes `"a\r\nb"` give `Line` with `"a"`, then `Line` with `"b"`, then `End`.
 #![tactic(auto)]
@@ -14,6 +15,7 @@ mod input;
 mod line_end;
 
 pub use input::{Input, InputError, Next};
+pub use line_end::KEPT_LIMIT;
 
 #[cfg(test)]
 mod tests;

@@ -10,6 +10,11 @@ use crate::input::Next;
 /// The most bytes that a line may have, without its line feed and a carriage return before that.
 pub const LINE_LIMIT: usize = 1_048_576;
 
+/// The most bytes that are kept of a line. A caller may take a line of one byte over the limit, as
+/// one with a mark before `LINE_LIMIT` bytes. Two bytes over it are kept, so that such a line can
+/// be told from a longer one: a line of which fewer bytes are kept is kept whole.
+pub const KEPT_LIMIT: usize = LINE_LIMIT + 2;
+
 /// Removes one carriage return from the end of a line, if there is one.
 fn strip(line: &mut Vec<u8>)
     ensures { line.new.items ≡ strip_carriage_return line.old.items }
@@ -19,15 +24,19 @@ fn strip(line: &mut Vec<u8>)
     }
 }
 
-/// Ends a line at its line feed. `long` says that it has more bytes than were kept.
+/// Ends a line at its line feed. `long` says that it has more bytes than were kept. Then a carriage
+/// return at the end of what was kept stays, since a byte of the line follows it.
 pub fn end_line(line: &mut Vec<u8>, long: bool) -> Next
     ensures ends { (bytes : List ℕ) → IsKept bytes line.old.items long
         → EndsAs result line.new.items bytes }
     ensures short { result ≡ Next.Line → length line.new.items ≤ line_limit }
     ensures shorter { length line.new.items ≤ length line.old.items }
 {
+    if long {
+        return Next::LongLine;
+    }
     strip(line);
-    if long || line.len() > LINE_LIMIT {
+    if line.len() > LINE_LIMIT {
         return Next::LongLine;
     }
     Next::Line

@@ -1,9 +1,10 @@
-//! Lines of a source that would go on after its end.
+//! Lines of a source that would go on after its end, and lines over the limit.
 
 ghost use Rattle.std.specs.Prelude.{None};
 
 use crate::{Input, Next};
 use keep_core::{ReadError, Source};
+use std::alloc::Global;
 use std::test::Fail;
 
 /// A source like a terminal: it gives a line, a last line with no line feed, and the end; if it is
@@ -43,5 +44,56 @@ fn the_source_is_not_asked_after_its_end(rt: HostRuntime) -> Result<(), Fail> {
         assert_eq!(rt; line.as_slice(), text);
     }
     assert_eq!(rt; source.reads, 4);
+    Ok(())
+}
+
+/// A source of bytes that gives as many as the buffer takes.
+#[derive(Drop)]
+struct Bytes<'a> {
+    left: &'a [u8],
+}
+
+impl Source for Bytes<'_> {
+    ghost left = { λ _. None };
+
+    ghost faults = { λ _. 0 };
+
+    fn read(&mut self, buffer: &mut [u8]) -> Result<usize, ReadError> {
+        let count = buffer.len().min(self.left.len());
+        let (now, later) = self.left.split_at(count);
+        buffer[..count].copy_from_slice(now);
+        self.left = later;
+        Ok(count)
+    }
+}
+
+/// Reads a line of `#` and more letters with this end: what is answered, how many bytes are kept,
+/// and whether they are that line's.
+fn read_line(alloc: Global, len: usize, end: &str) -> Result<(Next, usize, bool), Fail> {
+    let mut bytes = vec![in alloc; b'x'; len]?;
+    if let Some(first) = bytes.first_mut() {
+        *first = b'#';
+    }
+    bytes.extend_from_slice(end.as_bytes())?;
+    let mut source = Bytes { left: &bytes };
+    let mut line = Vec::new(alloc);
+    let next = Input::new(alloc)?.next_line(&mut source, &mut line)?;
+    let same = bytes.starts_with(&line);
+    Ok((next, line.len(), same))
+}
+
+#[test]
+fn the_beginning_of_a_long_line_is_kept(rt: HostRuntime) -> Result<(), Fail> {
+    for (len, end, kept) in [
+        (1_048_577, "\n", 1_048_577),
+        (1_048_577, "\r\n", 1_048_577),
+        (1_048_578, "\r\n", 1_048_578),
+        (1_048_580, "\n", 1_048_578),
+    ] {
+        assert_eq!(rt;
+            read_line(rt.alloc(), len, end)?,
+            (Next::LongLine, kept, true)
+        );
+    }
     Ok(())
 }

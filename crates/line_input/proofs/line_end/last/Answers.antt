@@ -8,8 +8,8 @@ use Rattle.line_input.proofs.line_end.last.Goals.{then-long-via-then-long, then-
 
 pub returns-then-long-clause-ends : goal.returns-then-long-clause-ends
 returns-then-long-clause-ends c = λ bytes kept. elim c.then-long.branch [
-  | then-long-via-then-long w ↦ omega (arith, kept_more bytes c.args.line.now c.args.long kept w.if-long.true)
-  | then-long-via-else-long+then-line-gt-LINE_LIMIT w ↦ omega (arith, kept_over bytes c.args.line.now c.args.long kept, w.if-line-gt-LINE_LIMIT.true)
+  | then-long-via-then-long w ↦ (omega (arith, kept_more bytes c.args.line.now c.args.long kept w.if-long.true), kept.prefix)
+  | then-long-via-else-long+then-line-gt-LINE_LIMIT w ↦ (omega (arith, kept_over bytes c.args.line.now c.args.long kept, w.if-line-gt-LINE_LIMIT.true), kept.prefix)
 ]
 
 pub returns-then-is_empty-clause-ends : goal.returns-then-is_empty-clause-ends

@@ -1,6 +1,5 @@
 use Rattle.std.proofs.Common.{true, ◌+◌, ◌≤◌, ◌<◌, ◌++◌, ◌∷◌, [], length, Ok, ap, ◌∙◌, arith}
-use Rattle.line_input.specs.Input.{left_of, budget}
-use Rattle.line_input.specs.Limits.{line_limit}
+use Rattle.line_input.specs.Input.{left_of, budget, kept_limit}
 use Rattle.line_input.proofs.LineBytes.{parts-pushed, kept_over, line_read_more, kept-pushed, kept-passed, read_to_feed, read_to_end, some_read}
 use Rattle.line_input.proofs.input.Input.next_line.Goals as goal
 
@@ -16,7 +15,7 @@ loop-byte-preserved-in-Continue-branch-3 g c =
     let read = c.loop-byte.invariant.line in
     let byte = c.in-Some.byte in
     let fewer : budget c.next_byte.new.self + 1 ≤ budget c.loop-byte.self = rw c.in-Some.is at c.in_ok-byte.ensures.budget in
-    let few : length c.loop-byte.line.items ≤ line_limit = omega arith in
+    let few : length c.loop-byte.line.items < kept_limit = omega arith in
     record {
       line = rw c.in_ok-push.ensures.items (line_read_more read byte (c.loop-byte.line.items ++ byte ∷ []) c.loop-byte.long (rw c.in-Some.is at c.in_ok-byte.ensures.left) fewer c.if-byte-eq10.false
           (kept-pushed read.so_far c.loop-byte.line.items c.loop-byte.long byte read.kept few));
@@ -30,7 +29,7 @@ loop-byte-preserved g c =
     let read = c.loop-byte.invariant.line in
     let byte = c.in-Some.byte in
     let fewer : budget c.next_byte.new.self + 1 ≤ budget c.loop-byte.self = rw c.in-Some.is at c.in_ok-byte.ensures.budget in
-    let many : line_limit < length c.loop-byte.line.items = omega arith in
+    let many : kept_limit ≤ length c.loop-byte.line.items = omega arith in
     record {
       line = line_read_more read byte c.loop-byte.line.items true (rw c.in-Some.is at c.in_ok-byte.ensures.left) fewer c.if-byte-eq10.false
           (kept-passed read.so_far c.loop-byte.line.items c.loop-byte.long byte read.kept many);
