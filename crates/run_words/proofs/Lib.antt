@@ -1,0 +1,3 @@
+pub mod OneServer
+pub mod OneOpening
+pub mod Together

@@ -1,0 +1,10 @@
+use Rattle.std.proofs.Common.{◌≡◌, map, take, string_bytes}
+use Rattle.std.specs.List.{All}
+use Rattle.run_words.specs.Openings.{word_of, IsServerWord}
+use Rattle.run_words.proofs.servers.read_servers.Given as goal
+
+abbrev pub invariant-loop-word : goal.invariant-loop-word
+invariant-loop-word l = record {
+  each : All IsServerWord l.servers;
+  spelled : map string_bytes (take l.word-index l.words) ≡ map word_of l.servers;
+}
