@@ -1,1 +1,2 @@
 pub mod ReadsByNodes
+pub mod Whole

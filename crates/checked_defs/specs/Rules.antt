@@ -168,10 +168,6 @@ has_before_images context registration = option_map_or (λ def. list_all (is_aft
 abbrev pub has_two_servers : RawSet → Bool
 has_two_servers set = not (bytes_eq set.source set.target)
 
--- rule 9: a member's source is registered
-abbrev pub is_source_registered : Context → RawSet → RawMember → Bool
-is_source_registered context set member = is_some (find (is_registration set.source member.source) context.registrations)
-
 -- a table with its registration as a source; its log is no matter of definitions
 abbrev pub as_source : TableDef → Registration → SourceTable
 as_source def reg = record { def = def; reg = reg; log = [] }
@@ -179,6 +175,10 @@ as_source def reg = record { def = def; reg = reg; log = [] }
 -- the registered table of this server and name, as a source
 abbrev pub source_at : Context → List ℕ → List ℕ → Option SourceTable
 source_at context server name = option_and_then (λ table. option_map (λ registration. as_source table.def registration.def) (find (is_registration server name) context.registrations)) (find (is_table server name) context.tables)
+
+-- rule 9: a member's source is a table that is registered
+abbrev pub is_source_registered : Context → RawSet → RawMember → Bool
+is_source_registered context set member = is_some (source_at context set.source member.source)
 
 -- a member with its source, if both are there
 abbrev pub member_over_source : Context → RawSet → RawMember → Option (SourceTable × Member)

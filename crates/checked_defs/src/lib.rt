@@ -12,10 +12,11 @@
 //! what is known has such a table, breaks rule 6 at its first registration.
 #![tactic(auto)]
 
-ghost use Rattle.std.specs.Prelude.{◌≡◌, ℕ, Some, None, IfOk};
+ghost use Rattle.std.specs.Prelude.{◌≡◌, ℕ, Some, None, IsTrue, IfOk, OnOk};
 ghost use Rattle.repl_types.specs.declared.refusal.DefPlace.{DefPlace as Place};
 ghost use Rattle.checked_defs.specs.Context.{context_of as context_of_lem};
 ghost use Rattle.checked_defs.specs.Broken.{rules, first_broken, defs_of};
+ghost use Rattle.checked_defs.specs.Whole.{have_kinds, IsWhole};
 
 mod beside;
 mod columns;
@@ -43,12 +44,15 @@ use repl_commands::{DefsError, RawDefs};
 use std::alloc::Global;
 
 /// The definitions that a text spells, if it keeps rules 2 to 14 together with the known
-/// definitions whose names don't stand in it. `Broken` names the lowest rule that is broken, and
+/// definitions whose names don't stand in it. Nothing of the text is left out of them, if its
+/// members have types that there are, as those of `read_defs` have. `Broken` names the lowest rule that is broken, and
 /// the first item of the text that breaks it. `Memory` may be answered whenever the machine runs
 /// out of memory.
 pub fn check(alloc: Global, raw: &RawDefs, known: &Defs) -> Result<Defs, DefsError>
     ensures ok { IfOk result (λ defs. defs ≡ defs_of raw.now (context_of_lem raw.now known.now).tables) }
     ensures kept { IfOk result (λ _. first_broken raw.now (context_of_lem raw.now known.now) rules ≡ None) }
+    ensures whole { OnOk result (IsTrue (have_kinds raw.now)
+        → IsWhole raw.now (context_of_lem raw.now known.now).tables) }
     ensures broken { (rule : ℕ) (place : Place) → result ≡ Err (DefsError.Broken rule place)
         → first_broken raw.now (context_of_lem raw.now known.now) rules ≡ Some (rule, place) }
 {

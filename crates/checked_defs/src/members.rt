@@ -43,21 +43,6 @@ pub fn has_two_servers(set: &RawSet) -> bool
     set.source.as_slice() != set.target.as_slice()
 }
 
-/// Whether a member's source is registered.
-pub fn is_source_registered(context: &Context, set: &RawSet, member: &RawMember) -> bool
-    ensures { result ≡ is_source_registered_lem context.now set.now member.now }
-{
-    let found = find_registration(
-        context.registrations.as_slice(),
-        set.source.as_slice(),
-        member.source.as_slice(),
-    );
-    match found {
-        Some(_) => true,
-        None => false,
-    }
-}
-
 /// The registered table of this server and name.
 pub fn source_at<'a>(
     context: &'a Context,
@@ -75,6 +60,16 @@ pub fn source_at<'a>(
         return None;
     };
     Some((&table.def, &registration.def))
+}
+
+/// Whether a member's source is a table that is registered.
+pub fn is_source_registered(context: &Context, set: &RawSet, member: &RawMember) -> bool
+    ensures { result ≡ is_source_registered_lem context.now set.now member.now }
+{
+    match source_at(context, set.source.as_slice(), member.source.as_slice()) {
+        Some(_) => true,
+        None => false,
+    }
 }
 
 /// A member with its source, if both are there.
