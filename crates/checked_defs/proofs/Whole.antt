@@ -23,10 +23,10 @@ use Rattle.repl_commands.specs.declared.written.RawRegistration.{RawRegistration
 use Rattle.repl_commands.specs.declared.written.RawMember.{RawMember}
 use Rattle.repl_commands.specs.declared.written.RawSet.{RawSet}
 use Rattle.repl_defs.specs.Entries.{place_of as blank_of, form_of, part_before, part_after}
-use Rattle.checked_defs.specs.Spelled.{column_of, place_of, after_places, table_of, is_table, is_registration, columns_at, registration_of, target_kind, target_column, member_at, member_of, set_of}
-use Rattle.checked_defs.specs.Rules.{has_column_name, is_column_entry, is_key_column, is_column, has_table, has_after_images, has_before_images, is_after_image, after_fits, source_at, as_source, is_source_registered, has_texts, is_target_entry, texts_fit, texts_are_read, entries_of, member_has_names, registration_has_names, set_has_names, table_has_names}
-use Rattle.checked_defs.specs.Broken.{rules, table_breaks, registration_breaks, set_breaks, member_breaks, first_in_set, first_in_sets, first_place, first_broken, rule_number}
-use Rattle.checked_defs.specs.Whole.{have_kinds, is_whole_table, is_whole_registration, has_whole_texts, is_whole_member, is_whole_set, IsWhole}
+use Rattle.checked_defs.specs.Spelled.{spelled_column, column_place, after_places, spelled_table, is_table, is_registration, columns_at, spelled_registration, target_kind, target_column, spelled_member_at, spelled_member, spelled_set}
+use Rattle.checked_defs.specs.Rules.{has_column_name, is_column_entry, is_key_column, is_column, has_table, has_after_images, has_before_images, is_after_image, after_fits, registered_source, as_source_table, is_source_registered, has_texts, is_target_entry, texts_fit, texts_are_read, entries_of, member_has_names, registration_has_names, set_has_names, table_has_names}
+use Rattle.checked_defs.specs.Broken.{all_rules, table_breaks, registration_breaks, set_breaks, member_breaks, first_in_set, first_in_sets, first_place, first_broken, rule_number}
+use Rattle.checked_defs.specs.Whole.{have_kinds, is_whole_table, is_whole_registration, has_whole_texts, is_whole_member, is_whole_set, LeavesNothingOut}
 use Rattle.checked_defs.specs.declared.rule.Rule.{Rule}
 use Rattle.checked_defs.specs.declared.rule.Rule.TheVariants.{Names, Once, Columns, Key, Table, After, Before, Source, Texts, Copies, Condensed, Sums, Replicas}
 use Rattle.checked_defs.specs.declared.context.Context.{Context}
@@ -65,7 +65,7 @@ all_of_one p r xs f h = all_of_two p p r xs (λ x one two. f x one) h h
 all_of_three : {X : Type 0} (p q s r : X → Bool) (xs : List X) → ((x : X) → p x ≡ true → q x ≡ true → s x ≡ true → r x ≡ true) → list_all p xs ≡ true → list_all q xs ≡ true → list_all s xs ≡ true → list_all r xs ≡ true
 all_of_three p q s r xs f h k m =
     all_of_two (λ x. p x && q x) s r xs (λ x a b. let both = parts (p x) (q x) a in f x both.0 both.1 b)
-        (all_of_two p q (λ x. p x && q x) xs (λ x a b. joined (p x) (q x) a b) h k) m
+    (all_of_two p q (λ x. p x && q x) xs (λ x a b. joined (p x) (q x) a b) h k) m
 
 -- nothing first and nothing second
 or_none : {X : Type 0} (a b : Option X) → option_or a b ≡ None → (a ≡ None) × (b ≡ None)
@@ -134,8 +134,8 @@ named bytes h = ap (λ b. cond b (Some bytes) None) h
 -- ---- tables
 
 -- an entry with a name and a form spells a column
-column_spelled : (entry : List ℕ) → has_column_name entry ≡ true → is_column_entry entry ≡ true → is_some (column_of entry) ≡ true
-unfolding column_of
+column_spelled : (entry : List ℕ) → has_column_name entry ≡ true → is_column_entry entry ≡ true → is_some (spelled_column entry) ≡ true
+unfolding spelled_column
 column_spelled entry h k = by (blank_of 32 entry) h (parts _ _ k).1
   where
     form : (name : List ℕ) (f : Option (Kind × Bool)) → is_some f ≡ true → is_some {T = ColumnDef} (option_and_then (λ (g : Kind × Bool). Some (record { name = name; kind = g.0; nullable = g.1 })) f) ≡ true
@@ -167,7 +167,7 @@ key_column_is_column columns name h =
 
 -- a table of which the three rules on tables hold is whole
 whole_table : (raw : RawDefs) (context : Context) (t : RawTable) → not (table_breaks raw context Names t) ≡ true → not (table_breaks raw context Columns t) ≡ true → not (table_breaks raw context Key t) ≡ true → is_whole_table t ≡ true
-unfolding table_breaks table_of
+unfolding table_breaks spelled_table
 whole_table raw context t names columns key =
     let n = parts _ _ (not_not (table_has_names t) names) in
     let n1 = parts _ _ n.0 in
@@ -176,9 +176,9 @@ whole_table raw context t names columns key =
     let c = parts _ _ (not_not _ columns) in
     let k = parts _ _ (not_not _ key) in
     let k1 = parts _ _ k.0 in
-    let spelled : is_some (table_of t) ≡ true = rw (named t.server n3.0, named t.name n3.1) refl in
-    let entries = all_of_two has_column_name is_column_entry (λ e. is_some (column_of e)) t.columns column_spelled n2.1 c.1 in
-    let keys = all_of_one (is_key_column (filter_map column_of t.columns)) (is_column (filter_map column_of t.columns)) t.key (key_column_is_column (filter_map column_of t.columns)) k1.1 in
+    let spelled : is_some (spelled_table t) ≡ true = rw (named t.server n3.0, named t.name n3.1) refl in
+    let entries = all_of_two has_column_name is_column_entry (λ e. is_some (spelled_column e)) t.columns column_spelled n2.1 c.1 in
+    let keys = all_of_one (is_key_column (filter_map spelled_column t.columns)) (is_column (filter_map spelled_column t.columns)) t.key (key_column_is_column (filter_map spelled_column t.columns)) k1.1 in
     joined _ _ (joined _ _ (joined _ _ spelled entries) keys) k.1
 
 -- ---- registrations
@@ -190,7 +190,7 @@ after_whole def (Some names) h = (parts (list_all (is_column def.columns) names)
 
 -- a name of an after-image is that of a column
 image_is_column : (def : TableDef) (after : Option (List (List ℕ))) (name : List ℕ) → is_after_image def after name ≡ true → is_column def.columns name ≡ true
-image_is_column def after name h = by (place_of def.columns name) h
+image_is_column def after name h = by (column_place def.columns name) h
   where
     by : (o : Option ℕ) → option_map_or (is_among (after_places def.columns after)) o false ≡ true → is_some o ≡ true
     by (Some place) k = refl
@@ -198,12 +198,12 @@ image_is_column def after name h = by (place_of def.columns name) h
 
 -- a registration of which the four rules on registrations hold is whole
 whole_registration : (raw : RawDefs) (context : Context) (r : RawRegistration) → not (registration_breaks raw context Names r) ≡ true → not (registration_breaks raw context Table r) ≡ true → not (registration_breaks raw context After r) ≡ true → not (registration_breaks raw context Before r) ≡ true → is_whole_registration context.tables r ≡ true
-unfolding registration_breaks registration_of
+unfolding registration_breaks spelled_registration
 whole_registration raw context r names table after before =
     let n = parts _ _ (not_not (registration_has_names r) names) in
     let n1 = parts _ _ n.0 in
     let n2 = parts _ _ n1.0 in
-    let spelled : is_some (registration_of context.tables r) ≡ true = rw (named r.server n2.0, named r.table n2.1) refl in
+    let spelled : is_some (spelled_registration context.tables r) ≡ true = rw (named r.server n2.0, named r.table n2.1) refl in
     let over = by (find (is_table r.server r.table) context.tables) (not_not _ table) (not_not _ after) (not_not _ before) in
     joined _ _ (joined _ _ spelled over.0) over.1
   where
@@ -226,8 +226,8 @@ texts_whole columns m h =
     joined _ _ (all_of_one (is_target_entry columns) (λ e. is_some (target_column columns e)) (entries_of m) (entry_whole columns) q.0) q.1
 
 -- a member with names and a kind is spelled
-member_spelled : (columns : List ColumnDef) (m : RawMember) → is_name m.source ≡ true → is_name m.target ≡ true → is_some (target_kind m) ≡ true → is_some (member_of columns m) ≡ true
-unfolding member_of
+member_spelled : (columns : List ColumnDef) (m : RawMember) → is_name m.source ≡ true → is_name m.target ≡ true → is_some (target_kind m) ≡ true → is_some (spelled_member columns m) ≡ true
+unfolding spelled_member
 member_spelled columns m source target kind =
     let given : Option (List ℕ) → Type 0 = λ o. is_some {T = Member} (option_and_then (λ (a : List ℕ). option_and_then (λ (b : List ℕ). option_and_then (λ (k : TargetKind). Some (record { source = a; target = b; kind = k; columns = filter_map (target_column columns) (unwrap_or m.columns []); filter = option_and_then (predicate_tree columns) m.filter })) (target_kind m)) (name_of m.target)) o) ≡ true in
     let given_target : Option (List ℕ) → Type 0 = λ o. is_some {T = Member} (option_and_then (λ (b : List ℕ). option_and_then (λ (k : TargetKind). Some (record { source = m.source; target = b; kind = k; columns = filter_map (target_column columns) (unwrap_or m.columns []); filter = option_and_then (predicate_tree columns) m.filter })) (target_kind m)) o) ≡ true in
@@ -249,38 +249,38 @@ whole_member context s m names source texts kind =
     test : SourceTable → Member → Bool
     test = texts_fit m
 
-    fits : (t : TableAt) (g : RegistrationAt) (o : Option Member) → is_some o ≡ true → option_map_or (λ (over : SourceTable × Member). test over.0 over.1) (option_map (λ (x : Member). (as_source t.def g.def, x)) o) true ≡ true → texts_are_read t.def.columns m ≡ true
+    fits : (t : TableAt) (g : RegistrationAt) (o : Option Member) → is_some o ≡ true → option_map_or (λ (over : SourceTable × Member). test over.0 over.1) (option_map (λ (x : Member). (as_source_table t.def g.def, x)) o) true ≡ true → texts_are_read t.def.columns m ≡ true
     fits t g None h k = absurd (cc)
     fits t g (Some x) h k = (parts _ _ (parts _ _ k).0).0
 
-    by : (f : Option TableAt) (g : Option RegistrationAt) → is_some (member_of (option_map_or (λ (t : TableAt). t.def.columns) f []) m) ≡ true
-        → is_some (option_and_then (λ (t : TableAt). option_map (λ (r : RegistrationAt). as_source t.def r.def) g) f) ≡ true
-        → option_map_or (λ (over : SourceTable × Member). test over.0 over.1) (option_and_then (λ (source : SourceTable). option_map (λ (x : Member). (source, x)) (member_of (option_map_or (λ (t : TableAt). t.def.columns) f []) m)) (option_and_then (λ (t : TableAt). option_map (λ (r : RegistrationAt). as_source t.def r.def) g) f)) true ≡ true
+    by : (f : Option TableAt) (g : Option RegistrationAt) → is_some (spelled_member (option_map_or (λ (t : TableAt). t.def.columns) f []) m) ≡ true
+        → is_some (option_and_then (λ (t : TableAt). option_map (λ (r : RegistrationAt). as_source_table t.def r.def) g) f) ≡ true
+        → option_map_or (λ (over : SourceTable × Member). test over.0 over.1) (option_and_then (λ (source : SourceTable). option_map (λ (x : Member). (source, x)) (spelled_member (option_map_or (λ (t : TableAt). t.def.columns) f []) m)) (option_and_then (λ (t : TableAt). option_map (λ (r : RegistrationAt). as_source_table t.def r.def) g) f)) true ≡ true
         → has_whole_texts (option_map_or (λ (t : TableAt). t.def.columns) f []) m ≡ true
     by None g h k l = absurd (cc)
     by (Some t) None h k l = absurd (cc)
-    by (Some t) (Some r) h k l = texts_whole t.def.columns m (fits t r (member_of t.def.columns m) h l)
+    by (Some t) (Some r) h k l = texts_whole t.def.columns m (fits t r (spelled_member t.def.columns m) h l)
 
 -- a set of which the rules on its names and its members hold is whole
 whole_set : (raw : RawDefs) (context : Context) (s : RawSet) → not (set_breaks raw Names s) ≡ true → list_all (is_whole_member context.tables s) s.members ≡ true → is_whole_set context.tables s ≡ true
-unfolding set_breaks set_of
+unfolding set_breaks spelled_set
 whole_set raw context s names members =
     let n = parts _ _ (not_not (set_has_names s) names) in
     let n1 = parts _ _ n.0 in
     let n2 = parts _ _ n1.0 in
-    let spelled : is_some (set_of context.tables s) ≡ true = rw (named s.qual n2.0, named s.name n2.1, named s.source n1.1, named s.target n.1) refl in
+    let spelled : is_some (spelled_set context.tables s) ≡ true = rw (named s.qual n2.0, named s.name n2.1, named s.source n1.1, named s.target n.1) refl in
     joined _ _ spelled members
 
 -- the members of a set are whole
 whole_members : (context : Context) (s : RawSet) → list_all (λ m. not (member_breaks context Names s m)) s.members ≡ true → list_all (λ m. not (member_breaks context Source s m)) s.members ≡ true → list_all (λ m. not (member_breaks context Texts s m)) s.members ≡ true → list_all (λ m. is_some (target_kind m)) s.members ≡ true → list_all (is_whole_member context.tables s) s.members ≡ true
 whole_members context s names sources texts kinds =
     all_of_two (λ m. not (member_breaks context Names s m) && not (member_breaks context Source s m)) (λ m. not (member_breaks context Texts s m) && is_some (target_kind m)) (is_whole_member context.tables s) s.members
-        (λ m a b. let p = parts _ _ a in let q = parts _ _ b in whole_member context s m p.0 p.1 q.0 q.1)
-        (all_of_two _ _ (λ m. not (member_breaks context Names s m) && not (member_breaks context Source s m)) s.members (λ m a b. joined _ _ a b) names sources)
-        (all_of_two _ _ (λ m. not (member_breaks context Texts s m) && is_some (target_kind m)) s.members (λ m a b. joined _ _ a b) texts kinds)
+    (λ m a b. let p = parts _ _ a in let q = parts _ _ b in whole_member context s m p.0 p.1 q.0 q.1)
+    (all_of_two _ _ (λ m. not (member_breaks context Names s m) && not (member_breaks context Source s m)) s.members (λ m a b. joined _ _ a b) names sources)
+    (all_of_two _ _ (λ m. not (member_breaks context Texts s m) && is_some (target_kind m)) s.members (λ m a b. joined _ _ a b) texts kinds)
 
 -- where no rule is broken and each member has a kind, nothing of the text is left out
-pub nothing_left_out : (raw : RawDefs) (context : Context) → first_broken raw context rules ≡ None → IsTrue (have_kinds raw) → IsWhole raw context.tables
+pub nothing_left_out : (raw : RawDefs) (context : Context) → first_broken raw context all_rules ≡ None → IsTrue (have_kinds raw) → LeavesNothingOut raw context.tables
 nothing_left_out raw context h kinds =
     let names = first_kept raw context Names (Once ∷ Columns ∷ Key ∷ Table ∷ After ∷ Before ∷ Source ∷ Texts ∷ Copies ∷ Condensed ∷ Sums ∷ Replicas ∷ []) h in
     let once = first_kept raw context Once (Columns ∷ Key ∷ Table ∷ After ∷ Before ∷ Source ∷ Texts ∷ Copies ∷ Condensed ∷ Sums ∷ Replicas ∷ []) names.1 in
@@ -299,7 +299,7 @@ nothing_left_out raw context h kinds =
           (all_of_two _ _ (λ r. not (registration_breaks raw context After r) && not (registration_breaks raw context Before r)) raw.registrations (λ r a b. joined _ _ a b) after.0.registrations before.0.registrations);
       sets = all_of_two _ _ (is_whole_set context.tables) raw.sets (whole_set raw context) names.0.sets
           (all_of_two (λ s. list_all (λ m. not (member_breaks context Names s m)) s.members && list_all (λ m. not (member_breaks context Source s m)) s.members) (λ s. list_all (λ m. not (member_breaks context Texts s m)) s.members && list_all (λ m. is_some (target_kind m)) s.members) (λ s. list_all (is_whole_member context.tables s) s.members) raw.sets
-              (λ s a b. let p = parts _ _ a in let q = parts _ _ b in whole_members context s p.0 p.1 q.0 q.1)
-              (all_of_two _ _ (λ s. list_all (λ m. not (member_breaks context Names s m)) s.members && list_all (λ m. not (member_breaks context Source s m)) s.members) raw.sets (λ s a b. joined _ _ a b) names.0.members source.0.members)
-              (all_of_two _ _ (λ s. list_all (λ m. not (member_breaks context Texts s m)) s.members && list_all (λ m. is_some (target_kind m)) s.members) raw.sets (λ s a b. joined _ _ a b) texts.0.members kinds));
+          (λ s a b. let p = parts _ _ a in let q = parts _ _ b in whole_members context s p.0 p.1 q.0 q.1)
+          (all_of_two _ _ (λ s. list_all (λ m. not (member_breaks context Names s m)) s.members && list_all (λ m. not (member_breaks context Source s m)) s.members) raw.sets (λ s a b. joined _ _ a b) names.0.members source.0.members)
+          (all_of_two _ _ (λ s. list_all (λ m. not (member_breaks context Texts s m)) s.members && list_all (λ m. is_some (target_kind m)) s.members) raw.sets (λ s a b. joined _ _ a b) texts.0.members kinds));
     }

@@ -9,8 +9,8 @@ use Rattle.repl_commands.specs.declared.written.RawTable.{RawTable}
 use Rattle.repl_commands.specs.declared.written.RawRegistration.{RawRegistration}
 use Rattle.repl_commands.specs.declared.written.RawMember.{RawMember}
 use Rattle.repl_commands.specs.declared.written.RawSet.{RawSet}
-use Rattle.checked_defs.specs.Spelled.{table_of, registration_of, set_of}
-use Rattle.checked_defs.specs.Rules.{table_has_names, registration_has_names, set_has_names, member_has_names, table_stands_once, registration_stands_once, set_stands_once, member_stands_once, has_columns, has_key, has_table, has_after_images, has_before_images, has_two_servers, is_source_registered, has_texts, copies_may_move, condensed_rows_may_move, sums_stand_in_aggregates, replicas_stand_alone, is_replica_apart}
+use Rattle.checked_defs.specs.Spelled.{spelled_table, spelled_registration, spelled_set}
+use Rattle.checked_defs.specs.Rules.{table_has_names, registration_has_names, set_has_names, member_has_names, table_stands_once, registration_stands_once, set_stands_once, member_stands_once, has_column_entries, has_key_columns, has_table, has_after_images, has_before_images, has_two_servers, is_source_registered, has_texts, copies_may_move, condensed_rows_may_move, sums_stand_in_aggregates, replicas_stand_alone, is_replica_apart}
 use Rattle.checked_defs.specs.declared.rule.Rule.{Rule}
 use Rattle.checked_defs.specs.declared.rule.Rule.TheVariants.{Names, Once, Columns, Key, Table, After, Before, Source, Texts, Copies, Condensed, Sums, Replicas}
 use Rattle.checked_defs.specs.declared.context.Context.{Context}
@@ -34,15 +34,15 @@ rule_number Sums = 13
 rule_number Replicas = 14
 
 -- the rules, the lowest first
-abbrev pub rules : List Rule
-rules = Names ∷ Once ∷ Columns ∷ Key ∷ Table ∷ After ∷ Before ∷ Source ∷ Texts ∷ Copies ∷ Condensed ∷ Sums ∷ Replicas ∷ []
+abbrev pub all_rules : List Rule
+all_rules = Names ∷ Once ∷ Columns ∷ Key ∷ Table ∷ After ∷ Before ∷ Source ∷ Texts ∷ Copies ∷ Condensed ∷ Sums ∷ Replicas ∷ []
 
 -- a table of the text breaks a rule
 unfoldable pub table_breaks : RawDefs → Context → Rule → RawTable → Bool
 table_breaks raw context Names table = not (table_has_names table)
 table_breaks raw context Once table = not (table_stands_once raw context table)
-table_breaks raw context Columns table = not (has_columns table)
-table_breaks raw context Key table = not (has_key table)
+table_breaks raw context Columns table = not (has_column_entries table)
+table_breaks raw context Key table = not (has_key_columns table)
 table_breaks raw context rule table = false
 
 -- a registration of the text breaks a rule
@@ -100,7 +100,7 @@ first_broken raw context (rule ∷ others) = option_or (option_map (λ place. (r
 -- the definitions of a text, given the tables that stand beside it
 abbrev pub defs_of : RawDefs → List TableAt → Defs
 defs_of raw tables = record {
-  tables = filter_map table_of raw.tables;
-  registrations = filter_map (registration_of tables) raw.registrations;
-  sets = filter_map (set_of tables) raw.sets;
+  tables = filter_map spelled_table raw.tables;
+  registrations = filter_map (spelled_registration tables) raw.registrations;
+  sets = filter_map (spelled_set tables) raw.sets;
 }

@@ -13,7 +13,7 @@ use Rattle.repl_commands.specs.declared.written.RawRegistration.{RawRegistration
 use Rattle.repl_commands.specs.declared.written.RawMember.{RawMember}
 use Rattle.repl_commands.specs.declared.written.RawSet.{RawSet}
 use Rattle.repl_model.specs.Rules.{is_replica}
-use Rattle.checked_defs.specs.Spelled.{table_of, is_table, registration_of, is_registration}
+use Rattle.checked_defs.specs.Spelled.{spelled_table, is_table, spelled_registration, is_registration}
 use Rattle.checked_defs.specs.declared.context.Context.{Context}
 use Rattle.checked_defs.specs.declared.context.Link.{Link}
 use Rattle.checked_defs.specs.declared.defs.Defs.{Defs}
@@ -70,11 +70,11 @@ links_of_set set = map (link_of_member set) set.members
 
 -- the tables that stand beside a text
 abbrev pub all_tables : RawDefs → Defs → List TableAt
-all_tables raw known = filter_map table_of raw.tables ++ filter (is_other_table raw.tables) known.tables
+all_tables raw known = filter_map spelled_table raw.tables ++ filter (is_other_table raw.tables) known.tables
 
 -- the registrations that stand beside a text, given the tables
 abbrev pub all_registrations : RawDefs → Defs → List TableAt → List RegistrationAt
-all_registrations raw known tables = filter_map (registration_of tables) raw.registrations ++ filter (is_other_registration raw.registrations) known.registrations
+all_registrations raw known tables = filter_map (spelled_registration tables) raw.registrations ++ filter (is_other_registration raw.registrations) known.registrations
 
 -- the links of all sets that stand beside a text
 abbrev pub all_links : RawDefs → Defs → List Link

@@ -22,7 +22,7 @@ use Rattle.repl_model.specs.Rules.{all_differ, is_among, are_among, all_places, 
 use Rattle.repl_defs.specs.Entries.{column_name, column_form, target_name}
 use Rattle.repl_defs.specs.Texts.{definition_text_limit}
 use Rattle.repl_defs.specs.Trees.{predicate_tree}
-use Rattle.checked_defs.specs.Spelled.{column_of, place_of, is_table, is_registration, after_places, target_column, member_at}
+use Rattle.checked_defs.specs.Spelled.{spelled_column, column_place, is_table, is_registration, after_places, target_column, spelled_member_at}
 use Rattle.checked_defs.specs.Context.{is_replica_item}
 use Rattle.checked_defs.specs.declared.context.Context.{Context}
 use Rattle.checked_defs.specs.declared.context.Link.{Link}
@@ -76,12 +76,12 @@ abbrev pub names_raw_set : List ℕ → List ℕ → RawSet → Bool
 names_raw_set qual name set = bytes_eq qual set.qual && bytes_eq name set.name
 
 -- the link comes from this table
-abbrev pub comes_from : List ℕ → List ℕ → Link → Bool
-comes_from server table link = bytes_eq server link.source_server && bytes_eq table link.source
+abbrev pub copies_from : List ℕ → List ℕ → Link → Bool
+copies_from server table link = bytes_eq server link.source_server && bytes_eq table link.source
 
 -- the link goes to this target
-abbrev pub goes_to : List ℕ → List ℕ → Link → Bool
-goes_to server target link = bytes_eq server link.target_server && bytes_eq target link.target
+abbrev pub copies_to : List ℕ → List ℕ → Link → Bool
+copies_to server target link = bytes_eq server link.target_server && bytes_eq target link.target
 
 -- at most one of these is so
 abbrev pub at_most_one : {X : Type 0} → (X → Bool) → List X → Bool
@@ -92,7 +92,7 @@ at_most_one is xs = nat_le (count_by is xs) 1
 abbrev pub table_stands_once : RawDefs → Context → RawTable → Bool
 table_stands_once raw context table = at_most_one (names_table table.server table.name) raw.tables
     && texts_differ (filter_map column_name table.columns) && texts_differ table.key && texts_differ (unwrap_or table.fixed [])
-    && not (list_any (λ link. not link.is_replica && goes_to table.server table.name link) context.links)
+    && not (list_any (λ link. not link.is_replica && copies_to table.server table.name link) context.links)
 
 -- a registration of the text is the only one of its table, and its columns differ
 abbrev pub registration_stands_once : RawDefs → RawRegistration → Bool
@@ -106,7 +106,7 @@ set_stands_once raw set = at_most_one (names_raw_set set.qual set.name) raw.sets
 -- a member's columns differ, it has its target alone, and the target of a read-only one isn't named as a table
 abbrev pub member_stands_once : Context → RawSet → RawMember → Bool
 member_stands_once context set member = texts_differ (filter_map target_name (entries_of member))
-    && at_most_one (goes_to set.target member.target) context.links
+    && at_most_one (copies_to set.target member.target) context.links
     && (is_replica_item member || not (list_any (is_table set.target member.target) context.tables))
 
 -- ---- rule 4: the columns of a table
@@ -116,8 +116,8 @@ abbrev pub is_column_entry : List ℕ → Bool
 is_column_entry entry = nat_le (length entry) definition_text_limit && is_some (column_form entry)
 
 -- there are columns, and each entry is one
-abbrev pub has_columns : RawTable → Bool
-has_columns table = not (length table.columns == 0) && list_all is_column_entry table.columns
+abbrev pub has_column_entries : RawTable → Bool
+has_column_entries table = not (length table.columns == 0) && list_all is_column_entry table.columns
 
 -- ---- rule 5: the key and the fixed columns
 
@@ -127,13 +127,13 @@ is_key_column columns name = option_map_or (λ column. not column.nullable) (fin
 
 -- a name is that of a column
 abbrev pub is_column : List ColumnDef → List ℕ → Bool
-is_column columns name = is_some (place_of columns name)
+is_column columns name = is_some (column_place columns name)
 
 -- there is a key; its columns are columns that can't be NULL, and the fixed ones are columns
-abbrev pub has_key : RawTable → Bool
-has_key table = not (length table.key == 0)
-    && list_all (is_key_column (filter_map column_of table.columns)) table.key
-    && list_all (is_column (filter_map column_of table.columns)) (unwrap_or table.fixed [])
+abbrev pub has_key_columns : RawTable → Bool
+has_key_columns table = not (length table.key == 0)
+    && list_all (is_key_column (filter_map spelled_column table.columns)) table.key
+    && list_all (is_column (filter_map spelled_column table.columns)) (unwrap_or table.fixed [])
 
 -- ---- rules 6, 7 and 8: registrations
 
@@ -156,7 +156,7 @@ has_after_images context registration = option_map_or (λ def. after_fits def re
 
 -- a name is that of a column whose after-image is kept
 abbrev pub is_after_image : TableDef → Option (List (List ℕ)) → List ℕ → Bool
-is_after_image def after name = option_map_or (is_among (after_places def.columns after)) (place_of def.columns name) false
+is_after_image def after name = option_map_or (is_among (after_places def.columns after)) (column_place def.columns name) false
 
 -- rule 8: the before-images are among the after-images
 abbrev pub has_before_images : Context → RawRegistration → Bool
@@ -169,20 +169,20 @@ abbrev pub has_two_servers : RawSet → Bool
 has_two_servers set = not (bytes_eq set.source set.target)
 
 -- a table with its registration as a source; its log is no matter of definitions
-abbrev pub as_source : TableDef → Registration → SourceTable
-as_source def reg = record { def = def; reg = reg; log = [] }
+abbrev pub as_source_table : TableDef → Registration → SourceTable
+as_source_table def reg = record { def = def; reg = reg; log = [] }
 
 -- the registered table of this server and name, as a source
-abbrev pub source_at : Context → List ℕ → List ℕ → Option SourceTable
-source_at context server name = option_and_then (λ table. option_map (λ registration. as_source table.def registration.def) (find (is_registration server name) context.registrations)) (find (is_table server name) context.tables)
+abbrev pub registered_source : Context → List ℕ → List ℕ → Option SourceTable
+registered_source context server name = option_and_then (λ table. option_map (λ registration. as_source_table table.def registration.def) (find (is_registration server name) context.registrations)) (find (is_table server name) context.tables)
 
 -- rule 9: a member's source is a table that is registered
 abbrev pub is_source_registered : Context → RawSet → RawMember → Bool
-is_source_registered context set member = is_some (source_at context set.source member.source)
+is_source_registered context set member = is_some (registered_source context set.source member.source)
 
 -- a member with its source, if both are there
 abbrev pub member_over_source : Context → RawSet → RawMember → Option (SourceTable × Member)
-member_over_source context set member = option_and_then (λ source. option_map (λ spelled. (source, spelled)) (member_at context.tables set.source member)) (source_at context set.source member.source)
+member_over_source context set member = option_and_then (λ source. option_map (λ spelled. (source, spelled)) (spelled_member_at context.tables set.source member)) (registered_source context set.source member.source)
 
 -- a member with its source passes a test, if both are there
 abbrev pub member_passes : (SourceTable → Member → Bool) → Context → RawSet → RawMember → Bool
@@ -256,12 +256,12 @@ are_twins master replica = same_tables master.def replica.def && keeps_all_image
 
 -- the table at the replica is registered and alike to that at the master
 abbrev pub has_twin : Context → RawSet → RawMember → Bool
-has_twin context set member = option_map_or (λ master. option_map_or (are_twins master) (source_at context set.target member.target) false) (source_at context set.source member.source) true
+has_twin context set member = option_map_or (λ master. option_map_or (are_twins master) (registered_source context set.target member.target) false) (registered_source context set.source member.source) true
 
 -- a table is the target of one replica and the source of another
 abbrev pub makes_chain : Context → RawSet → RawMember → Bool
-makes_chain context set member = list_any (λ link. link.is_replica && comes_from set.target member.target link) context.links
-    || list_any (λ link. link.is_replica && goes_to set.source member.source link) context.links
+makes_chain context set member = list_any (λ link. link.is_replica && copies_from set.target member.target link) context.links
+    || list_any (λ link. link.is_replica && copies_to set.source member.source link) context.links
 
 -- a replica has the name of its source, says nothing of columns and rows, has a table like its own at the
 -- replica, and is no part of a chain

@@ -31,36 +31,36 @@ o >>= f = option_and_then f o
 -- ---- tables
 
 -- the column that an entry of a table spells: a name and a form
-unfoldable pub column_of : List ℕ → Option ColumnDef
-column_of entry = do
+unfoldable pub spelled_column : List ℕ → Option ColumnDef
+spelled_column entry = do
   word ← column_name entry
   name ← name_of word
   form ← column_form entry
   Some (record { name = name; kind = form.0; nullable = form.1 })
 
 -- the place of the column of a name
-abbrev pub place_of : List ColumnDef → List ℕ → Option ℕ
-place_of columns name = position (λ column. bytes_eq name column.name) columns
+abbrev pub column_place : List ColumnDef → List ℕ → Option ℕ
+column_place columns name = position (λ column. bytes_eq name column.name) columns
 
 -- the places of the columns that these names name, in the order of the names
-abbrev pub places_of : List ColumnDef → List (List ℕ) → List ℕ
-places_of columns names = filter_map (place_of columns) names
+abbrev pub column_places : List ColumnDef → List (List ℕ) → List ℕ
+column_places columns names = filter_map (column_place columns) names
 
 -- the definition of a table, with this name
 abbrev pub table_def : List ℕ → List ColumnDef → RawTable → TableDef
 table_def name columns table = record {
   name = name;
   columns = columns;
-  key = places_of columns table.key;
-  fixed = places_of columns (unwrap_or table.fixed []);
+  key = column_places columns table.key;
+  fixed = column_places columns (unwrap_or table.fixed []);
 }
 
 -- the table that an item spells, if its names are names
-unfoldable pub table_of : RawTable → Option TableAt
-table_of table = do
+unfoldable pub spelled_table : RawTable → Option TableAt
+spelled_table table = do
   server ← name_of table.server
   name ← name_of table.name
-  Some (record { server = server; def = table_def name (filter_map column_of table.columns) table })
+  Some (record { server = server; def = table_def name (filter_map spelled_column table.columns) table })
 
 -- the table is the one of this server and name
 abbrev pub is_table : List ℕ → List ℕ → TableAt → Bool
@@ -73,13 +73,13 @@ columns_at tables server name = option_map_or (λ table. table.def.columns) (fin
 -- ---- registrations
 
 -- one of these names is the name of the column
-abbrev pub is_named : List (List ℕ) → ColumnDef → Bool
-is_named names column = list_any (λ name. bytes_eq name column.name) names
+abbrev pub names_column : List (List ℕ) → ColumnDef → Bool
+names_column names column = list_any (λ name. bytes_eq name column.name) names
 
 -- the places, counted from one on, of the columns that the names name, in the order of the columns
 abbrev pub named_places : List (List ℕ) → ℕ → List ColumnDef → List ℕ
 named_places names place [] = []
-named_places names place (column ∷ columns) = if is_named names column then place ∷ named_places names (place + 1) columns else named_places names (place + 1) columns
+named_places names place (column ∷ columns) = if names_column names column then place ∷ named_places names (place + 1) columns else named_places names (place + 1) columns
 
 -- the places of the columns whose after-images are kept: all, if no names are given
 abbrev pub after_places : List ColumnDef → Option (List (List ℕ)) → List ℕ
@@ -98,8 +98,8 @@ registration_def table columns registration = record {
 }
 
 -- the registration that an item spells, given the tables, if its names are names
-unfoldable pub registration_of : List TableAt → RawRegistration → Option RegistrationAt
-registration_of tables registration = do
+unfoldable pub spelled_registration : List TableAt → RawRegistration → Option RegistrationAt
+spelled_registration tables registration = do
   server ← name_of registration.server
   table ← name_of registration.table
   Some (record { server = server; def = registration_def table (columns_at tables registration.server registration.table) registration })
@@ -130,8 +130,8 @@ target_column columns entry = do
   Some (record { name = name; from = from })
 
 -- the member that an item spells over the columns of its source, if its names are names
-unfoldable pub member_of : List ColumnDef → RawMember → Option Member
-member_of columns member = do
+unfoldable pub spelled_member : List ColumnDef → RawMember → Option Member
+spelled_member columns member = do
   source ← name_of member.source
   target ← name_of member.target
   kind ← target_kind member
@@ -144,12 +144,12 @@ member_of columns member = do
   })
 
 -- the member of a set that an item spells, given the tables
-abbrev pub member_at : List TableAt → List ℕ → RawMember → Option Member
-member_at tables source member = member_of (columns_at tables source member.source) member
+abbrev pub spelled_member_at : List TableAt → List ℕ → RawMember → Option Member
+spelled_member_at tables source member = spelled_member (columns_at tables source member.source) member
 
 -- the set that an item spells, given the tables, if its names are names
-unfoldable pub set_of : List TableAt → RawSet → Option SetDef
-set_of tables set = do
+unfoldable pub spelled_set : List TableAt → RawSet → Option SetDef
+spelled_set tables set = do
   qual ← name_of set.qual
   name ← name_of set.name
   source ← name_of set.source
@@ -160,5 +160,5 @@ set_of tables set = do
     target = target;
     commit_count = unwrap_or set.commit_count 0;
     max_minutes = unwrap_or set.max_minutes 0;
-    members = filter_map (member_at tables set.source) set.members;
+    members = filter_map (spelled_member_at tables set.source) set.members;
   })

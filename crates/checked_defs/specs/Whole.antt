@@ -10,7 +10,7 @@ use Rattle.repl_commands.specs.declared.written.RawMember.{RawMember}
 use Rattle.repl_commands.specs.declared.written.RawSet.{RawSet}
 use Rattle.repl_types.specs.declared.table.ColumnDef.{ColumnDef}
 use Rattle.repl_defs.specs.Trees.{predicate_tree}
-use Rattle.checked_defs.specs.Spelled.{column_of, table_of, columns_at, registration_of, target_kind, target_column, member_at, set_of}
+use Rattle.checked_defs.specs.Spelled.{spelled_column, spelled_table, columns_at, spelled_registration, target_kind, target_column, spelled_member_at, spelled_set}
 use Rattle.checked_defs.specs.Rules.{is_column, entries_of}
 use Rattle.checked_defs.specs.declared.defs.TableAt.{TableAt}
 
@@ -20,13 +20,13 @@ have_kinds raw = list_all (λ set. list_all (λ member. is_some (target_kind mem
 
 -- a table, its columns, and those of its key and its fixed ones
 abbrev pub is_whole_table : RawTable → Bool
-is_whole_table table = is_some (table_of table) && list_all (λ entry. is_some (column_of entry)) table.columns
-    && list_all (is_column (filter_map column_of table.columns)) table.key
-    && list_all (is_column (filter_map column_of table.columns)) (unwrap_or table.fixed [])
+is_whole_table table = is_some (spelled_table table) && list_all (λ entry. is_some (spelled_column entry)) table.columns
+    && list_all (is_column (filter_map spelled_column table.columns)) table.key
+    && list_all (is_column (filter_map spelled_column table.columns)) (unwrap_or table.fixed [])
 
 -- a registration, and the columns that it names, which are some of its table
 abbrev pub is_whole_registration : List TableAt → RawRegistration → Bool
-is_whole_registration tables registration = is_some (registration_of tables registration)
+is_whole_registration tables registration = is_some (spelled_registration tables registration)
     && list_all (is_column (columns_at tables registration.server registration.table)) (unwrap_or registration.after [])
     && list_all (is_column (columns_at tables registration.server registration.table)) (unwrap_or registration.before [])
 
@@ -37,14 +37,14 @@ has_whole_texts columns member = list_all (λ entry. is_some (target_column colu
 
 -- a member, and its texts
 abbrev pub is_whole_member : List TableAt → RawSet → RawMember → Bool
-is_whole_member tables set member = is_some (member_at tables set.source member) && has_whole_texts (columns_at tables set.source member.source) member
+is_whole_member tables set member = is_some (spelled_member_at tables set.source member) && has_whole_texts (columns_at tables set.source member.source) member
 
 -- a set, and its members
 abbrev pub is_whole_set : List TableAt → RawSet → Bool
-is_whole_set tables set = is_some (set_of tables set) && list_all (is_whole_member tables set) set.members
+is_whole_set tables set = is_some (spelled_set tables set) && list_all (is_whole_member tables set) set.members
 
 -- Nothing of the text is left out.
-pub record IsWhole (raw : RawDefs) (beside : List TableAt) : Type 0 where
+pub record LeavesNothingOut (raw : RawDefs) (beside : List TableAt) : Type 0 where
   pub tables : IsTrue (list_all is_whole_table raw.tables)
   pub registrations : IsTrue (list_all (is_whole_registration beside) raw.registrations)
   pub sets : IsTrue (list_all (is_whole_set beside) raw.sets)

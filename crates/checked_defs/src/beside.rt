@@ -11,7 +11,7 @@ ghost use Rattle.checked_defs.specs.Context.{all_tables as all_tables_lem, all_r
 use crate::context::Context;
 use crate::defs::{Defs, RegistrationAt, TableAt};
 use crate::links::all_links;
-use crate::spelled::{is_table, registrations_of, tables_of};
+use crate::spelled::{is_table, spelled_registrations, spelled_tables};
 use repl_commands::{RawDefs, RawRegistration, RawTable};
 use repl_types::List;
 use std::alloc::{AllocError, Global};
@@ -86,7 +86,7 @@ fn copy_registration(registration: &RegistrationAt) -> Result<RegistrationAt, Al
 fn all_tables(alloc: Global, raw: &RawDefs, known: &Defs) -> Result<List<TableAt>, AllocError>
     ensures { IfOk result (λ tables. tables ≡ all_tables_lem raw.now known.now) }
 {
-    let mut tables = tables_of(alloc, raw.tables.as_slice())?;
+    let mut tables = spelled_tables(alloc, raw.tables.as_slice())?;
     'known: for table in known.tables.as_slice() {
         if is_other_table(raw.tables.as_slice(), table) {
             tables.push(copy_table(table)?)?;
@@ -105,7 +105,7 @@ fn all_registrations(
     ensures { IfOk result
         (λ registrations. registrations ≡ all_registrations_lem raw.now known.now tables.now) }
 {
-    let mut registrations = registrations_of(alloc, tables, raw.registrations.as_slice())?;
+    let mut registrations = spelled_registrations(alloc, tables, raw.registrations.as_slice())?;
     'known: for registration in known.registrations.as_slice() {
         if is_other_registration(raw.registrations.as_slice(), registration) {
             registrations.push(copy_registration(registration)?)?;

@@ -3,8 +3,8 @@
 ghost use Rattle.std.specs.Prelude.{◌≡◌, [], length, unwrap_or, IfOk};
 ghost use Rattle.std.specs.List.{list_all, range_with_len};
 ghost use Rattle.repl_model.specs.Rules.{is_among as is_among_lem, are_among as are_among_lem};
-ghost use Rattle.checked_defs.specs.Spelled.{place_of as place_of_lem, places_of as places_of_lem};
-ghost use Rattle.checked_defs.specs.Spelled.{is_named as is_named_lem, named_places as named_places_lem};
+ghost use Rattle.checked_defs.specs.Spelled.{column_place as column_place_lem, column_places as column_places_lem};
+ghost use Rattle.checked_defs.specs.Spelled.{names_column as names_column_lem, named_places as named_places_lem};
 ghost use Rattle.checked_defs.specs.Spelled.{after_places as after_places_lem};
 ghost use Rattle.checked_defs.specs.Rules.{is_column as is_column_lem};
 
@@ -36,8 +36,8 @@ pub fn are_among(places: &[u32], some: &[u32]) -> bool
 }
 
 /// The place of the column of a name.
-pub fn place_of(columns: &[ColumnDef], name: &[u8]) -> Option<usize>
-    ensures { result ≡ place_of_lem columns.now name.now }
+pub fn column_place(columns: &[ColumnDef], name: &[u8]) -> Option<usize>
+    ensures { result ≡ column_place_lem columns.now name.now }
 {
     columns
         .iter()
@@ -48,7 +48,7 @@ pub fn place_of(columns: &[ColumnDef], name: &[u8]) -> Option<usize>
 pub fn is_column(columns: &[ColumnDef], name: &[u8]) -> bool
     ensures { result ≡ is_column_lem columns.now name.now }
 {
-    place_of(columns, name).is_some()
+    column_place(columns, name).is_some()
 }
 
 /// Whether the names are those of columns.
@@ -69,16 +69,16 @@ pub fn narrow_place(place: usize) -> Result<u32, AllocError>
 }
 
 /// The places of the columns that the names name, in the order of the names.
-pub fn places_of(
+pub fn column_places(
     alloc: Global,
     columns: &[ColumnDef],
     names: &[Bytes],
 ) -> Result<List<u32>, AllocError>
-    ensures { IfOk result (λ places. places ≡ places_of_lem columns.now names.now) }
+    ensures { IfOk result (λ places. places ≡ column_places_lem columns.now names.now) }
 {
     let mut places = List::new(alloc);
     'names: for name in names {
-        if let Some(place) = place_of(columns, name.as_slice()) {
+        if let Some(place) = column_place(columns, name.as_slice()) {
             places.push(narrow_place(place)?)?;
         }
     }
@@ -86,8 +86,8 @@ pub fn places_of(
 }
 
 /// Whether one of these names is the name of the column.
-pub fn is_named(names: &[Bytes], column: &ColumnDef) -> bool
-    ensures { result ≡ is_named_lem names.now column.now }
+pub fn names_column(names: &[Bytes], column: &ColumnDef) -> bool
+    ensures { result ≡ names_column_lem names.now column.now }
 {
     names
         .iter()
@@ -104,7 +104,7 @@ pub fn named_places(
 {
     let mut places = List::new(alloc);
     'columns: for (place, column) in columns.iter().enumerate() {
-        if is_named(names, column) {
+        if names_column(names, column) {
             places.push(narrow_place(place)?)?;
         }
     }

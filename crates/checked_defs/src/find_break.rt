@@ -2,7 +2,7 @@
 
 ghost use Rattle.std.specs.Prelude.{◌≡◌, ◌<◌, ◌^◌, ◌+◌, ◌-◌, IfOk};
 ghost use Rattle.std.specs.List.{position_from};
-ghost use Rattle.checked_defs.specs.Broken.{rules, first_broken as first_broken_lem};
+ghost use Rattle.checked_defs.specs.Broken.{all_rules, first_broken as first_broken_lem};
 ghost use Rattle.checked_defs.specs.Broken.{table_breaks as table_breaks_lem};
 ghost use Rattle.checked_defs.specs.Broken.{registration_breaks as registration_breaks_lem};
 ghost use Rattle.checked_defs.specs.Broken.{set_breaks as set_breaks_lem};
@@ -24,7 +24,7 @@ use crate::once::{
 use crate::registrations::{has_after_images, has_before_images, has_table};
 use crate::replicas::{is_replica_apart, replicas_stand_alone};
 use crate::rule::Rule;
-use crate::tables::{has_columns, has_key};
+use crate::tables::{has_column_entries, has_key_columns};
 use repl_commands::{RawDefs, RawMember, RawRegistration, RawSet, RawTable};
 use repl_types::DefPlace;
 use std::alloc::{AllocError, Global};
@@ -44,8 +44,8 @@ fn table_breaks(
     match rule {
         Rule::Names => Ok(!table_has_names(table)),
         Rule::Once => Ok(!table_stands_once(alloc, raw, context, table)?),
-        Rule::Columns => Ok(!has_columns(table)),
-        Rule::Key => Ok(!has_key(alloc, table)?),
+        Rule::Columns => Ok(!has_column_entries(table)),
+        Rule::Key => Ok(!has_key_columns(alloc, table)?),
         Rule::Table | Rule::After | Rule::Before => Ok(false),
         Rule::Source | Rule::Texts | Rule::Copies | Rule::Condensed => Ok(false),
         Rule::Sums | Rule::Replicas => Ok(false),
@@ -266,7 +266,7 @@ pub fn find_break(
     raw: &RawDefs,
     context: &Context,
 ) -> Result<Option<(u8, DefPlace)>, AllocError>
-    ensures { IfOk result (λ broken. broken ≡ first_broken_lem raw.now context.now rules) }
+    ensures { IfOk result (λ broken. broken ≡ first_broken_lem raw.now context.now all_rules) }
 {
     first_broken(alloc, raw, context, &Rule::ALL)
 }

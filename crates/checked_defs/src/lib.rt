@@ -15,8 +15,8 @@
 ghost use Rattle.std.specs.Prelude.{◌≡◌, ℕ, Some, None, IsTrue, IfOk, OnOk};
 ghost use Rattle.repl_types.specs.declared.refusal.DefPlace.{DefPlace as Place};
 ghost use Rattle.checked_defs.specs.Context.{context_of as context_of_lem};
-ghost use Rattle.checked_defs.specs.Broken.{rules, first_broken, defs_of};
-ghost use Rattle.checked_defs.specs.Whole.{have_kinds, IsWhole};
+ghost use Rattle.checked_defs.specs.Broken.{all_rules, first_broken, defs_of};
+ghost use Rattle.checked_defs.specs.Whole.{have_kinds, LeavesNothingOut};
 
 mod beside;
 mod columns;
@@ -50,11 +50,11 @@ use std::alloc::Global;
 /// out of memory.
 pub fn check(alloc: Global, raw: &RawDefs, known: &Defs) -> Result<Defs, DefsError>
     ensures ok { IfOk result (λ defs. defs ≡ defs_of raw.now (context_of_lem raw.now known.now).tables) }
-    ensures kept { IfOk result (λ _. first_broken raw.now (context_of_lem raw.now known.now) rules ≡ None) }
+    ensures kept { IfOk result (λ _. first_broken raw.now (context_of_lem raw.now known.now) all_rules ≡ None) }
     ensures whole { OnOk result (IsTrue (have_kinds raw.now)
-        → IsWhole raw.now (context_of_lem raw.now known.now).tables) }
+        → LeavesNothingOut raw.now (context_of_lem raw.now known.now).tables) }
     ensures broken { (rule : ℕ) (place : Place) → result ≡ Err (DefsError.Broken rule place)
-        → first_broken raw.now (context_of_lem raw.now known.now) rules ≡ Some (rule, place) }
+        → first_broken raw.now (context_of_lem raw.now known.now) all_rules ≡ Some (rule, place) }
 {
     let context = context_of(alloc, raw, known)?;
     if let Some((rule, place)) = find_break(alloc, raw, &context)? {

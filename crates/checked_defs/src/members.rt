@@ -12,9 +12,9 @@ ghost use Rattle.repl_model.specs.Rules.{sums_texts as sums_texts_lem, keys_stan
 ghost use Rattle.repl_model.specs.Rules.{copy_may_move as copy_may_move_lem};
 ghost use Rattle.repl_model.specs.Rules.{condensed_may_move as condensed_may_move_lem};
 ghost use Rattle.repl_model.specs.Rules.{sums_fit as sums_fit_lem};
-ghost use Rattle.checked_defs.specs.Rules.{has_two_servers as has_two_servers_lem, as_source};
+ghost use Rattle.checked_defs.specs.Rules.{has_two_servers as has_two_servers_lem, as_source_table};
 ghost use Rattle.checked_defs.specs.Rules.{is_source_registered as is_source_registered_lem};
-ghost use Rattle.checked_defs.specs.Rules.{source_at as source_at_lem};
+ghost use Rattle.checked_defs.specs.Rules.{registered_source as registered_source_lem};
 ghost use Rattle.checked_defs.specs.Rules.{member_over_source as member_over_source_lem};
 ghost use Rattle.checked_defs.specs.Rules.{is_target_entry as is_target_entry_lem};
 ghost use Rattle.checked_defs.specs.Rules.{texts_are_read as texts_are_read_lem};
@@ -29,7 +29,7 @@ use crate::columns::{are_among, texts_or_none};
 use crate::context::Context;
 use crate::links::is_replica_item;
 use crate::reads::{column_reads_among, filter_reads_among, just_column};
-use crate::spelled::{find_table, member_at, target_column};
+use crate::spelled::{find_table, spelled_member_at, target_column};
 use repl_commands::{RawMember, RawSet};
 use repl_definitions::{ColumnFrom, Member, TargetColumn, TargetKind};
 use repl_defs::{DEFINITION_TEXT_LIMIT, find_predicate};
@@ -44,13 +44,13 @@ pub fn has_two_servers(set: &RawSet) -> bool
 }
 
 /// The registered table of this server and name.
-pub fn source_at<'a>(
+pub fn registered_source<'a>(
     context: &'a Context,
     server: &[u8],
     name: &[u8],
 ) -> Option<(&'a TableDef, &'a Registration)>
-    ensures { option_map (λ s. as_source s.0.now s.1.now) result
-        ≡ source_at_lem context.now server.now name.now }
+    ensures { option_map (λ s. as_source_table s.0.now s.1.now) result
+        ≡ registered_source_lem context.now server.now name.now }
 {
     let Some(table) = find_table(context.tables.as_slice(), server, name) else {
         return None;
@@ -66,7 +66,7 @@ pub fn source_at<'a>(
 pub fn is_source_registered(context: &Context, set: &RawSet, member: &RawMember) -> bool
     ensures { result ≡ is_source_registered_lem context.now set.now member.now }
 {
-    match source_at(context, set.source.as_slice(), member.source.as_slice()) {
+    match registered_source(context, set.source.as_slice(), member.source.as_slice()) {
         Some(_) => true,
         None => false,
     }
@@ -79,14 +79,14 @@ fn member_over_source<'a>(
     set: &RawSet,
     member: &RawMember,
 ) -> Result<Option<(&'a TableDef, &'a Registration, Member)>, AllocError>
-    ensures { IfOk result (λ over. option_map (λ o. (as_source o.0.now o.1.now, o.2)) over
+    ensures { IfOk result (λ over. option_map (λ o. (as_source_table o.0.now o.1.now, o.2)) over
         ≡ member_over_source_lem context.now set.now member.now) }
 {
     let source = set.source.as_slice();
-    let Some((def, reg)) = source_at(context, source, member.source.as_slice()) else {
+    let Some((def, reg)) = registered_source(context, source, member.source.as_slice()) else {
         return Ok(None);
     };
-    let Some(spelled) = member_at(alloc, context.tables.as_slice(), source, member)? else {
+    let Some(spelled) = spelled_member_at(alloc, context.tables.as_slice(), source, member)? else {
         return Ok(None);
     };
     Ok(Some((def, reg, spelled)))
@@ -212,7 +212,7 @@ fn copies_each_once(member: &Member, places: &[u32]) -> bool
 
 /// Whether a target whose rows stand under their keys has each column of the key exactly once.
 fn keys_stand(def: &TableDef, member: &Member) -> bool
-    ensures { (reg : Captured) → result ≡ keys_stand_lem (as_source def.now reg) member.now }
+    ensures { (reg : Captured) → result ≡ keys_stand_lem (as_source_table def.now reg) member.now }
 {
     !(is_copy(member.kind) || is_condensed(member.kind))
         || copies_each_once(member, def.key.as_slice())
@@ -242,7 +242,7 @@ fn copy_may_move(
     member: &Member,
 ) -> Result<bool, AllocError>
     ensures { IfOk result
-        (λ may. may ≡ copy_may_move_lem (as_source def.now reg.now) member.now) }
+        (λ may. may ≡ copy_may_move_lem (as_source_table def.now reg.now) member.now) }
 {
     if !is_copy(member.kind) || reg.del_ins {
         return Ok(true);
@@ -253,7 +253,7 @@ fn copy_may_move(
 
 /// Whether the rows of a condensed table may move, by what is fixed.
 fn condensed_may_move(def: &TableDef, reg: &Registration, member: &Member) -> bool
-    ensures { result ≡ condensed_may_move_lem (as_source def.now reg.now) member.now }
+    ensures { result ≡ condensed_may_move_lem (as_source_table def.now reg.now) member.now }
 {
     !is_condensed(member.kind) || reg.del_ins || moves_among(def.fixed.as_slice(), def, member)
 }
@@ -311,7 +311,7 @@ fn some_sum_texts(source: &[ColumnDef], columns: &[TargetColumn]) -> bool
 
 /// Whether a member sums up as its kind asks.
 fn sums_fit(def: &TableDef, member: &Member) -> bool
-    ensures { (reg : Captured) → result ≡ sums_fit_lem (as_source def.now reg) member.now }
+    ensures { (reg : Captured) → result ≡ sums_fit_lem (as_source_table def.now reg) member.now }
 {
     let columns = member.columns.as_slice();
     if is_aggregate(member.kind) {
@@ -332,7 +332,7 @@ fn texts_fit(
     spelled: &Member,
 ) -> Result<bool, AllocError>
     ensures { IfOk result (λ fit. fit
-        ≡ texts_fit_lem member.now (as_source def.now reg.now) spelled.now) }
+        ≡ texts_fit_lem member.now (as_source_table def.now reg.now) spelled.now) }
 {
     Ok(
         texts_are_read(alloc, &def.columns, member)?

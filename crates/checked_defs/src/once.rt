@@ -9,7 +9,7 @@ ghost use Rattle.checked_defs.specs.Rules.{texts_differ as texts_differ_lem};
 ghost use Rattle.checked_defs.specs.Rules.{names_table as names_table_lem};
 ghost use Rattle.checked_defs.specs.Rules.{names_registration as names_registration_lem};
 ghost use Rattle.checked_defs.specs.Rules.{names_raw_set as names_raw_set_lem};
-ghost use Rattle.checked_defs.specs.Rules.{goes_to as goes_to_lem};
+ghost use Rattle.checked_defs.specs.Rules.{copies_to as copies_to_lem};
 ghost use Rattle.checked_defs.specs.Rules.{table_stands_once as table_stands_once_lem};
 ghost use Rattle.checked_defs.specs.Rules.{registration_stands_once as registration_stands_once_lem};
 ghost use Rattle.checked_defs.specs.Rules.{set_stands_once as set_stands_once_lem};
@@ -94,20 +94,20 @@ fn names_raw_set(qual: &[u8], name: &[u8], set: &RawSet) -> bool
 }
 
 /// Whether the link goes to this target.
-pub fn goes_to(server: &[u8], target: &[u8], link: &Link) -> bool
-    ensures { result ≡ goes_to_lem server.now target.now link.now }
+pub fn copies_to(server: &[u8], target: &[u8], link: &Link) -> bool
+    ensures { result ≡ copies_to_lem server.now target.now link.now }
 {
     server == link.target_server.as_slice() && target == link.target.as_slice()
 }
 
 /// Whether a read-only link goes to this target.
-fn some_read_only_goes_to(server: &[u8], target: &[u8], links: &[Link]) -> bool
+fn some_read_only_copies_to(server: &[u8], target: &[u8], links: &[Link]) -> bool
     ensures { result ≡ list_any
-        (λ link. not link.is_replica && goes_to_lem server.now target.now link) links.now }
+        (λ link. not link.is_replica && copies_to_lem server.now target.now link) links.now }
 {
     links
         .iter()
-        .any(|link| !link.is_replica && goes_to(server, target, link))
+        .any(|link| !link.is_replica && copies_to(server, target, link))
 }
 
 /// Whether one of the tables is this one.
@@ -139,7 +139,7 @@ pub fn table_stands_once(
             && texts_differ(names.as_slice())
             && texts_differ(table.key.as_slice())
             && texts_differ(texts_or_none(&table.fixed))
-            && !some_read_only_goes_to(server, name, context.links.as_slice()),
+            && !some_read_only_copies_to(server, name, context.links.as_slice()),
     )
 }
 
@@ -193,7 +193,7 @@ pub fn member_stands_once(
         .links
         .as_slice()
         .iter()
-        .filter(|link| goes_to(server, target, link))
+        .filter(|link| copies_to(server, target, link))
         .count();
     Ok(
         texts_differ(names.as_slice())

@@ -5,10 +5,10 @@ ghost use Rattle.std.specs.List.{list_all, list_any};
 ghost use Rattle.std.specs.Cmp.Lexicographic.{pointwise};
 ghost use Rattle.repl_model.specs.Rules.{all_places as all_places_lem, are_among as are_among_lem};
 ghost use Rattle.checked_defs.specs.Rules.{replicas_stand_alone as replicas_stand_alone_lem};
-ghost use Rattle.checked_defs.specs.Rules.{same_column as same_column_lem, as_source};
+ghost use Rattle.checked_defs.specs.Rules.{same_column as same_column_lem, as_source_table};
 ghost use Rattle.checked_defs.specs.Rules.{keeps_all_images as keeps_all_images_lem};
 ghost use Rattle.checked_defs.specs.Rules.{same_tables as same_tables_lem, has_twin as has_twin_lem};
-ghost use Rattle.checked_defs.specs.Rules.{comes_from as comes_from_lem, goes_to as goes_to_lem};
+ghost use Rattle.checked_defs.specs.Rules.{copies_from as copies_from_lem, copies_to as copies_to_lem};
 ghost use Rattle.checked_defs.specs.Context.{is_replica_item as is_replica_item_lem};
 ghost use Rattle.checked_defs.specs.Rules.{makes_chain as makes_chain_lem};
 ghost use Rattle.checked_defs.specs.Rules.{is_replica_apart as is_replica_apart_lem};
@@ -16,8 +16,8 @@ ghost use Rattle.checked_defs.specs.Rules.{is_replica_apart as is_replica_apart_
 use crate::columns::{all_places, are_among};
 use crate::context::{Context, Link};
 use crate::links::is_replica_item;
-use crate::members::source_at;
-use crate::once::goes_to;
+use crate::members::registered_source;
+use crate::once::copies_to;
 use repl_commands::{RawMember, RawSet};
 use repl_types::{ColumnDef, Registration, TableDef};
 use std::alloc::{AllocError, Global};
@@ -87,7 +87,7 @@ fn has_all_places(alloc: Global, places: &[u32], def: &TableDef) -> Result<bool,
 /// Whether all columns are captured as they were before and after a change, each change by one
 /// change row.
 fn keeps_all_images(alloc: Global, def: &TableDef, reg: &Registration) -> Result<bool, AllocError>
-    ensures { IfOk result (λ keeps. keeps ≡ keeps_all_images_lem (as_source def.now reg.now)) }
+    ensures { IfOk result (λ keeps. keeps ≡ keeps_all_images_lem (as_source_table def.now reg.now)) }
 {
     Ok(
         has_all_places(alloc, reg.after.as_slice(), def)?
@@ -116,8 +116,8 @@ fn has_twin(
 ) -> Result<bool, AllocError>
     ensures { IfOk result (λ has. has ≡ has_twin_lem context.now set.now member.now) }
 {
-    let master = source_at(context, set.source.as_slice(), member.source.as_slice());
-    let replica = source_at(context, set.target.as_slice(), member.target.as_slice());
+    let master = registered_source(context, set.source.as_slice(), member.source.as_slice());
+    let replica = registered_source(context, set.target.as_slice(), member.target.as_slice());
     match master {
         Some((master, master_reg)) => match replica {
             Some((replica, replica_reg)) => Ok(
@@ -132,30 +132,30 @@ fn has_twin(
 }
 
 /// Whether the link comes from this table.
-fn comes_from(server: &[u8], table: &[u8], link: &Link) -> bool
-    ensures { result ≡ comes_from_lem server.now table.now link.now }
+fn copies_from(server: &[u8], table: &[u8], link: &Link) -> bool
+    ensures { result ≡ copies_from_lem server.now table.now link.now }
 {
     server == link.source_server.as_slice() && table == link.source.as_slice()
 }
 
 /// Whether a replica comes from this table.
-fn some_replica_comes_from(server: &[u8], table: &[u8], links: &[Link]) -> bool
+fn some_replica_copies_from(server: &[u8], table: &[u8], links: &[Link]) -> bool
     ensures { result ≡ list_any
-        (λ link. link.is_replica && comes_from_lem server.now table.now link) links.now }
+        (λ link. link.is_replica && copies_from_lem server.now table.now link) links.now }
 {
     links
         .iter()
-        .any(|link| link.is_replica && comes_from(server, table, link))
+        .any(|link| link.is_replica && copies_from(server, table, link))
 }
 
 /// Whether a replica goes to this table.
-fn some_replica_goes_to(server: &[u8], table: &[u8], links: &[Link]) -> bool
+fn some_replica_copies_to(server: &[u8], table: &[u8], links: &[Link]) -> bool
     ensures { result ≡ list_any
-        (λ link. link.is_replica && goes_to_lem server.now table.now link) links.now }
+        (λ link. link.is_replica && copies_to_lem server.now table.now link) links.now }
 {
     links
         .iter()
-        .any(|link| link.is_replica && goes_to(server, table, link))
+        .any(|link| link.is_replica && copies_to(server, table, link))
 }
 
 /// Whether a table is the target of one replica and the source of another.
@@ -163,8 +163,8 @@ fn makes_chain(context: &Context, set: &RawSet, member: &RawMember) -> bool
     ensures { result ≡ makes_chain_lem context.now set.now member.now }
 {
     let links = context.links.as_slice();
-    some_replica_comes_from(set.target.as_slice(), member.target.as_slice(), links)
-        || some_replica_goes_to(set.source.as_slice(), member.source.as_slice(), links)
+    some_replica_copies_from(set.target.as_slice(), member.target.as_slice(), links)
+        || some_replica_copies_to(set.source.as_slice(), member.source.as_slice(), links)
 }
 
 /// Whether a member that is a replica has the name of its source, says nothing of columns and rows,

@@ -1,7 +1,7 @@
 //! The rules that `check` asks.
 
 ghost use Rattle.std.specs.Prelude.{◌≡◌};
-ghost use Rattle.checked_defs.specs.Broken.{rule_number, rules};
+ghost use Rattle.checked_defs.specs.Broken.{rule_number};
 
 /// A rule of definitions.
 #[derive(Clone, Copy, Debug, PartialEq, Eq)]

@@ -4,17 +4,17 @@ ghost use Rattle.std.specs.Prelude.{◌≡◌, [], find, option_map, option_and_
 ghost use Rattle.std.specs.List.{filter_map};
 ghost use Rattle.repl_defs.specs.Trees.{predicate_tree};
 ghost use Rattle.repl_types.specs.Name.{name_of};
-ghost use Rattle.checked_defs.specs.Spelled.{column_of as column_of_lem, table_of as table_of_lem};
+ghost use Rattle.checked_defs.specs.Spelled.{spelled_column as spelled_column_lem, spelled_table as spelled_table_lem};
 ghost use Rattle.checked_defs.specs.Spelled.{is_table as is_table_lem, columns_at as columns_at_lem};
-ghost use Rattle.checked_defs.specs.Spelled.{registration_of as registration_of_lem};
+ghost use Rattle.checked_defs.specs.Spelled.{spelled_registration as spelled_registration_lem};
 ghost use Rattle.checked_defs.specs.Spelled.{registration_def as registration_def_lem};
 ghost use Rattle.checked_defs.specs.Spelled.{target_kind as target_kind_lem};
 ghost use Rattle.checked_defs.specs.Spelled.{target_column as target_column_lem};
-ghost use Rattle.checked_defs.specs.Spelled.{member_of as member_of_lem, member_at as member_at_lem};
-ghost use Rattle.checked_defs.specs.Spelled.{set_of as set_of_lem};
+ghost use Rattle.checked_defs.specs.Spelled.{spelled_member as spelled_member_lem, spelled_member_at as spelled_member_at_lem};
+ghost use Rattle.checked_defs.specs.Spelled.{spelled_set as spelled_set_lem};
 ghost use Rattle.checked_defs.specs.Broken.{defs_of};
 
-use crate::columns::{after_places, named_places, places_of, texts_or_none};
+use crate::columns::{after_places, column_places, named_places, texts_or_none};
 use crate::defs::{Defs, RegistrationAt, TableAt};
 use repl_commands::{RawDefs, RawMember, RawRegistration, RawSet, RawTable};
 use repl_definitions::{Member, Predicate, SetDef, TargetColumn, TargetKind};
@@ -23,9 +23,9 @@ use repl_types::{Bytes, ColumnDef, List, Name, Registration, SetId, TableDef};
 use std::alloc::{AllocError, Global};
 
 /// The column that an entry of a table spells, if it spells one.
-#[tactic(auto, unfolding(crate::specs::Spelled::column_of))]
-fn column_of(alloc: Global, entry: &[u8]) -> Result<Option<ColumnDef>, AllocError>
-    ensures { IfOk result (λ column. column ≡ column_of_lem entry.now) }
+#[tactic(auto, unfolding(crate::specs::Spelled::spelled_column))]
+fn spelled_column(alloc: Global, entry: &[u8]) -> Result<Option<ColumnDef>, AllocError>
+    ensures { IfOk result (λ column. column ≡ spelled_column_lem entry.now) }
 {
     let Some((word, form)) = split_column(entry) else {
         return Ok(None);
@@ -44,12 +44,12 @@ fn column_of(alloc: Global, entry: &[u8]) -> Result<Option<ColumnDef>, AllocErro
 }
 
 /// The columns that the entries of a table spell.
-pub fn columns_of(alloc: Global, entries: &[Bytes]) -> Result<List<ColumnDef>, AllocError>
-    ensures { IfOk result (λ columns. columns ≡ filter_map column_of_lem entries.now) }
+pub fn spelled_columns(alloc: Global, entries: &[Bytes]) -> Result<List<ColumnDef>, AllocError>
+    ensures { IfOk result (λ columns. columns ≡ filter_map spelled_column_lem entries.now) }
 {
     let mut columns = List::new(alloc);
     'entries: for entry in entries {
-        if let Some(column) = column_of(alloc, entry.as_slice())? {
+        if let Some(column) = spelled_column(alloc, entry.as_slice())? {
             columns.push(column)?;
         }
     }
@@ -57,9 +57,9 @@ pub fn columns_of(alloc: Global, entries: &[Bytes]) -> Result<List<ColumnDef>, A
 }
 
 /// The table that an item spells, if its names are names.
-#[tactic(auto, unfolding(crate::specs::Spelled::table_of))]
-fn table_of(alloc: Global, table: &RawTable) -> Result<Option<TableAt>, AllocError>
-    ensures { IfOk result (λ spelled. spelled ≡ table_of_lem table.now) }
+#[tactic(auto, unfolding(crate::specs::Spelled::spelled_table))]
+fn spelled_table(alloc: Global, table: &RawTable) -> Result<Option<TableAt>, AllocError>
+    ensures { IfOk result (λ spelled. spelled ≡ spelled_table_lem table.now) }
 {
     let Some(server) = Name::read(alloc, table.server.as_slice())? else {
         return Ok(None);
@@ -67,9 +67,9 @@ fn table_of(alloc: Global, table: &RawTable) -> Result<Option<TableAt>, AllocErr
     let Some(name) = Name::read(alloc, table.name.as_slice())? else {
         return Ok(None);
     };
-    let columns = columns_of(alloc, table.columns.as_slice())?;
-    let key = places_of(alloc, columns.as_slice(), table.key.as_slice())?;
-    let fixed = places_of(alloc, columns.as_slice(), texts_or_none(&table.fixed))?;
+    let columns = spelled_columns(alloc, table.columns.as_slice())?;
+    let key = column_places(alloc, columns.as_slice(), table.key.as_slice())?;
+    let fixed = column_places(alloc, columns.as_slice(), texts_or_none(&table.fixed))?;
     let def = TableDef {
         name,
         columns,
@@ -80,12 +80,12 @@ fn table_of(alloc: Global, table: &RawTable) -> Result<Option<TableAt>, AllocErr
 }
 
 /// The tables that items spell.
-pub fn tables_of(alloc: Global, tables: &[RawTable]) -> Result<List<TableAt>, AllocError>
-    ensures { IfOk result (λ spelled. spelled ≡ filter_map table_of_lem tables.now) }
+pub fn spelled_tables(alloc: Global, tables: &[RawTable]) -> Result<List<TableAt>, AllocError>
+    ensures { IfOk result (λ spelled. spelled ≡ filter_map spelled_table_lem tables.now) }
 {
     let mut spelled = List::new(alloc);
     'tables: for table in tables {
-        if let Some(table) = table_of(alloc, table)? {
+        if let Some(table) = spelled_table(alloc, table)? {
             spelled.push(table)?;
         }
     }
@@ -143,14 +143,14 @@ fn registration_def(
 }
 
 /// The registration that an item spells, given the tables, if its names are names.
-#[tactic(auto, unfolding(crate::specs::Spelled::registration_of))]
-fn registration_of(
+#[tactic(auto, unfolding(crate::specs::Spelled::spelled_registration))]
+fn spelled_registration(
     alloc: Global,
     tables: &[TableAt],
     registration: &RawRegistration,
 ) -> Result<Option<RegistrationAt>, AllocError>
     ensures { IfOk result
-        (λ spelled. spelled ≡ registration_of_lem tables.now registration.now) }
+        (λ spelled. spelled ≡ spelled_registration_lem tables.now registration.now) }
 {
     let (server, table) = (
         registration.server.as_slice(),
@@ -169,17 +169,17 @@ fn registration_of(
 }
 
 /// The registrations that items spell, given the tables.
-pub fn registrations_of(
+pub fn spelled_registrations(
     alloc: Global,
     tables: &[TableAt],
     registrations: &[RawRegistration],
 ) -> Result<List<RegistrationAt>, AllocError>
     ensures { IfOk result
-        (λ spelled. spelled ≡ filter_map (registration_of_lem tables.now) registrations.now) }
+        (λ spelled. spelled ≡ filter_map (spelled_registration_lem tables.now) registrations.now) }
 {
     let mut spelled = List::new(alloc);
     'registrations: for registration in registrations {
-        if let Some(registration) = registration_of(alloc, tables, registration)? {
+        if let Some(registration) = spelled_registration(alloc, tables, registration)? {
             spelled.push(registration)?;
         }
     }
@@ -267,13 +267,13 @@ fn filter_of(
 }
 
 /// The member that an item spells over the columns of its source, if its names are names.
-#[tactic(auto, unfolding(crate::specs::Spelled::member_of))]
-fn member_of(
+#[tactic(auto, unfolding(crate::specs::Spelled::spelled_member))]
+fn spelled_member(
     alloc: Global,
     columns: &List<ColumnDef>,
     member: &RawMember,
 ) -> Result<Option<Member>, AllocError>
-    ensures { IfOk result (λ spelled. spelled ≡ member_of_lem columns.now member.now) }
+    ensures { IfOk result (λ spelled. spelled ≡ spelled_member_lem columns.now member.now) }
 {
     let Some(source) = Name::read(alloc, member.source.as_slice())? else {
         return Ok(None);
@@ -296,32 +296,32 @@ fn member_of(
 }
 
 /// The member of a set that an item spells, given the tables and the server of its source.
-pub fn member_at(
+pub fn spelled_member_at(
     alloc: Global,
     tables: &[TableAt],
     source: &[u8],
     member: &RawMember,
 ) -> Result<Option<Member>, AllocError>
-    ensures { IfOk result (λ spelled. spelled ≡ member_at_lem tables.now source.now member.now) }
+    ensures { IfOk result (λ spelled. spelled ≡ spelled_member_at_lem tables.now source.now member.now) }
 {
     let none = List::new(alloc);
     let columns = columns_at(tables, source, member.source.as_slice(), &none);
-    member_of(alloc, columns, member)
+    spelled_member(alloc, columns, member)
 }
 
 /// The members of a set that items spell.
-fn members_of(
+fn spelled_members(
     alloc: Global,
     tables: &[TableAt],
     source: &[u8],
     members: &[RawMember],
 ) -> Result<List<Member>, AllocError>
     ensures { IfOk result
-        (λ spelled. spelled ≡ filter_map (member_at_lem tables.now source.now) members.now) }
+        (λ spelled. spelled ≡ filter_map (spelled_member_at_lem tables.now source.now) members.now) }
 {
     let mut spelled = List::new(alloc);
     'members: for member in members {
-        if let Some(member) = member_at(alloc, tables, source, member)? {
+        if let Some(member) = spelled_member_at(alloc, tables, source, member)? {
             spelled.push(member)?;
         }
     }
@@ -344,9 +344,13 @@ fn set_id(alloc: Global, set: &RawSet) -> Result<Option<SetId>, AllocError>
 }
 
 /// The set that an item spells, given the tables, if its names are names.
-#[tactic(auto, unfolding(crate::specs::Spelled::set_of))]
-fn set_of(alloc: Global, tables: &[TableAt], set: &RawSet) -> Result<Option<SetDef>, AllocError>
-    ensures { IfOk result (λ spelled. spelled ≡ set_of_lem tables.now set.now) }
+#[tactic(auto, unfolding(crate::specs::Spelled::spelled_set))]
+fn spelled_set(
+    alloc: Global,
+    tables: &[TableAt],
+    set: &RawSet,
+) -> Result<Option<SetDef>, AllocError>
+    ensures { IfOk result (λ spelled. spelled ≡ spelled_set_lem tables.now set.now) }
 {
     let Some(id) = set_id(alloc, set)? else {
         return Ok(None);
@@ -357,7 +361,7 @@ fn set_of(alloc: Global, tables: &[TableAt], set: &RawSet) -> Result<Option<SetD
     let Some(target) = Name::read(alloc, set.target.as_slice())? else {
         return Ok(None);
     };
-    let members = members_of(alloc, tables, set.source.as_slice(), set.members.as_slice())?;
+    let members = spelled_members(alloc, tables, set.source.as_slice(), set.members.as_slice())?;
     Ok(Some(SetDef {
         id,
         source,
@@ -369,12 +373,16 @@ fn set_of(alloc: Global, tables: &[TableAt], set: &RawSet) -> Result<Option<SetD
 }
 
 /// The sets that items spell, given the tables.
-fn sets_of(alloc: Global, tables: &[TableAt], sets: &[RawSet]) -> Result<List<SetDef>, AllocError>
-    ensures { IfOk result (λ spelled. spelled ≡ filter_map (set_of_lem tables.now) sets.now) }
+fn spelled_sets(
+    alloc: Global,
+    tables: &[TableAt],
+    sets: &[RawSet],
+) -> Result<List<SetDef>, AllocError>
+    ensures { IfOk result (λ spelled. spelled ≡ filter_map (spelled_set_lem tables.now) sets.now) }
 {
     let mut spelled = List::new(alloc);
     'sets: for set in sets {
-        if let Some(set) = set_of(alloc, tables, set)? {
+        if let Some(set) = spelled_set(alloc, tables, set)? {
             spelled.push(set)?;
         }
     }
@@ -386,8 +394,8 @@ pub fn read_defs(alloc: Global, raw: &RawDefs, tables: &[TableAt]) -> Result<Def
     ensures { IfOk result (λ defs. defs ≡ defs_of raw.now tables.now) }
 {
     Ok(Defs {
-        tables: tables_of(alloc, raw.tables.as_slice())?,
-        registrations: registrations_of(alloc, tables, raw.registrations.as_slice())?,
-        sets: sets_of(alloc, tables, raw.sets.as_slice())?,
+        tables: spelled_tables(alloc, raw.tables.as_slice())?,
+        registrations: spelled_registrations(alloc, tables, raw.registrations.as_slice())?,
+        sets: spelled_sets(alloc, tables, raw.sets.as_slice())?,
     })
 }

@@ -4,11 +4,11 @@ ghost use Rattle.std.specs.Prelude.{◌≡◌, find, option_map, IfOk};
 ghost use Rattle.std.specs.List.{list_all};
 ghost use Rattle.std.specs.Str.{bytes_eq};
 ghost use Rattle.checked_defs.specs.Rules.{is_column_entry as is_column_entry_lem};
-ghost use Rattle.checked_defs.specs.Rules.{has_columns as has_columns_lem, has_key as has_key_lem};
+ghost use Rattle.checked_defs.specs.Rules.{has_column_entries as has_column_entries_lem, has_key_columns as has_key_columns_lem};
 ghost use Rattle.checked_defs.specs.Rules.{is_key_column as is_key_column_lem};
 
 use crate::columns::{are_columns, texts_or_none};
-use crate::spelled::columns_of;
+use crate::spelled::spelled_columns;
 use repl_commands::RawTable;
 use repl_defs::{DEFINITION_TEXT_LIMIT, split_column};
 use repl_types::{Bytes, ColumnDef};
@@ -37,8 +37,8 @@ fn are_column_entries(entries: &[Bytes]) -> bool
 }
 
 /// Whether there are columns, and each entry is one.
-pub fn has_columns(table: &RawTable) -> bool
-    ensures { result ≡ has_columns_lem table.now }
+pub fn has_column_entries(table: &RawTable) -> bool
+    ensures { result ≡ has_column_entries_lem table.now }
 {
     !table.columns.is_empty() && are_column_entries(table.columns.as_slice())
 }
@@ -73,10 +73,10 @@ fn are_key_columns(columns: &[ColumnDef], names: &[Bytes]) -> bool
 }
 
 /// Whether there is a key of columns that can't be NULL, and the fixed columns are columns.
-pub fn has_key(alloc: Global, table: &RawTable) -> Result<bool, AllocError>
-    ensures { IfOk result (λ keeps. keeps ≡ has_key_lem table.now) }
+pub fn has_key_columns(alloc: Global, table: &RawTable) -> Result<bool, AllocError>
+    ensures { IfOk result (λ keeps. keeps ≡ has_key_columns_lem table.now) }
 {
-    let columns = columns_of(alloc, table.columns.as_slice())?;
+    let columns = spelled_columns(alloc, table.columns.as_slice())?;
     let columns = columns.as_slice();
     Ok(
         !table.key.is_empty()

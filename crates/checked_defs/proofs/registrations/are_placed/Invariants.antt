@@ -2,9 +2,9 @@ use Rattle.std.proofs.Common.{◌≡◌, drop, false}
 use Rattle.std.specs.List.{list_all}
 use Rattle.std.specs.Option.{option_map_or}
 use Rattle.repl_model.specs.Rules.{is_among}
-use Rattle.checked_defs.specs.Spelled.{place_of}
+use Rattle.checked_defs.specs.Spelled.{column_place}
 use Rattle.checked_defs.proofs.registrations.are_placed.Given as goal
 
 abbrev pub invariant-names : goal.invariant-names
 invariant-names l =
-    list_all (λ name. option_map_or (is_among l.places) (place_of l.def.columns name) false) (drop l.name-index l.names) ≡ list_all (λ name. option_map_or (is_among l.places) (place_of l.def.columns name) false) l.names
+    list_all (λ name. option_map_or (is_among l.places) (column_place l.def.columns name) false) (drop l.name-index l.names) ≡ list_all (λ name. option_map_or (is_among l.places) (column_place l.def.columns name) false) l.names
