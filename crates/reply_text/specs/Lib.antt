@@ -1,0 +1,7 @@
+pub mod Fields
+pub mod Lines
+pub mod Refusals
+pub mod Replies
+pub mod Rows
+pub mod Status
+pub mod Steps
