@@ -19,11 +19,17 @@ ghost use Rattle.checked_defs.specs.Broken.{all_rules, first_broken, defs_of};
 ghost use Rattle.checked_defs.specs.Whole.{have_kinds, LeavesNothingOut};
 
 mod beside;
+#[cfg(test)]
+mod break_tests;
 mod columns;
 mod context;
 mod defs;
 mod find_break;
+#[cfg(test)]
+mod known_tests;
 mod links;
+#[cfg(test)]
+mod member_tests;
 mod members;
 mod names;
 mod once;
@@ -32,9 +38,11 @@ mod registrations;
 mod replicas;
 mod rule;
 mod spelled;
+#[cfg(test)]
+mod spelled_tests;
 mod tables;
 #[cfg(test)]
-mod tests;
+mod texts_for_tests;
 
 use crate::beside::context_of;
 use crate::find_break::find_break;

@@ -1,0 +1,497 @@
+//! Definitions that texts spell, written out by hand.
+
+use crate::texts_for_tests::{
+    CHANGED_ORDERS, ITEMS, LARGE_ORDERS, NUMBERS, ORDERS, ORDERS_BY_ITEM, PARTS, PENS_AND_INKS,
+    STOCK, STOCK_AT_BRANCH, check_alone, edit, join, stock_at,
+};
+use crate::{RegistrationAt, TableAt};
+use repl_definitions::{
+    Boxed, ColumnFrom, CompareOp, Expr, Member, Operand, Predicate, SetDef, TargetColumn,
+    TargetKind,
+};
+use repl_types::{ColumnDef, Kind, Value};
+use std::test::Fail;
+
+/// A table: its server, its name, its columns with their kinds and whether they are nullable, and
+/// the places of its key and of its fixed columns.
+#[derive(Clone, Copy)]
+struct WantedTable<'a> {
+    server: &'a str,
+    name: &'a str,
+    columns: &'a [(&'a str, Kind, bool)],
+    key: &'a [u32],
+    fixed: &'a [u32],
+}
+
+fn is_column(column: &ColumnDef, wanted: (&str, Kind, bool)) -> bool {
+    let (name, kind, nullable) = wanted;
+    column.name.as_str() == name && column.kind == kind && column.nullable == nullable
+}
+
+fn is_table(table: &TableAt, wanted: &WantedTable) -> bool {
+    let columns = table.def.columns.as_slice();
+    table.server.as_str() == wanted.server
+        && table.def.name.as_str() == wanted.name
+        && columns.len() == wanted.columns.len()
+        && columns
+            .iter()
+            .zip(wanted.columns.iter())
+            .all(|(column, wanted)| is_column(column, *wanted))
+        && table.def.key.as_slice() == wanted.key
+        && table.def.fixed.as_slice() == wanted.fixed
+}
+
+fn are_tables(tables: &[TableAt], wanted: &[WantedTable]) -> bool {
+    tables.len() == wanted.len()
+        && tables
+            .iter()
+            .zip(wanted.iter())
+            .all(|(table, wanted)| is_table(table, wanted))
+}
+
+#[test]
+fn the_tables_of_a_text_are_spelled(rt: HostRuntime) -> Result<(), Fail> {
+    let alloc = rt.alloc();
+    let items = WantedTable {
+        server: "src",
+        name: "items",
+        columns: &[("id", Kind::Int, false), ("name", Kind::Text, true)],
+        key: &[0],
+        fixed: &[0],
+    };
+    let orders = WantedTable {
+        server: "hq",
+        name: "orders",
+        columns: &[
+            ("id", Kind::Int, false),
+            ("item", Kind::Text, false),
+            ("qty", Kind::Int, true),
+        ],
+        key: &[0],
+        fixed: &[0],
+    };
+    let other_keys = WantedTable {
+        key: &[1, 0],
+        fixed: &[2, 1],
+        ..orders
+    };
+    let parts = WantedTable {
+        server: "hq",
+        name: "parts",
+        columns: &[("code", Kind::Text, false), ("qty", Kind::Int, true)],
+        key: &[0],
+        fixed: &[],
+    };
+    let numbers = WantedTable {
+        server: "hq",
+        name: "nums",
+        columns: &[
+            ("id", Kind::Int, false),
+            ("grp", Kind::Int, false),
+            ("val", Kind::Int, true),
+        ],
+        key: &[0],
+        fixed: &[0],
+    };
+    let stock = WantedTable {
+        server: "hq",
+        name: "stock",
+        columns: &[("id", Kind::Int, false), ("qty", Kind::Int, true)],
+        key: &[0],
+        fixed: &[0],
+    };
+    let stock_at_branch = WantedTable {
+        server: "branch",
+        ..stock
+    };
+    let keys = edit(
+        alloc,
+        ORDERS,
+        "key = ['id']\nfixed = ['id']",
+        "key = ['item', 'id']\nfixed = ['qty', 'item']",
+    )?;
+    let branch = stock_at(alloc, "branch")?;
+    let rows: [(&[&str], &[WantedTable]); 6] = [
+        (&[ITEMS], &[items]),
+        (&[ORDERS], &[orders]),
+        (&[keys.as_str()], &[other_keys]),
+        (&[PARTS], &[parts]),
+        (&[NUMBERS], &[numbers]),
+        (&[STOCK, branch.as_str()], &[stock, stock_at_branch]),
+    ];
+    for (texts, wanted) in rows {
+        let text = join(alloc, texts)?;
+        let defs = check_alone(alloc, text.as_str())?;
+        assert!(rt; are_tables(defs.tables.as_slice(), wanted), "{text}");
+    }
+    Ok(())
+}
+
+/// A registration: its server, its table, the places of its after-images and before-images, and
+/// its three flags in their order.
+#[derive(Clone, Copy)]
+struct WantedRegistration<'a> {
+    server: &'a str,
+    table: &'a str,
+    after: &'a [u32],
+    before: &'a [u32],
+    flags: (bool, bool, bool),
+}
+
+fn is_registration(registration: &RegistrationAt, wanted: &WantedRegistration) -> bool {
+    let def = &registration.def;
+    registration.server.as_str() == wanted.server
+        && def.table.as_str() == wanted.table
+        && def.after.as_slice() == wanted.after
+        && def.before.as_slice() == wanted.before
+        && (def.del_ins, def.changes_only, def.disable_refresh) == wanted.flags
+}
+
+fn are_registrations(registrations: &[RegistrationAt], wanted: &[WantedRegistration]) -> bool {
+    registrations.len() == wanted.len()
+        && registrations.iter().zip(wanted.iter()).all(|(registration, wanted)| is_registration(
+            registration,
+            wanted,
+        ))
+}
+
+#[test]
+fn the_registrations_of_a_text_are_spelled(rt: HostRuntime) -> Result<(), Fail> {
+    let alloc = rt.alloc();
+    let items = WantedRegistration {
+        server: "src",
+        table: "items",
+        after: &[0, 1],
+        before: &[],
+        flags: (false, false, false),
+    };
+    let parts = WantedRegistration {
+        server: "hq",
+        table: "parts",
+        after: &[0, 1],
+        before: &[0],
+        flags: (false, false, false),
+    };
+    let numbers = WantedRegistration {
+        server: "hq",
+        table: "nums",
+        after: &[0, 1, 2],
+        before: &[],
+        flags: (false, false, false),
+    };
+    let stock = WantedRegistration {
+        server: "hq",
+        table: "stock",
+        after: &[0, 1],
+        before: &[0, 1],
+        flags: (false, false, false),
+    };
+    let stock_at_branch = WantedRegistration {
+        server: "branch",
+        ..stock
+    };
+    let branch = stock_at(alloc, "branch")?;
+    let rows: [(&[&str], &[WantedRegistration]); 4] = [
+        (&[ITEMS], &[items]),
+        (&[PARTS], &[parts]),
+        (&[NUMBERS], &[numbers]),
+        (&[STOCK, branch.as_str()], &[stock, stock_at_branch]),
+    ];
+    for (texts, wanted) in rows {
+        let text = join(alloc, texts)?;
+        let defs = check_alone(alloc, text.as_str())?;
+        assert!(rt;
+            are_registrations(defs.registrations.as_slice(), wanted),
+            "{text}"
+        );
+    }
+    let all: &[u32] = &[0, 1, 2];
+    // what the last line of the registration of the orders may be, and what it spells then
+    let rows: [(&str, &[u32], &[u32], (bool, bool, bool)); 9] = [
+        ("", all, &[], (false, false, false)),
+        ("before = ['qty']", all, &[2], (false, false, false)),
+        (
+            "before = ['qty', 'id']",
+            all,
+            &[0, 2],
+            (false, false, false),
+        ),
+        ("before = []", all, &[], (false, false, false)),
+        ("after = ['qty', 'id']", &[0, 2], &[], (false, false, false)),
+        ("del_ins = true", all, &[], (true, false, false)),
+        ("changes_only = true", all, &[], (false, true, false)),
+        ("disable_refresh = true", all, &[], (false, false, true)),
+        ("del_ins = false", all, &[], (false, false, false)),
+    ];
+    for (line, after, before, flags) in rows {
+        let wanted = WantedRegistration {
+            server: "hq",
+            table: "orders",
+            after,
+            before,
+            flags,
+        };
+        let text = edit(alloc, ORDERS, "before = ['qty']", line)?;
+        let defs = check_alone(alloc, text.as_str())?;
+        assert!(rt;
+            are_registrations(defs.registrations.as_slice(), &[wanted]),
+            "{line}"
+        );
+    }
+    Ok(())
+}
+
+/// Where a column of a target comes from.
+#[derive(Clone, Copy)]
+enum Origin {
+    Column(u32),
+    Count,
+    Sum(u32),
+}
+
+/// A member: its source and its target, the target's kind, its columns, and the column and the
+/// least number that its predicate takes.
+#[derive(Clone, Copy)]
+struct WantedMember<'a> {
+    source: &'a str,
+    target: &'a str,
+    kind: TargetKind,
+    columns: &'a [(&'a str, Origin)],
+    least: Option<(u32, i64)>,
+}
+
+fn is_target_column(column: &TargetColumn, wanted: (&str, Origin)) -> bool {
+    let (name, origin) = wanted;
+    column.name.as_str() == name
+        && match origin {
+            Origin::Column(place) => column.from == ColumnFrom::Plain(Expr::Column(place)),
+            Origin::Count => column.from == ColumnFrom::Count,
+            Origin::Sum(place) => column.from == ColumnFrom::Sum(place),
+        }
+}
+
+fn is_filter(filter: &Option<Predicate>, least: Option<(u32, i64)>) -> bool {
+    match (filter, least) {
+        (None, None) => true,
+        (Some(filter), Some((place, number))) => *filter == at_least(place, number),
+        _ => false,
+    }
+}
+
+/// The predicate that the column at a place is not below a number.
+fn at_least(place: u32, number: i64) -> Predicate {
+    Predicate::Compare {
+        left: Operand::Column(place),
+        op: CompareOp::Ge,
+        right: Operand::Value(Value::Int(number)),
+    }
+}
+
+fn is_member(member: &Member, wanted: &WantedMember) -> bool {
+    let columns = member.columns.as_slice();
+    member.source.as_str() == wanted.source
+        && member.target.as_str() == wanted.target
+        && member.kind == wanted.kind
+        && columns.len() == wanted.columns.len()
+        && columns
+            .iter()
+            .zip(wanted.columns.iter())
+            .all(|(column, wanted)| is_target_column(column, *wanted))
+        && is_filter(&member.filter, wanted.least)
+}
+
+/// A set: its qualifier, its name, its servers, its limits of units and of minutes, and its
+/// members.
+#[derive(Clone, Copy)]
+struct WantedSet<'a> {
+    qual: &'a str,
+    name: &'a str,
+    source: &'a str,
+    target: &'a str,
+    limits: (u32, u32),
+    members: &'a [WantedMember<'a>],
+}
+
+fn is_set(set: &SetDef, wanted: &WantedSet) -> bool {
+    let members = set.members.as_slice();
+    set.id.qual.as_str() == wanted.qual
+        && set.id.name.as_str() == wanted.name
+        && set.source.as_str() == wanted.source
+        && set.target.as_str() == wanted.target
+        && (set.commit_count, set.max_minutes) == wanted.limits
+        && members.len() == wanted.members.len()
+        && members
+            .iter()
+            .zip(wanted.members.iter())
+            .all(|(member, wanted)| is_member(member, wanted))
+}
+
+/// Whether this set is the only one.
+fn is_only_set(sets: &[SetDef], wanted: &WantedSet) -> bool {
+    match sets {
+        [set] => is_set(set, wanted),
+        _ => false,
+    }
+}
+
+#[test]
+fn the_sets_of_a_text_are_spelled(rt: HostRuntime) -> Result<(), Fail> {
+    let alloc = rt.alloc();
+    let orders_copy = WantedMember {
+        source: "orders",
+        target: "orders_copy",
+        kind: TargetKind::UserCopy,
+        columns: &[("id", Origin::Column(0)), ("qty", Origin::Column(2))],
+        least: Some((2, 10)),
+    };
+    let by_item = WantedMember {
+        source: "orders",
+        target: "by_item",
+        kind: TargetKind::ChangeAggregate,
+        columns: &[
+            ("item", Origin::Column(1)),
+            ("n", Origin::Count),
+            ("total", Origin::Sum(2)),
+        ],
+        least: None,
+    };
+    let hist = WantedMember {
+        target: "hist",
+        kind: TargetKind::Ccd {
+            complete: false,
+            condensed: false,
+        },
+        least: None,
+        ..orders_copy
+    };
+    let latest = WantedMember {
+        target: "latest",
+        kind: TargetKind::Ccd {
+            complete: true,
+            condensed: true,
+        },
+        ..hist
+    };
+    let items_copy = WantedMember {
+        source: "items",
+        target: "items_copy",
+        columns: &[("id", Origin::Column(0)), ("name", Origin::Column(1))],
+        least: None,
+        ..orders_copy
+    };
+    let parts_pit = WantedMember {
+        source: "parts",
+        target: "parts_pit",
+        kind: TargetKind::PointInTime,
+        columns: &[("code", Origin::Column(0)), ("qty", Origin::Column(1))],
+        least: None,
+    };
+    let numbers_copy = WantedMember {
+        source: "nums",
+        target: "nums_copy",
+        columns: &[("id", Origin::Column(0)), ("val", Origin::Column(2))],
+        least: None,
+        ..orders_copy
+    };
+    let stock = WantedMember {
+        source: "stock",
+        target: "stock",
+        kind: TargetKind::Replica,
+        columns: &[],
+        least: None,
+    };
+    let large = WantedSet {
+        qual: "q",
+        name: "s",
+        source: "hq",
+        target: "shop",
+        limits: (0, 0),
+        members: &[orders_copy],
+    };
+    let counted = WantedSet {
+        name: "c",
+        limits: (2, 0),
+        members: &[by_item],
+        ..large
+    };
+    let changed = WantedSet {
+        name: "d",
+        members: &[hist, latest],
+        ..large
+    };
+    let items = WantedSet {
+        qual: "copy",
+        name: "copy",
+        source: "src",
+        target: "dst",
+        members: &[items_copy],
+        ..large
+    };
+    let parts = WantedSet {
+        name: "p",
+        members: &[parts_pit],
+        ..large
+    };
+    let numbers = WantedSet {
+        name: "g",
+        members: &[numbers_copy],
+        ..large
+    };
+    let replica = WantedSet {
+        qual: "r",
+        name: "b",
+        target: "branch",
+        members: &[stock],
+        ..large
+    };
+    let split = edit(alloc, ORDERS, "before = ['qty']", "del_ins = true")?;
+    let branch = stock_at(alloc, "branch")?;
+    let rows: [(&[&str], WantedSet); 8] = [
+        (&[ORDERS, LARGE_ORDERS], large),
+        (&[split.as_str(), LARGE_ORDERS], large),
+        (&[ORDERS, ORDERS_BY_ITEM], counted),
+        (&[ORDERS, CHANGED_ORDERS], changed),
+        (&[ITEMS], items),
+        (&[PARTS], parts),
+        (&[NUMBERS], numbers),
+        (&[STOCK, branch.as_str(), STOCK_AT_BRANCH], replica),
+    ];
+    for (texts, wanted) in rows {
+        let text = join(alloc, texts)?;
+        let defs = check_alone(alloc, text.as_str())?;
+        assert!(rt; is_only_set(defs.sets.as_slice(), &wanted), "{text}");
+    }
+    Ok(())
+}
+
+#[test]
+fn trees_name_places_of_the_source(rt: HostRuntime) -> Result<(), Fail> {
+    let alloc = rt.alloc();
+    let defs = check_alone(alloc, PENS_AND_INKS)?;
+    let near = defs.sets.as_slice().first().ok_or("no set")?;
+    assert_eq!(rt; (near.commit_count, near.max_minutes), (0, 5));
+    let inks = near.members.as_slice().get(1).ok_or("no member")?;
+    let twice = ColumnFrom::Plain(Expr::Mul(
+        Boxed::new(alloc, Expr::Column(1))?,
+        Boxed::new(alloc, Expr::Int(2))?,
+    ));
+    let filter = Predicate::And(
+        Boxed::new(alloc, at_least(1, 3))?,
+        Boxed::new(alloc, Predicate::IsNotNull(2))?,
+    );
+    assert!(rt; has_column(inks, 1, "twice", &twice));
+    assert!(rt; inks.filter == Some(filter));
+    let far = defs.sets.as_slice().get(1).ok_or("no second set")?;
+    let inks = far.members.as_slice().get(1).ok_or("no member")?;
+    assert!(rt; inks.kind == TargetKind::BaseAggregate);
+    assert!(rt; has_column(inks, 2, "top", &ColumnFrom::Max(1)));
+    Ok(())
+}
+
+/// Whether the column at a place of a target has this name and comes from this.
+fn has_column(member: &Member, place: usize, name: &str, from: &ColumnFrom) -> bool {
+    match member.columns.as_slice().get(place) {
+        Some(column) => column.name.as_str() == name && column.from == *from,
+        None => false,
+    }
+}
