@@ -8,6 +8,9 @@ use crate::texts_for_tests::{
 use repl_types::DefPlace;
 use std::test::Fail;
 
+/// The second member of the second set of a text.
+const LAST_MEMBER: DefPlace = DefPlace::Member { set: 2, member: 2 };
+
 #[test]
 fn a_name_is_spelled_as_a_name(rt: HostRuntime) -> Result<(), Fail> {
     let alloc = rt.alloc();
@@ -208,9 +211,6 @@ fn a_table_has_a_key_and_a_registration_a_table(rt: HostRuntime) -> Result<(), F
     }
     Ok(())
 }
-
-/// The second member of the second set of a text.
-const LAST_MEMBER: DefPlace = DefPlace::Member { set: 2, member: 2 };
 
 #[test]
 fn the_lowest_rule_is_answered_at_the_first_item(rt: HostRuntime) -> Result<(), Fail> {
