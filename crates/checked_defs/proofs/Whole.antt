@@ -23,15 +23,15 @@ use Rattle.repl_commands.specs.declared.written.RawRegistration.{RawRegistration
 use Rattle.repl_commands.specs.declared.written.RawMember.{RawMember}
 use Rattle.repl_commands.specs.declared.written.RawSet.{RawSet}
 use Rattle.repl_defs.specs.Entries.{place_of as blank_of, form_of, part_before, part_after}
-use Rattle.checked_defs.specs.Spelled.{spelled_column, column_place, after_places, spelled_table, is_table, is_registration, columns_at, spelled_registration, target_kind, target_column, spelled_member_at, spelled_member, spelled_set}
-use Rattle.checked_defs.specs.Rules.{has_column_name, is_column_entry, is_key_column, is_column, has_table, has_after_images, has_before_images, is_after_image, after_fits, registered_source, as_source_table, is_source_registered, has_texts, is_target_entry, texts_fit, texts_are_read, entries_of, member_has_names, registration_has_names, set_has_names, table_has_names}
+use Rattle.spelled_defs.specs.Spelled.{is_column, spelled_column, column_place, after_places, spelled_table, is_table, is_registration, columns_at, spelled_registration, target_kind, target_column, spelled_member_at, spelled_member, spelled_set}
+use Rattle.checked_defs.specs.Rules.{has_column_name, is_column_entry, is_key_column, has_table, has_after_images, has_before_images, is_after_image, after_fits, registered_source, as_source_table, is_source_registered, has_texts, is_target_entry, texts_fit, texts_are_read, entries_of, member_has_names, registration_has_names, set_has_names, table_has_names}
 use Rattle.checked_defs.specs.Broken.{all_rules, table_breaks, registration_breaks, set_breaks, member_breaks, first_in_set, first_in_sets, first_place, first_broken, rule_number}
 use Rattle.checked_defs.specs.Whole.{have_kinds, is_whole_table, is_whole_registration, has_whole_texts, is_whole_member, is_whole_set, LeavesNothingOut}
 use Rattle.checked_defs.specs.declared.rule.Rule.{Rule}
 use Rattle.checked_defs.specs.declared.rule.Rule.TheVariants.{Names, Once, Columns, Key, Table, After, Before, Source, Texts, Copies, Condensed, Sums, Replicas}
-use Rattle.checked_defs.specs.declared.context.Context.{Context}
-use Rattle.checked_defs.specs.declared.defs.TableAt.{TableAt}
-use Rattle.checked_defs.specs.declared.defs.RegistrationAt.{RegistrationAt}
+use Rattle.spelled_defs.specs.declared.context.Context.{Context}
+use Rattle.spelled_defs.specs.declared.defs.TableAt.{TableAt}
+use Rattle.spelled_defs.specs.declared.defs.RegistrationAt.{RegistrationAt}
 
 -- ---- tests
 

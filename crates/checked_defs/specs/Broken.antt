@@ -1,6 +1,6 @@
 -- Which rule a text breaks, and where: the lowest, at the first item.
 use Rattle.std.specs.Prelude.{ℕ, ◌+◌, Bool, false, not, if◌then◌else◌, List, [], ◌∷◌, Option, Some, None, option_map}
-use Rattle.std.specs.List.{filter_map, position_from}
+use Rattle.std.specs.List.{position_from}
 use Rattle.std.specs.Option.{option_or}
 use Rattle.repl_types.specs.declared.refusal.DefPlace.{DefPlace}
 use Rattle.repl_types.specs.declared.refusal.DefPlace.TheVariants as places
@@ -9,13 +9,10 @@ use Rattle.repl_commands.specs.declared.written.RawTable.{RawTable}
 use Rattle.repl_commands.specs.declared.written.RawRegistration.{RawRegistration}
 use Rattle.repl_commands.specs.declared.written.RawMember.{RawMember}
 use Rattle.repl_commands.specs.declared.written.RawSet.{RawSet}
-use Rattle.checked_defs.specs.Spelled.{spelled_table, spelled_registration, spelled_set}
 use Rattle.checked_defs.specs.Rules.{table_has_names, registration_has_names, set_has_names, member_has_names, table_stands_once, registration_stands_once, set_stands_once, member_stands_once, has_column_entries, has_key_columns, has_table, has_after_images, has_before_images, has_two_servers, is_source_registered, has_texts, copies_may_move, condensed_rows_may_move, sums_stand_in_aggregates, replicas_stand_alone, is_replica_apart}
 use Rattle.checked_defs.specs.declared.rule.Rule.{Rule}
 use Rattle.checked_defs.specs.declared.rule.Rule.TheVariants.{Names, Once, Columns, Key, Table, After, Before, Source, Texts, Copies, Condensed, Sums, Replicas}
-use Rattle.checked_defs.specs.declared.context.Context.{Context}
-use Rattle.checked_defs.specs.declared.defs.Defs.{Defs}
-use Rattle.checked_defs.specs.declared.defs.TableAt.{TableAt}
+use Rattle.spelled_defs.specs.declared.context.Context.{Context}
 
 -- the number of a rule
 abbrev pub rule_number : Rule → ℕ
@@ -96,11 +93,3 @@ first_place raw context rule =
 abbrev pub first_broken : RawDefs → Context → List Rule → Option (ℕ × DefPlace)
 first_broken raw context [] = None
 first_broken raw context (rule ∷ others) = option_or (option_map (λ place. (rule_number rule, place)) (first_place raw context rule)) (first_broken raw context others)
-
--- the definitions of a text, given the tables that stand beside it
-abbrev pub defs_of : RawDefs → List TableAt → Defs
-defs_of raw tables = record {
-  tables = filter_map spelled_table raw.tables;
-  registrations = filter_map (spelled_registration tables) raw.registrations;
-  sets = filter_map (spelled_set tables) raw.sets;
-}

@@ -22,10 +22,10 @@ use Rattle.repl_model.specs.Rules.{all_differ, is_among, are_among, all_places, 
 use Rattle.repl_defs.specs.Entries.{column_name, column_form, target_name}
 use Rattle.repl_defs.specs.Texts.{definition_text_limit}
 use Rattle.repl_defs.specs.Trees.{predicate_tree}
-use Rattle.checked_defs.specs.Spelled.{spelled_column, column_place, is_table, is_registration, after_places, target_column, spelled_member_at}
-use Rattle.checked_defs.specs.Context.{is_replica_item}
-use Rattle.checked_defs.specs.declared.context.Context.{Context}
-use Rattle.checked_defs.specs.declared.context.Link.{Link}
+use Rattle.spelled_defs.specs.Spelled.{spelled_column, column_place, is_column, is_table, is_registration, after_places, target_column, spelled_member_at}
+use Rattle.spelled_defs.specs.Context.{is_replica_item}
+use Rattle.spelled_defs.specs.declared.context.Context.{Context}
+use Rattle.spelled_defs.specs.declared.context.Link.{Link}
 
 -- the entries of a member's columns, none if it has no columns
 abbrev pub entries_of : RawMember → List (List ℕ)
@@ -124,10 +124,6 @@ has_column_entries table = not (length table.columns == 0) && list_all is_column
 -- a name is that of a column that can't be NULL
 abbrev pub is_key_column : List ColumnDef → List ℕ → Bool
 is_key_column columns name = option_map_or (λ column. not column.nullable) (find (λ column. bytes_eq name column.name) columns) false
-
--- a name is that of a column
-abbrev pub is_column : List ColumnDef → List ℕ → Bool
-is_column columns name = is_some (column_place columns name)
 
 -- there is a key; its columns are columns that can't be NULL, and the fixed ones are columns
 abbrev pub has_key_columns : RawTable → Bool

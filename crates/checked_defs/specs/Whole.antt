@@ -10,9 +10,9 @@ use Rattle.repl_commands.specs.declared.written.RawMember.{RawMember}
 use Rattle.repl_commands.specs.declared.written.RawSet.{RawSet}
 use Rattle.repl_types.specs.declared.table.ColumnDef.{ColumnDef}
 use Rattle.repl_defs.specs.Trees.{predicate_tree}
-use Rattle.checked_defs.specs.Spelled.{spelled_column, spelled_table, columns_at, spelled_registration, target_kind, target_column, spelled_member_at, spelled_set}
-use Rattle.checked_defs.specs.Rules.{is_column, entries_of}
-use Rattle.checked_defs.specs.declared.defs.TableAt.{TableAt}
+use Rattle.spelled_defs.specs.Spelled.{is_column, spelled_column, spelled_table, columns_at, spelled_registration, target_kind, target_column, spelled_member_at, spelled_set}
+use Rattle.checked_defs.specs.Rules.{entries_of}
+use Rattle.spelled_defs.specs.declared.defs.TableAt.{TableAt}
 
 -- each member of a text has one of the types that there are
 abbrev pub have_kinds : RawDefs → Bool

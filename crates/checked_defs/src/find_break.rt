@@ -11,8 +11,6 @@ ghost use Rattle.checked_defs.specs.Broken.{first_in_set as first_in_set_lem};
 ghost use Rattle.checked_defs.specs.Broken.{first_in_sets as first_in_sets_lem};
 ghost use Rattle.checked_defs.specs.Broken.{first_place as first_place_lem};
 
-use crate::columns::narrow_place;
-use crate::context::Context;
 use crate::members::{
     condensed_rows_may_move, copies_may_move, has_texts, has_two_servers, is_source_registered,
     sums_stand_in_aggregates,
@@ -27,6 +25,7 @@ use crate::rule::Rule;
 use crate::tables::{has_column_entries, has_key_columns};
 use repl_commands::{RawDefs, RawMember, RawRegistration, RawSet, RawTable};
 use repl_types::DefPlace;
+use spelled_defs::{Context, narrow_place};
 use std::alloc::{AllocError, Global};
 
 /// Whether a table of the text breaks a rule.

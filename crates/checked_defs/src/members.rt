@@ -24,16 +24,15 @@ ghost use Rattle.checked_defs.specs.Rules.{copies_may_move as copies_may_move_le
 ghost use Rattle.checked_defs.specs.Rules.{condensed_rows_may_move as condensed_rows_may_move_lem};
 ghost use Rattle.checked_defs.specs.Rules.{sums_stand_in_aggregates as sums_stand_in_aggregates_lem};
 
-use crate::beside::find_registration;
-use crate::columns::{are_among, texts_or_none};
-use crate::context::Context;
-use crate::links::is_replica_item;
 use crate::reads::{column_reads_among, filter_reads_among, just_column};
-use crate::spelled::{find_table, spelled_member_at, target_column};
 use repl_commands::{RawMember, RawSet};
 use repl_definitions::{ColumnFrom, Member, TargetColumn, TargetKind};
 use repl_defs::{DEFINITION_TEXT_LIMIT, find_predicate};
 use repl_types::{ColumnDef, Kind, List, Registration, TableDef};
+use spelled_defs::{
+    Context, are_among, find_registration, find_table, is_replica_item, spelled_member_at,
+    target_column, texts_or_none,
+};
 use std::alloc::{AllocError, Global};
 
 /// Whether a set has two servers.

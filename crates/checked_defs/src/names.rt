@@ -10,10 +10,10 @@ ghost use Rattle.checked_defs.specs.Rules.{registration_has_names as registratio
 ghost use Rattle.checked_defs.specs.Rules.{set_has_names as set_has_names_lem};
 ghost use Rattle.checked_defs.specs.Rules.{member_has_names as member_has_names_lem};
 
-use crate::columns::texts_or_none;
 use repl_commands::{RawMember, RawRegistration, RawSet, RawTable};
 use repl_defs::{split_column, split_target};
 use repl_types::{Bytes, is_name};
+use spelled_defs::texts_or_none;
 
 /// Whether texts are names.
 fn are_names(texts: &[Bytes]) -> bool

@@ -4,7 +4,7 @@ ghost use Rattle.std.specs.Prelude.{◌≡◌, ◌&&◌, not, IfOk};
 ghost use Rattle.std.specs.List.{filter_map, list_any};
 ghost use Rattle.std.specs.Str.{bytes_eq};
 ghost use Rattle.repl_defs.specs.Entries.{column_name as column_name_lem, target_name as target_name_lem};
-ghost use Rattle.checked_defs.specs.Spelled.{is_table as is_table_lem};
+ghost use Rattle.spelled_defs.specs.Spelled.{is_table as is_table_lem};
 ghost use Rattle.checked_defs.specs.Rules.{texts_differ as texts_differ_lem};
 ghost use Rattle.checked_defs.specs.Rules.{names_table as names_table_lem};
 ghost use Rattle.checked_defs.specs.Rules.{names_registration as names_registration_lem};
@@ -15,14 +15,10 @@ ghost use Rattle.checked_defs.specs.Rules.{registration_stands_once as registrat
 ghost use Rattle.checked_defs.specs.Rules.{set_stands_once as set_stands_once_lem};
 ghost use Rattle.checked_defs.specs.Rules.{member_stands_once as member_stands_once_lem};
 
-use crate::columns::texts_or_none;
-use crate::context::{Context, Link};
-use crate::defs::TableAt;
-use crate::links::{copy_bytes, is_replica_item};
-use crate::spelled::is_table;
 use repl_commands::{RawDefs, RawMember, RawRegistration, RawSet, RawTable};
 use repl_defs::{split_column, split_target};
 use repl_types::{Bytes, List};
+use spelled_defs::{Context, Link, TableAt, copy_bytes, is_replica_item, is_table, texts_or_none};
 use std::alloc::{AllocError, Global};
 
 /// Whether a text is one of the others.

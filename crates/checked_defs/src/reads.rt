@@ -5,8 +5,8 @@ ghost use Rattle.repl_model.specs.Rules.{are_among as are_among_lem, columns_rea
 ghost use Rattle.repl_model.specs.Rules.{operand_columns, columns_from, filter_columns};
 ghost use Rattle.repl_model.specs.Rules.{just_column as just_column_lem};
 
-use crate::columns::is_among;
 use repl_definitions::{ColumnFrom, Expr, Member, Operand, Predicate};
+use spelled_defs::is_among;
 
 /// Whether an expression reads only columns at these places. It calls itself once for each
 /// operation on the way down, of which a text of 4,096 bytes has few.

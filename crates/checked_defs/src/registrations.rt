@@ -4,19 +4,18 @@ ghost use Rattle.std.specs.Prelude.{◌≡◌, option_map, false, IfOk};
 ghost use Rattle.std.specs.List.{list_all};
 ghost use Rattle.std.specs.Option.{option_map_or};
 ghost use Rattle.repl_model.specs.Rules.{is_among as is_among_lem};
-ghost use Rattle.checked_defs.specs.Spelled.{column_place as column_place_lem};
+ghost use Rattle.spelled_defs.specs.Spelled.{column_place as column_place_lem};
 ghost use Rattle.checked_defs.specs.Rules.{table_of_registration as table_of_registration_lem};
 ghost use Rattle.checked_defs.specs.Rules.{has_table as has_table_lem, after_fits as after_fits_lem};
 ghost use Rattle.checked_defs.specs.Rules.{has_after_images as has_after_images_lem};
 ghost use Rattle.checked_defs.specs.Rules.{has_before_images as has_before_images_lem};
 
-use crate::columns::{
-    after_places, are_among, are_columns, column_place, is_among, narrow_place, texts_or_none,
-};
-use crate::context::Context;
-use crate::spelled::find_table;
 use repl_commands::RawRegistration;
 use repl_types::{Bytes, List, TableDef};
+use spelled_defs::{
+    Context, after_places, are_among, are_columns, column_place, find_table, is_among,
+    narrow_place, texts_or_none,
+};
 use std::alloc::{AllocError, Global};
 
 /// The table of a registration.

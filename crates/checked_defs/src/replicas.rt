@@ -9,17 +9,15 @@ ghost use Rattle.checked_defs.specs.Rules.{same_column as same_column_lem, as_so
 ghost use Rattle.checked_defs.specs.Rules.{keeps_all_images as keeps_all_images_lem};
 ghost use Rattle.checked_defs.specs.Rules.{same_tables as same_tables_lem, has_twin as has_twin_lem};
 ghost use Rattle.checked_defs.specs.Rules.{copies_from as copies_from_lem, copies_to as copies_to_lem};
-ghost use Rattle.checked_defs.specs.Context.{is_replica_item as is_replica_item_lem};
+ghost use Rattle.spelled_defs.specs.Context.{is_replica_item as is_replica_item_lem};
 ghost use Rattle.checked_defs.specs.Rules.{makes_chain as makes_chain_lem};
 ghost use Rattle.checked_defs.specs.Rules.{is_replica_apart as is_replica_apart_lem};
 
-use crate::columns::{all_places, are_among};
-use crate::context::{Context, Link};
-use crate::links::is_replica_item;
 use crate::members::registered_source;
 use crate::once::copies_to;
 use repl_commands::{RawMember, RawSet};
 use repl_types::{ColumnDef, Registration, TableDef};
+use spelled_defs::{Context, Link, all_places, are_among, is_replica_item};
 use std::alloc::{AllocError, Global};
 
 /// Whether a member is a replica.

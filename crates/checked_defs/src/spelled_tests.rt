@@ -4,12 +4,12 @@ use crate::texts_for_tests::{
     CHANGED_ORDERS, ITEMS, LARGE_ORDERS, NUMBERS, ORDERS, ORDERS_BY_ITEM, PARTS, PENS_AND_INKS,
     STOCK, STOCK_AT_BRANCH, check_alone, edit, join, stock_at,
 };
-use crate::{RegistrationAt, TableAt};
 use repl_definitions::{
     Boxed, ColumnFrom, CompareOp, Expr, Member, Operand, Predicate, SetDef, TargetColumn,
     TargetKind,
 };
 use repl_types::{ColumnDef, Kind, Value};
+use spelled_defs::{RegistrationAt, TableAt};
 use std::test::Fail;
 
 /// A table: its server, its name, its columns with their kinds and whether they are nullable, and

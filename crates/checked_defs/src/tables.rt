@@ -7,11 +7,10 @@ ghost use Rattle.checked_defs.specs.Rules.{is_column_entry as is_column_entry_le
 ghost use Rattle.checked_defs.specs.Rules.{has_column_entries as has_column_entries_lem, has_key_columns as has_key_columns_lem};
 ghost use Rattle.checked_defs.specs.Rules.{is_key_column as is_key_column_lem};
 
-use crate::columns::{are_columns, texts_or_none};
-use crate::spelled::spelled_columns;
 use repl_commands::RawTable;
 use repl_defs::{DEFINITION_TEXT_LIMIT, split_column};
 use repl_types::{Bytes, ColumnDef};
+use spelled_defs::{are_columns, spelled_columns, texts_or_none};
 use std::alloc::{AllocError, Global};
 
 /// Whether an entry of a table is a column.

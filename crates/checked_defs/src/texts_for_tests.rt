@@ -1,9 +1,10 @@
 //! Texts of definitions that keep all rules, and what is answered for a text.
 
-use crate::{Defs, check};
+use crate::check;
 use raw_defs::read_defs;
 use repl_commands::DefsError;
 use repl_types::{DefPlace, List};
+use spelled_defs::Defs;
 use std::alloc::{AllocError, Global};
 use std::test::Fail;
 

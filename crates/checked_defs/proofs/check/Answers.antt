@@ -1,6 +1,6 @@
 use Rattle.std.proofs.Common.{sym, subst, ◌∙◌}
 use Rattle.checked_defs.specs.Whole.{LeavesNothingOut}
-use Rattle.checked_defs.specs.declared.context.Context.{Context}
+use Rattle.spelled_defs.specs.declared.context.Context.{Context}
 use Rattle.checked_defs.proofs.Whole.{nothing_left_out}
 use Rattle.checked_defs.proofs.check.Goals as goal
 

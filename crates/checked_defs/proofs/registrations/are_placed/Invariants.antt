@@ -2,7 +2,7 @@ use Rattle.std.proofs.Common.{◌≡◌, drop, false}
 use Rattle.std.specs.List.{list_all}
 use Rattle.std.specs.Option.{option_map_or}
 use Rattle.repl_model.specs.Rules.{is_among}
-use Rattle.checked_defs.specs.Spelled.{column_place}
+use Rattle.spelled_defs.specs.Spelled.{column_place}
 use Rattle.checked_defs.proofs.registrations.are_placed.Given as goal
 
 abbrev pub invariant-names : goal.invariant-names

@@ -1,8 +1,0 @@
-use Rattle.std.proofs.Common.{◌≡◌, ◌++◌, drop}
-use Rattle.std.specs.List.{flat_map}
-use Rattle.checked_defs.specs.Context.{links_of_item}
-use Rattle.checked_defs.proofs.links.push_text_links.Given as goal
-
-abbrev pub invariant-sets : goal.invariant-sets
-invariant-sets l =
-    l.links ++ flat_map links_of_item (drop l.set-index l.sets) ≡ l.fn.links ++ flat_map links_of_item l.sets

@@ -1,8 +1,0 @@
-use Rattle.std.proofs.Common.{◌≡◌, ◌++◌, drop}
-use Rattle.std.specs.List.{filter_map}
-use Rattle.checked_defs.specs.Spelled.{spelled_column}
-use Rattle.checked_defs.proofs.spelled.spelled_columns.Given as goal
-
-abbrev pub invariant-entries : goal.invariant-entries
-invariant-entries l =
-    l.columns ++ filter_map (spelled_column) (drop l.entry-index l.entries) ≡ filter_map (spelled_column) l.entries

@@ -1,8 +1,0 @@
-use Rattle.std.proofs.Common.{◌≡◌, ◌++◌, drop}
-use Rattle.std.specs.List.{filter_map}
-use Rattle.checked_defs.specs.Spelled.{spelled_set}
-use Rattle.checked_defs.proofs.spelled.spelled_sets.Given as goal
-
-abbrev pub invariant-sets : goal.invariant-sets
-invariant-sets l =
-    l.spelled ++ filter_map (spelled_set l.tables) (drop l.set-index l.sets) ≡ filter_map (spelled_set l.tables) l.sets

@@ -1,8 +1,0 @@
-use Rattle.std.proofs.Common.{◌≡◌, ◌++◌, drop}
-use Rattle.std.specs.List.{filter_map}
-use Rattle.checked_defs.specs.Spelled.{spelled_table}
-use Rattle.checked_defs.proofs.spelled.spelled_tables.Given as goal
-
-abbrev pub invariant-tables : goal.invariant-tables
-invariant-tables l =
-    l.spelled ++ filter_map (spelled_table) (drop l.table-index l.tables) ≡ filter_map (spelled_table) l.tables
