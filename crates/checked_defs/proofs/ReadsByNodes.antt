@@ -1,6 +1,5 @@
 -- The columns that expressions and predicates read, node by node.
 use Rattle.std.proofs.Common.{◌≡◌, ◌&&◌, ◌++◌, ℕ, ℤ, Bool, true, List, [], ◌∷◌, refl, sym, ap, ◌∙◌}
-use Rattle.std.specs.List.{list_all}
 use Rattle.repl_definitions.specs.declared.expr.Expr.{Expr, fold-roll-Expr}
 use Rattle.repl_definitions.specs.declared.expr.Expr.TheOpen as layer
 use Rattle.repl_definitions.specs.declared.expr.Expr.TheVariants as exprs

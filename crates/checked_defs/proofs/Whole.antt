@@ -1,14 +1,13 @@
 -- Where no rule is broken, nothing is left out.
-use Rattle.std.proofs.Common.{◌≡◌, ◌<◌, ◌≤◌, ◌+◌, ℕ, take, drop, Bool, true, false, not, ◌&&◌, ◌||◌, cond, List, [], ◌∷◌, length, Option, Some, None, refl, sym, ap, subst, ◌∙◌, arith}
-use Rattle.std.proofs.lemmas.Bool.{le-leb, ltb-false}
+use Rattle.std.proofs.Common.{◌≡◌, ◌+◌, ℕ, take, drop, Bool, true, false, not, ◌&&◌, cond, List, [], ◌∷◌, length, Option, Some, None, refl, sym, ap, subst, ◌∙◌}
+use Rattle.std.proofs.lemmas.Bool.{ltb-false}
 use Rattle.std.proofs.lemmas.List.Folds.{find_at}
 use Rattle.std.proofs.lemmas.Option.{slice_get_past}
-use Rattle.std.specs.Prelude.{IsTrue, is_some, is_none, unwrap_or, nat_lt, slice_get, find}
+use Rattle.std.specs.Prelude.{IsTrue, is_some, unwrap_or, nat_lt, find}
 use Rattle.std.specs.List.{filter_map, list_all, position_or_len, position_from}
 use Rattle.std.specs.Option.{option_map, option_map_or, option_and_then, option_or}
 use Rattle.std.specs.Str.{bytes_eq}
 use Rattle.repl_types.specs.Name.{is_name, name_of}
-use Rattle.repl_types.specs.declared.refusal.DefPlace.{DefPlace}
 use Rattle.repl_types.specs.declared.table.ColumnDef.{ColumnDef}
 use Rattle.repl_types.specs.declared.table.Kind.{Kind}
 use Rattle.repl_types.specs.declared.table.TableDef.{TableDef}
@@ -22,9 +21,9 @@ use Rattle.repl_commands.specs.declared.written.RawTable.{RawTable}
 use Rattle.repl_commands.specs.declared.written.RawRegistration.{RawRegistration}
 use Rattle.repl_commands.specs.declared.written.RawMember.{RawMember}
 use Rattle.repl_commands.specs.declared.written.RawSet.{RawSet}
-use Rattle.repl_defs.specs.Entries.{place_of as blank_of, form_of, part_before, part_after}
-use Rattle.spelled_defs.specs.Spelled.{is_column, spelled_column, column_place, after_places, spelled_table, is_table, is_registration, columns_at, spelled_registration, target_kind, target_column, spelled_member_at, spelled_member, spelled_set}
-use Rattle.checked_defs.specs.Rules.{has_column_name, is_column_entry, is_key_column, has_table, has_after_images, has_before_images, is_after_image, after_fits, registered_source, as_source_table, is_source_registered, has_texts, is_target_entry, texts_fit, texts_are_read, entries_of, member_has_names, registration_has_names, set_has_names, table_has_names}
+use Rattle.repl_defs.specs.Entries.{place_of as blank_of, form_of}
+use Rattle.spelled_defs.specs.Spelled.{is_column, spelled_column, column_place, after_places, spelled_table, is_table, is_registration, columns_at, spelled_registration, target_kind, target_column, spelled_member, spelled_set}
+use Rattle.checked_defs.specs.Rules.{has_column_name, is_column_entry, is_key_column, is_after_image, after_fits, as_source_table, is_target_entry, texts_fit, texts_are_read, entries_of, member_has_names, registration_has_names, set_has_names, table_has_names}
 use Rattle.checked_defs.specs.Broken.{all_rules, table_breaks, registration_breaks, set_breaks, member_breaks, first_in_set, first_in_sets, first_place, first_broken, rule_number}
 use Rattle.checked_defs.specs.Whole.{have_kinds, is_whole_table, is_whole_registration, has_whole_texts, is_whole_member, is_whole_set, LeavesNothingOut}
 use Rattle.checked_defs.specs.declared.rule.Rule.{Rule}

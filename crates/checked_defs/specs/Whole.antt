@@ -1,6 +1,6 @@
 -- Nothing of a text is left out of the definitions that it spells: each item, each entry and each name of a
 -- column spells something.
-use Rattle.std.specs.Prelude.{ℕ, Bool, true, ◌&&◌, IsTrue, List, [], is_some, unwrap_or}
+use Rattle.std.specs.Prelude.{Bool, true, ◌&&◌, IsTrue, List, [], is_some, unwrap_or}
 use Rattle.std.specs.List.{filter_map, list_all}
 use Rattle.std.specs.Option.{option_map_or}
 use Rattle.repl_commands.specs.declared.written.RawDefs.{RawDefs}

@@ -1,9 +1,7 @@
 -- What the items of a text are asked together with: the definitions that stand beside it, those of the text
 -- and the known ones whose names don't stand in it.
-use Rattle.std.specs.Prelude.{ℕ, Bool, ◌&&◌, not, List, ◌++◌, map, find, filter, Option}
+use Rattle.std.specs.Prelude.{Bool, ◌&&◌, not, codes, List, ◌++◌, map, filter}
 use Rattle.std.specs.List.{filter_map, flat_map, list_any}
-use Rattle.std.specs.Option.{option_map, option_and_then}
-use Rattle.std.specs.Prelude.{codes}
 use Rattle.std.specs.Str.{bytes_eq}
 use Rattle.repl_definitions.specs.declared.member.Member.{Member}
 use Rattle.repl_definitions.specs.declared.set.SetDef.{SetDef}

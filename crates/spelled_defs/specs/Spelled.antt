@@ -1,6 +1,6 @@
 -- Which definitions the items of a text spell. An entry that spells nothing is left out here: whether there is
 -- one is a matter of the rules.
-use Rattle.std.specs.Prelude.{ℕ, ◌+◌, Bool, false, ◌&&◌, if◌then◌else◌, codes, List, [], ◌∷◌, length, Option, Some, None, is_some, option_map, option_and_then, unwrap_or, slice_get, find}
+use Rattle.std.specs.Prelude.{ℕ, ◌+◌, Bool, false, ◌&&◌, if◌then◌else◌, codes, List, [], ◌∷◌, length, Option, Some, None, is_some, option_and_then, unwrap_or, find}
 use Rattle.std.specs.List.{filter_map, list_any, position, range_with_len}
 use Rattle.std.specs.Option.{option_map_or}
 use Rattle.std.specs.Str.{bytes_eq}
@@ -8,7 +8,6 @@ use Rattle.repl_types.specs.Name.{name_of}
 use Rattle.repl_types.specs.declared.table.ColumnDef.{ColumnDef}
 use Rattle.repl_types.specs.declared.table.TableDef.{TableDef}
 use Rattle.repl_types.specs.declared.change_row.Registration.{Registration}
-use Rattle.repl_types.specs.declared.record.SetId.{SetId}
 use Rattle.repl_definitions.specs.declared.member.Member.{Member}
 use Rattle.repl_definitions.specs.declared.member.TargetColumn.{TargetColumn}
 use Rattle.repl_definitions.specs.declared.member.TargetKind.{TargetKind}

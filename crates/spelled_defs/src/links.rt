@@ -1,6 +1,6 @@
 //! The members of all sets as links.
 
-ghost use Rattle.std.specs.Prelude.{◌≡◌, ◌++◌, map, filter, IfOk, OnOk};
+ghost use Rattle.std.specs.Prelude.{◌≡◌, ◌++◌, filter, IfOk, OnOk};
 ghost use Rattle.std.specs.List.{flat_map, list_any};
 ghost use Rattle.repl_model.specs.Rules.{is_replica as is_replica_lem};
 ghost use Rattle.spelled_defs.specs.Context.{is_replica_item as is_replica_item_lem};
