@@ -1,0 +1,16 @@
+-- The words of a line.
+use Rattle.std.specs.Prelude.{ℕ, ◌==◌, not, List, length, filter, map}
+use Rattle.std.specs.Borrow.{Bor}
+use Rattle.std.specs.List.{slice_split}
+
+-- a blank
+abbrev pub blank : ℕ
+blank = 32
+
+-- the parts of a line between blanks, the empty ones left out
+unfoldable pub line_words : List ℕ → List (List ℕ)
+line_words line = filter (λ part. not (length part == 0)) (slice_split (λ b. b == blank) line)
+
+-- what a list of references to words holds
+abbrev pub texts : List (Bor (List ℕ)) → List (List ℕ)
+texts words = map (λ word. word.now) words

@@ -1,0 +1,258 @@
+//! The readers of commands: each reads the words after a verb.
+
+ghost use Rattle.std.specs.Prelude.{◌≡◌, ◌∷◌, [], ◌⊎◌, ℕ, IfOk, IfErr, codes};
+ghost use Rattle.script_text.specs.Words.{texts};
+ghost use Rattle.script_text.specs.Commands.{AreWordsOf, IsMinutes, AreOfACommand};
+ghost use Rattle.script_text.specs.Readings.{IsRefusal, IsNumber, ShowsServer, ShowsTable};
+ghost use Rattle.script_text.specs.Readings.{ShowsSet};
+
+use crate::parts::{read_amount, read_limits, read_minutes, read_name, read_one_set, read_seed};
+use crate::parts::read_set;
+use crate::words::is_word;
+use repl_commands::{Command, LineError};
+use repl_types::{Name, SetId};
+use std::alloc::Global;
+
+/// `load`
+pub(crate) fn read_load(rest: &[&[u8]]) -> Result<Command, LineError>
+    ensures ok { IfOk result (AreWordsOf (codes "load" ∷ texts rest.now)) }
+    ensures refused { IfErr result (IsRefusal (AreOfACommand (codes "load" ∷ texts rest.now))) }
+{
+    match rest {
+        [] => Ok(Command::Load),
+        _ => Err(LineError::BadLine),
+    }
+}
+
+/// `feed S`
+pub(crate) fn read_feed(alloc: Global, rest: &[&[u8]]) -> Result<Command, LineError>
+    ensures ok { IfOk result (AreWordsOf (codes "feed" ∷ texts rest.now)) }
+    ensures refused { IfErr result (IsRefusal (AreOfACommand (codes "feed" ∷ texts rest.now))) }
+{
+    match rest {
+        [server] => Ok(Command::Feed {
+            server: read_name(alloc, server)?,
+        }),
+        _ => Err(LineError::BadLine),
+    }
+}
+
+/// `capture S [units U] [every E]`, `capture S cold`: the words after the server.
+fn capture_by(server: Name, limits: &[&[u8]]) -> Result<Command, LineError>
+    ensures ok { IfOk result (AreWordsOf (codes "capture" ∷ server ∷ texts limits.now)) }
+    ensures refused { IfErr result
+        (IsRefusal (AreOfACommand (codes "capture" ∷ server ∷ texts limits.now))) }
+{
+    if let [b"cold"] = limits {
+        return Ok(Command::CaptureCold { server });
+    }
+    let (units, every) = read_limits(limits)?;
+    Ok(Command::Capture {
+        server,
+        units,
+        every,
+    })
+}
+
+/// `capture S`, and what may follow it
+pub(crate) fn read_capture(alloc: Global, rest: &[&[u8]]) -> Result<Command, LineError>
+    ensures ok { IfOk result (AreWordsOf (codes "capture" ∷ texts rest.now)) }
+    ensures refused { IfErr result (IsRefusal (AreOfACommand (codes "capture" ∷ texts rest.now))) }
+{
+    match rest {
+        [server, limits @ ..] => capture_by(read_name(alloc, server)?, limits),
+        [] => Err(LineError::BadLine),
+    }
+}
+
+/// `prune S M`, `prune S normal`
+fn prune_by(server: Name, kept: &[u8]) -> Result<Command, LineError>
+    ensures ok { IfOk result (AreWordsOf (codes "prune" ∷ server ∷ kept.now ∷ [])) }
+    ensures refused { IfErr result (IsRefusal
+        ((kept.now ≡ codes "normal") ⊎ ((n : ℕ) × IsNumber IsMinutes kept.now n))) }
+{
+    if is_word(kept, b"normal") {
+        return Ok(Command::PruneNormal { server });
+    }
+    Ok(Command::Prune {
+        server,
+        minutes: Some(read_minutes(kept)?),
+    })
+}
+
+/// `prune S`, or one of the two forms above
+pub(crate) fn read_prune(alloc: Global, rest: &[&[u8]]) -> Result<Command, LineError>
+    ensures ok { IfOk result (AreWordsOf (codes "prune" ∷ texts rest.now)) }
+    ensures refused { IfErr result (IsRefusal (AreOfACommand (codes "prune" ∷ texts rest.now))) }
+{
+    match rest {
+        [server] => Ok(Command::Prune {
+            server: read_name(alloc, server)?,
+            minutes: None,
+        }),
+        [server, kept] => prune_by(read_name(alloc, server)?, kept),
+        _ => Err(LineError::BadLine),
+    }
+}
+
+/// `step Q N`
+pub(crate) fn read_step(alloc: Global, rest: &[&[u8]]) -> Result<Command, LineError>
+    ensures ok { IfOk result (AreWordsOf (codes "step" ∷ texts rest.now)) }
+    ensures refused { IfErr result (IsRefusal (AreOfACommand (codes "step" ∷ texts rest.now))) }
+{
+    Ok(Command::Step {
+        set: read_one_set(alloc, rest)?,
+    })
+}
+
+/// `apply Q N`
+pub(crate) fn read_apply(alloc: Global, rest: &[&[u8]]) -> Result<Command, LineError>
+    ensures ok { IfOk result (AreWordsOf (codes "apply" ∷ texts rest.now)) }
+    ensures refused { IfErr result (IsRefusal (AreOfACommand (codes "apply" ∷ texts rest.now))) }
+{
+    Ok(Command::Apply {
+        set: read_one_set(alloc, rest)?,
+    })
+}
+
+/// `refresh Q N`
+pub(crate) fn read_refresh(alloc: Global, rest: &[&[u8]]) -> Result<Command, LineError>
+    ensures ok { IfOk result (AreWordsOf (codes "refresh" ∷ texts rest.now)) }
+    ensures refused { IfErr result (IsRefusal (AreOfACommand (codes "refresh" ∷ texts rest.now))) }
+{
+    Ok(Command::Refresh {
+        set: read_one_set(alloc, rest)?,
+    })
+}
+
+/// `stop S T`
+pub(crate) fn read_stop(alloc: Global, rest: &[&[u8]]) -> Result<Command, LineError>
+    ensures ok { IfOk result (AreWordsOf (codes "stop" ∷ texts rest.now)) }
+    ensures refused { IfErr result (IsRefusal (AreOfACommand (codes "stop" ∷ texts rest.now))) }
+{
+    match rest {
+        [server, table] => Ok(Command::Stop {
+            server: read_name(alloc, server)?,
+            table: read_name(alloc, table)?,
+        }),
+        _ => Err(LineError::BadLine),
+    }
+}
+
+/// `generate S T SEED UNITS CHANGES`
+pub(crate) fn read_generate(alloc: Global, rest: &[&[u8]]) -> Result<Command, LineError>
+    ensures ok { IfOk result (AreWordsOf (codes "generate" ∷ texts rest.now)) }
+    ensures refused { IfErr result (IsRefusal (AreOfACommand (codes "generate" ∷ texts rest.now))) }
+{
+    match rest {
+        [server, table, seed, units, changes] => Ok(Command::Generate {
+            server: read_name(alloc, server)?,
+            table: read_name(alloc, table)?,
+            seed: read_seed(seed)?,
+            units: read_amount(units)?,
+            changes: read_amount(changes)?,
+        }),
+        _ => Err(LineError::BadLine),
+    }
+}
+
+/// `rounds Q`
+pub(crate) fn read_rounds(alloc: Global, rest: &[&[u8]]) -> Result<Command, LineError>
+    ensures ok { IfOk result (AreWordsOf (codes "rounds" ∷ texts rest.now)) }
+    ensures refused { IfErr result (IsRefusal (AreOfACommand (codes "rounds" ∷ texts rest.now))) }
+{
+    match rest {
+        [qual] => Ok(Command::Rounds {
+            qual: read_name(alloc, qual)?,
+        }),
+        _ => Err(LineError::BadLine),
+    }
+}
+
+/// `audit Q N`
+pub(crate) fn read_audit(alloc: Global, rest: &[&[u8]]) -> Result<Command, LineError>
+    ensures ok { IfOk result (AreWordsOf (codes "audit" ∷ texts rest.now)) }
+    ensures refused { IfErr result (IsRefusal (AreOfACommand (codes "audit" ∷ texts rest.now))) }
+{
+    Ok(Command::Audit {
+        set: read_one_set(alloc, rest)?,
+    })
+}
+
+/// `status S`, `status Q N`
+pub(crate) fn read_status(alloc: Global, rest: &[&[u8]]) -> Result<Command, LineError>
+    ensures ok { IfOk result (AreWordsOf (codes "status" ∷ texts rest.now)) }
+    ensures refused { IfErr result (IsRefusal (AreOfACommand (codes "status" ∷ texts rest.now))) }
+{
+    match rest {
+        [server] => Ok(Command::StatusServer {
+            server: read_name(alloc, server)?,
+        }),
+        [qual, name] => Ok(Command::StatusSet {
+            set: read_set(alloc, qual, name)?,
+        }),
+        _ => Err(LineError::BadLine),
+    }
+}
+
+/// `show S uow`, `show S log`
+fn show_server(server: Name, shown: &[u8]) -> Result<Command, LineError>
+    ensures ok { IfOk result (AreWordsOf (codes "show" ∷ server ∷ shown.now ∷ [])) }
+    ensures refused { IfErr result (IsRefusal (ShowsServer shown.now)) }
+{
+    if is_word(shown, b"uow") {
+        Ok(Command::ShowUow { server })
+    } else if is_word(shown, b"log") {
+        Ok(Command::ShowLog { server })
+    } else {
+        Err(LineError::BadLine)
+    }
+}
+
+/// `show S source T`, `show S cd T`, `show S target T`
+fn show_table(server: Name, shown: &[u8], table: Name) -> Result<Command, LineError>
+    ensures ok { IfOk result (AreWordsOf (codes "show" ∷ server ∷ shown.now ∷ table ∷ [])) }
+    ensures refused { IfErr result (IsRefusal (ShowsTable shown.now)) }
+{
+    if is_word(shown, b"source") {
+        Ok(Command::ShowSource { server, table })
+    } else if is_word(shown, b"cd") {
+        Ok(Command::ShowCd { server, table })
+    } else if is_word(shown, b"target") {
+        Ok(Command::ShowTarget { server, table })
+    } else {
+        Err(LineError::BadLine)
+    }
+}
+
+/// `show S trail Q N`, `show S rejected Q N`
+fn show_set(server: Name, shown: &[u8], set: SetId) -> Result<Command, LineError>
+    ensures ok { IfOk result
+        (AreWordsOf (codes "show" ∷ server ∷ shown.now ∷ set.qual ∷ set.name ∷ [])) }
+    ensures refused { IfErr result (IsRefusal (ShowsSet shown.now)) }
+{
+    if is_word(shown, b"trail") {
+        Ok(Command::ShowTrail { server, set })
+    } else if is_word(shown, b"rejected") {
+        Ok(Command::ShowRejected { server, set })
+    } else {
+        Err(LineError::BadLine)
+    }
+}
+
+/// `show S WHAT`, `show S WHAT T`, `show S WHAT Q N`
+pub(crate) fn read_show(alloc: Global, rest: &[&[u8]]) -> Result<Command, LineError>
+    ensures ok { IfOk result (AreWordsOf (codes "show" ∷ texts rest.now)) }
+    ensures refused { IfErr result (IsRefusal (AreOfACommand (codes "show" ∷ texts rest.now))) }
+{
+    match rest {
+        [server, shown] => show_server(read_name(alloc, server)?, shown),
+        [server, shown, table] => {
+            show_table(read_name(alloc, server)?, shown, read_name(alloc, table)?)
+        }
+        [server, shown, qual, name] => {
+            show_set(read_name(alloc, server)?, shown, read_set(alloc, qual, name)?)
+        }
+        _ => Err(LineError::BadLine),
+    }
+}

@@ -1,0 +1,9 @@
+//! Commands.
+#![tactic(auto)]
+
+mod commands;
+mod line;
+mod parts;
+mod words;
+
+pub use line::read_line;
