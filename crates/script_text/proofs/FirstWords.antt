@@ -9,11 +9,6 @@ use Rattle.repl_commands.specs.declared.errors.LineError.TheVariants.{Memory, Un
 use Rattle.script_text.specs.Readings.{AreRefused}
 use Rattle.script_text.specs.Commands.{command_words, AreWordsOf, begin_with_verb}
 
--- the first word of a command is a verb
-pub begins : (c : Command) → begin_with_verb (command_words c) ≡ true
-begins Load = refl
-begins _ = refl
-
 -- a command has at most seven words
 few : (c : Command) → length (command_words c) ≤ 7
 few (Capture server (Some units) (Some every)) = lit≤ tt

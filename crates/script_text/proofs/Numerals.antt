@@ -15,7 +15,7 @@ found_between low high n word fits e =
     let r = and_parts _ _ q.0 in
     record {
       fits = (subst (λ (k : ℕ). low ≤ k) p.1 (leb-true low _ r.1), subst (λ (k : ℕ). k ≤ high) p.1 (leb-true _ high q.1));
-      spelled = sym (number_found low high n word fits e)
+      spelled = sym (number_found low high n word fits e);
     }
 
 -- if none was found, there is none

@@ -6,8 +6,9 @@ ghost use Rattle.script_text.specs.Commands.{AreWordsOf, IsMinutes, AreOfAComman
 ghost use Rattle.script_text.specs.Readings.{IsRefusal, IsNumber, ShowsServer, ShowsTable};
 ghost use Rattle.script_text.specs.Readings.{ShowsSet};
 
-use crate::parts::{read_amount, read_limits, read_minutes, read_name, read_one_set, read_seed};
-use crate::parts::read_set;
+use crate::parts::{
+    read_amount, read_limits, read_minutes, read_name, read_one_set, read_seed, read_set,
+};
 use crate::words::is_word;
 use repl_commands::{Command, LineError};
 use repl_types::{Name, SetId};
@@ -251,7 +252,11 @@ pub(crate) fn read_show(alloc: Global, rest: &[&[u8]]) -> Result<Command, LineEr
             show_table(read_name(alloc, server)?, shown, read_name(alloc, table)?)
         }
         [server, shown, qual, name] => {
-            show_set(read_name(alloc, server)?, shown, read_set(alloc, qual, name)?)
+            show_set(
+                read_name(alloc, server)?,
+                shown,
+                read_set(alloc, qual, name)?,
+            )
         }
         _ => Err(LineError::BadLine),
     }
