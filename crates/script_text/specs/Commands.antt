@@ -22,7 +22,7 @@ option_words word (Some n) = word ∷ decimal n ∷ []
 abbrev pub limit_words : Option ℕ → Option ℕ → List (List ℕ)
 limit_words units every = option_words (codes "units") units ++ option_words (codes "every") every
 
--- the words of a command
+-- the words of a command; what is left out has none
 abbrev pub command_words : Command → List (List ℕ)
 command_words Load = codes "load" ∷ []
 command_words (Feed server) = codes "feed" ∷ server ∷ []
@@ -71,7 +71,7 @@ IsAmount n = n ≤ highest_number
 abbrev pub IsSet : SetId → Type 0
 IsSet set = IsTrue (is_name set.qual) × IsTrue (is_name set.name)
 
--- the names of a command are names, and its numbers lie in their ranges
+-- a command of a script: its names are names, and its numbers lie in their ranges
 abbrev pub IsCommand : Command → Type 0
 IsCommand Load = Unit {0}
 IsCommand (Feed server) = IsTrue (is_name server)
@@ -96,14 +96,10 @@ IsCommand (ShowTarget server table) = IsTrue (is_name server) × IsTrue (is_name
 IsCommand (ShowTrail server set) = IsTrue (is_name server) × IsSet set
 IsCommand (ShowRejected server set) = IsTrue (is_name server) × IsSet set
 
--- words are those of a command
+-- these words are the command's, and it is a command of a script
 pub record AreWordsOf (words : List (List ℕ)) (command : Command) : Type 0 where
   pub fits : IsCommand command
   pub spelled : words ≡ command_words command
-
--- a command has these words
-abbrev pub AreOfACommand : List (List ℕ) → Type 0
-AreOfACommand words = (command : Command) × AreWordsOf words command
 
 -- the first words of commands
 abbrev pub verbs : List (List ℕ)
@@ -122,6 +118,6 @@ begin_with_verb (word ∷ words) = is_verb word
 abbrev pub names_a_command : List ℕ → Bool
 names_a_command line = begin_with_verb (line_words line)
 
--- a line is of a command: its words are those of the command
+-- a line is of a command: its words are the command's
 abbrev pub IsLineOf : List ℕ → Command → Type 0
 IsLineOf line command = AreWordsOf (line_words line) command

@@ -1,10 +1,16 @@
--- What the readers of a command's words answer. By then the verb is known to be one.
+-- Words for the contracts of the readers of verbs and of parts of commands. That of `read_line` needs none of them.
 use Rattle.std.specs.Prelude.{◌≡◌, ◌⊎◌, ℕ, true, false, List, Option, IfSome, codes, decimal}
+use Rattle.repl_commands.specs.declared.command.Command.{Command}
 use Rattle.repl_commands.specs.declared.errors.LineError.{LineError}
 use Rattle.repl_commands.specs.declared.errors.LineError.TheVariants.{Memory, UnknownCommand, BadLine}
-use Rattle.script_text.specs.Commands.{IsCount, option_words, limit_words, AreOfACommand, begin_with_verb}
+use Rattle.script_text.specs.Commands.{IsCount, option_words, limit_words, AreWordsOf, begin_with_verb}
 
--- why it was not found that this holds: memory ran out, or it doesn't hold
+-- a command of a script has these words
+abbrev pub AreOfACommand : List (List ℕ) → Type 0
+AreOfACommand words = (command : Command) × AreWordsOf words command
+
+-- why a reader that asks whether P holds answers an error: memory ran out, or P doesn't hold. It never calls a command
+-- unknown
 abbrev pub IsRefusal : Type 0 → LineError → Type 0
 IsRefusal P Memory = Unit {0}
 IsRefusal P BadLine = ¬ P
@@ -15,12 +21,12 @@ pub record IsNumber (IsInRange : ℕ → Type 0) (word : List ℕ) (n : ℕ) : T
   pub fits : IsInRange n
   pub spelled : word ≡ decimal n
 
--- words are an option: none, or a word and a number of units
+-- these are no words, or a word and a count
 pub record IsOption (word : List ℕ) (words : List (List ℕ)) (n : Option ℕ) : Type 0 where
   pub fits : IfSome n IsCount
   pub spelled : words ≡ option_words word n
 
--- words are the limits of a capture
+-- these are the words of the limits of a capture
 pub record AreLimits (words : List (List ℕ)) (units every : Option ℕ) : Type 0 where
   pub fits : IfSome units IsCount × IfSome every IsCount
   pub spelled : words ≡ limit_words units every
@@ -37,7 +43,7 @@ ShowsTable word = (word ≡ codes "source") ⊎ (word ≡ codes "cd") ⊎ (word 
 abbrev pub ShowsSet : List ℕ → Type 0
 ShowsSet word = (word ≡ codes "trail") ⊎ (word ≡ codes "rejected")
 
--- why words gave no command: memory ran out; or they don't begin with a verb; or they do, and are of no command
+-- why words gave no command: memory ran out; or they don't begin with a verb; or they do, and no command has them
 abbrev pub AreRefused : List (List ℕ) → LineError → Type 0
 AreRefused words Memory = Unit {0}
 AreRefused words UnknownCommand = begin_with_verb words ≡ false

@@ -1,10 +1,10 @@
-//! The readers of commands: each reads the words after a verb.
+//! The readers of commands: each reads the words after a verb, or after a verb and a server.
 
 ghost use Rattle.std.specs.Prelude.{◌≡◌, ◌∷◌, [], ◌⊎◌, ℕ, IfOk, IfErr, codes};
 ghost use Rattle.script_text.specs.Words.{texts};
-ghost use Rattle.script_text.specs.Commands.{AreWordsOf, IsMinutes, AreOfACommand};
-ghost use Rattle.script_text.specs.Readings.{IsRefusal, IsNumber, ShowsServer, ShowsTable};
-ghost use Rattle.script_text.specs.Readings.{ShowsSet};
+ghost use Rattle.script_text.specs.Commands.{AreWordsOf, IsMinutes};
+ghost use Rattle.script_text.specs.Readings.{AreOfACommand, IsRefusal, IsNumber};
+ghost use Rattle.script_text.specs.Readings.{ShowsServer, ShowsTable, ShowsSet};
 
 use crate::parts::{
     read_amount, read_limits, read_minutes, read_name, read_one_set, read_seed, read_set,
@@ -38,8 +38,8 @@ pub(crate) fn read_feed(alloc: Global, rest: &[&[u8]]) -> Result<Command, LineEr
     }
 }
 
-/// `capture S [units U] [every E]`, `capture S cold`: the words after the server.
-fn capture_by(server: Name, limits: &[&[u8]]) -> Result<Command, LineError>
+/// `capture S [units U] [every E]`, `capture S cold`, of which S is read.
+fn read_capture_at(server: Name, limits: &[&[u8]]) -> Result<Command, LineError>
     ensures ok { IfOk result (AreWordsOf (codes "capture" ∷ server ∷ texts limits.now)) }
     ensures refused { IfErr result
         (IsRefusal (AreOfACommand (codes "capture" ∷ server ∷ texts limits.now))) }
@@ -55,19 +55,19 @@ fn capture_by(server: Name, limits: &[&[u8]]) -> Result<Command, LineError>
     })
 }
 
-/// `capture S`, and what may follow it
+/// `capture S [units U] [every E]`, `capture S cold`
 pub(crate) fn read_capture(alloc: Global, rest: &[&[u8]]) -> Result<Command, LineError>
     ensures ok { IfOk result (AreWordsOf (codes "capture" ∷ texts rest.now)) }
     ensures refused { IfErr result (IsRefusal (AreOfACommand (codes "capture" ∷ texts rest.now))) }
 {
     match rest {
-        [server, limits @ ..] => capture_by(read_name(alloc, server)?, limits),
+        [server, limits @ ..] => read_capture_at(read_name(alloc, server)?, limits),
         [] => Err(LineError::BadLine),
     }
 }
 
-/// `prune S M`, `prune S normal`
-fn prune_by(server: Name, kept: &[u8]) -> Result<Command, LineError>
+/// `prune S M`, `prune S normal`, of which S is read.
+fn read_prune_at(server: Name, kept: &[u8]) -> Result<Command, LineError>
     ensures ok { IfOk result (AreWordsOf (codes "prune" ∷ server ∷ kept.now ∷ [])) }
     ensures refused { IfErr result (IsRefusal
         ((kept.now ≡ codes "normal") ⊎ ((n : ℕ) × IsNumber IsMinutes kept.now n))) }
@@ -81,7 +81,7 @@ fn prune_by(server: Name, kept: &[u8]) -> Result<Command, LineError>
     })
 }
 
-/// `prune S`, or one of the two forms above
+/// `prune S`, `prune S M`, `prune S normal`
 pub(crate) fn read_prune(alloc: Global, rest: &[&[u8]]) -> Result<Command, LineError>
     ensures ok { IfOk result (AreWordsOf (codes "prune" ∷ texts rest.now)) }
     ensures refused { IfErr result (IsRefusal (AreOfACommand (codes "prune" ∷ texts rest.now))) }
@@ -91,7 +91,7 @@ pub(crate) fn read_prune(alloc: Global, rest: &[&[u8]]) -> Result<Command, LineE
             server: read_name(alloc, server)?,
             minutes: None,
         }),
-        [server, kept] => prune_by(read_name(alloc, server)?, kept),
+        [server, kept] => read_prune_at(read_name(alloc, server)?, kept),
         _ => Err(LineError::BadLine),
     }
 }
@@ -196,8 +196,8 @@ pub(crate) fn read_status(alloc: Global, rest: &[&[u8]]) -> Result<Command, Line
     }
 }
 
-/// `show S uow`, `show S log`
-fn show_server(server: Name, shown: &[u8]) -> Result<Command, LineError>
+/// `show S uow`, `show S log`, of which S is read.
+fn read_show_server(server: Name, shown: &[u8]) -> Result<Command, LineError>
     ensures ok { IfOk result (AreWordsOf (codes "show" ∷ server ∷ shown.now ∷ [])) }
     ensures refused { IfErr result (IsRefusal (ShowsServer shown.now)) }
 {
@@ -210,8 +210,8 @@ fn show_server(server: Name, shown: &[u8]) -> Result<Command, LineError>
     }
 }
 
-/// `show S source T`, `show S cd T`, `show S target T`
-fn show_table(server: Name, shown: &[u8], table: Name) -> Result<Command, LineError>
+/// `show S source T`, `show S cd T`, `show S target T`, of which S and T are read.
+fn read_show_table(server: Name, shown: &[u8], table: Name) -> Result<Command, LineError>
     ensures ok { IfOk result (AreWordsOf (codes "show" ∷ server ∷ shown.now ∷ table ∷ [])) }
     ensures refused { IfErr result (IsRefusal (ShowsTable shown.now)) }
 {
@@ -226,8 +226,8 @@ fn show_table(server: Name, shown: &[u8], table: Name) -> Result<Command, LineEr
     }
 }
 
-/// `show S trail Q N`, `show S rejected Q N`
-fn show_set(server: Name, shown: &[u8], set: SetId) -> Result<Command, LineError>
+/// `show S trail Q N`, `show S rejected Q N`, of which S, Q and N are read.
+fn read_show_set(server: Name, shown: &[u8], set: SetId) -> Result<Command, LineError>
     ensures ok { IfOk result
         (AreWordsOf (codes "show" ∷ server ∷ shown.now ∷ set.qual ∷ set.name ∷ [])) }
     ensures refused { IfErr result (IsRefusal (ShowsSet shown.now)) }
@@ -241,18 +241,18 @@ fn show_set(server: Name, shown: &[u8], set: SetId) -> Result<Command, LineError
     }
 }
 
-/// `show S WHAT`, `show S WHAT T`, `show S WHAT Q N`
+/// `show S` and one of `source T`, `cd T`, `uow`, `log`, `target T`, `trail Q N`, `rejected Q N`
 pub(crate) fn read_show(alloc: Global, rest: &[&[u8]]) -> Result<Command, LineError>
     ensures ok { IfOk result (AreWordsOf (codes "show" ∷ texts rest.now)) }
     ensures refused { IfErr result (IsRefusal (AreOfACommand (codes "show" ∷ texts rest.now))) }
 {
     match rest {
-        [server, shown] => show_server(read_name(alloc, server)?, shown),
+        [server, shown] => read_show_server(read_name(alloc, server)?, shown),
         [server, shown, table] => {
-            show_table(read_name(alloc, server)?, shown, read_name(alloc, table)?)
+            read_show_table(read_name(alloc, server)?, shown, read_name(alloc, table)?)
         }
         [server, shown, qual, name] => {
-            show_set(
+            read_show_set(
                 read_name(alloc, server)?,
                 shown,
                 read_set(alloc, qual, name)?,

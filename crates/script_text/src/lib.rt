@@ -1,4 +1,13 @@
-//! The lines of a script: each is read as a command.
+//! The lines of a script: each gives a command, or says why it gives none.
+//!
+//! It stands on `repl_commands`, which has the commands and the errors, and on `repl_types`, which
+//! reads names and numbers. No crate stands on it yet, since the program reads no script. The words
+//! of a command, one equation each, are in `specs/Commands.antt`, and the contract of `read_line`
+//! compares a line with them. A law says that a line is of one command at most.
+//!
+//! For example, the line `capture hq units 5` is
+//! `Command::Capture { server: hq, units: Some(5), every: None }`, `capture hq units 0` is a bad
+//! line, and `catch hq` an unknown command.
 #![tactic(auto)]
 
 mod commands;

@@ -72,9 +72,9 @@ fn read_bytes(alloc: Global, line: &[u8]) -> Result<Command, LineError>
     read_words(alloc, words.as_slice())
 }
 
-/// The command that a line of a script is. `UnknownCommand` is returned only if the line is UTF-8
-/// and its first word is none of a command, and `BadLine` only if it isn't UTF-8, or if its first
-/// word is one of a command but the line isn't of a command's form.
+/// The command of a script's line. `UnknownCommand` is returned only if the line is UTF-8 and its
+/// first word is that of no command, or if it is UTF-8 and has no word. `BadLine` is returned only
+/// if the line isn't UTF-8, or if its first word is that of a command and the other words aren't.
 pub fn read_line(alloc: Global, line: &[u8]) -> Result<Command, LineError>
     ensures ok { IfOk result (IsLineOf line.now) }
     ensures unknown { result ≡ Err LineError.UnknownCommand
@@ -84,7 +84,7 @@ pub fn read_line(alloc: Global, line: &[u8]) -> Result<Command, LineError>
         × ((command : Command) → ¬ (IsLineOf line.now command)) }
 {
     match read_bytes(alloc, line) {
-        // The line of a command is ASCII, so only an unknown word asks whether the line is UTF-8.
+        // The words of a command are ASCII, and any other line is bad if its first word is known.
         Err(LineError::UnknownCommand) if str::from_utf8(line).is_err() => Err(LineError::BadLine),
         read => read,
     }
