@@ -1,5 +1,5 @@
 -- No two commands have the same words.
-use Rattle.std.proofs.Common.{◌≡◌, ℕ, ◌^◌, ◌<◌, ◌≤◌, true, false, Bool, ◌&&◌, eqb, eq-eqb, List, [], ◌∷◌, length, get_or, Option, Some, None, refl, sym, ap, ◌∙◌, arith}
+use Rattle.std.proofs.Common.{◌≡◌, ℕ, ◌^◌, ◌<◌, true, false, Bool, ◌&&◌, eqb, eq-eqb, List, [], ◌∷◌, length, get_or, Option, Some, None, refl, sym, ap, ◌∙◌, arith}
 use Rattle.std.specs.Prelude.{codes, decimal, IfSome}
 use Rattle.std.specs.Str.{bytes_eq}
 use Rattle.std.proofs.lemmas.Bool.{and_from, false≢true}
@@ -10,7 +10,7 @@ use Rattle.repl_types.specs.laws.Numbers.{number_again}
 use Rattle.repl_types.specs.declared.record.SetId.{SetId}
 use Rattle.repl_commands.specs.declared.command.Command.{Command}
 use Rattle.repl_commands.specs.declared.command.Command.TheVariants.{Load, Feed, Capture, CaptureCold, Prune, PruneNormal, Step, Apply, Refresh, Stop, Generate, Rounds, Audit, StatusServer, StatusSet, ShowSource, ShowCd, ShowUow, ShowLog, ShowTarget, ShowTrail, ShowRejected}
-use Rattle.script_text.specs.Commands.{IsCount, option_words, limit_words, command_words, IsCommand}
+use Rattle.script_text.specs.Commands.{IsCount, limit_words, command_words, IsCommand}
 
 -- the highest number of 64 bits
 abbrev highest : ℕ
