@@ -8,7 +8,7 @@ use Rattle.repl_commands.specs.declared.errors.LineError.{LineError}
 use Rattle.repl_commands.specs.declared.errors.LineError.TheVariants.{Memory, UnknownCommand, BadLine}
 use Rattle.script_text.specs.declared.words.TheConstants.{WORDS_READ}
 use Rattle.script_text.specs.Readings.{AreRefused}
-use Rattle.script_text.specs.Commands.{command_words, AreWordsOf, begin_with_verb}
+use Rattle.script_text.specs.Commands.{command_words, AreCommandWords, begin_with_verb}
 
 -- a command has fewer words than are read
 few : (c : Command) → length (command_words c) < WORDS_READ
@@ -33,7 +33,7 @@ all_first ws c e =
     take_all WORDS_READ ws (omega arith) ∙ e
 
 -- a command of the words that are read is one of all words
-pub of_all : (ws : List (List ℕ)) (r : Result Command LineError) → IfOk r (AreWordsOf (take WORDS_READ ws)) → IfOk r (AreWordsOf ws)
+pub of_all : (ws : List (List ℕ)) (r : Result Command LineError) → IfOk r (AreCommandWords (take WORDS_READ ws)) → IfOk r (AreCommandWords ws)
 of_all ws (Ok c) is = record { fits = is.fits; spelled = all_there ws c is.spelled }
 of_all ws (Err e) is = tt
 

@@ -68,8 +68,8 @@ abbrev pub IsAmount : ℕ → Type 0
 IsAmount n = n ≤ highest_number
 
 -- both parts of a set's name are names
-abbrev pub IsSet : SetId → Type 0
-IsSet set = IsTrue (is_name set.qual) × IsTrue (is_name set.name)
+abbrev pub IsSetName : SetId → Type 0
+IsSetName set = IsTrue (is_name set.qual) × IsTrue (is_name set.name)
 
 -- a command of a script: its names are names, and its numbers lie in their ranges
 abbrev pub IsCommand : Command → Type 0
@@ -79,25 +79,25 @@ IsCommand (Capture server units every) = IsTrue (is_name server) × IfSome units
 IsCommand (CaptureCold server) = IsTrue (is_name server)
 IsCommand (Prune server minutes) = IsTrue (is_name server) × IfSome minutes IsMinutes
 IsCommand (PruneNormal server) = IsTrue (is_name server)
-IsCommand (Step set) = IsSet set
-IsCommand (Apply set) = IsSet set
-IsCommand (Refresh set) = IsSet set
+IsCommand (Step set) = IsSetName set
+IsCommand (Apply set) = IsSetName set
+IsCommand (Refresh set) = IsSetName set
 IsCommand (Stop server table) = IsTrue (is_name server) × IsTrue (is_name table)
 IsCommand (Generate server table seed units changes) = IsTrue (is_name server) × IsTrue (is_name table) × IsSeed seed × IsAmount units × IsAmount changes
 IsCommand (Rounds qual) = IsTrue (is_name qual)
-IsCommand (Audit set) = IsSet set
+IsCommand (Audit set) = IsSetName set
 IsCommand (StatusServer server) = IsTrue (is_name server)
-IsCommand (StatusSet set) = IsSet set
+IsCommand (StatusSet set) = IsSetName set
 IsCommand (ShowSource server table) = IsTrue (is_name server) × IsTrue (is_name table)
 IsCommand (ShowCd server table) = IsTrue (is_name server) × IsTrue (is_name table)
 IsCommand (ShowUow server) = IsTrue (is_name server)
 IsCommand (ShowLog server) = IsTrue (is_name server)
 IsCommand (ShowTarget server table) = IsTrue (is_name server) × IsTrue (is_name table)
-IsCommand (ShowTrail server set) = IsTrue (is_name server) × IsSet set
-IsCommand (ShowRejected server set) = IsTrue (is_name server) × IsSet set
+IsCommand (ShowTrail server set) = IsTrue (is_name server) × IsSetName set
+IsCommand (ShowRejected server set) = IsTrue (is_name server) × IsSetName set
 
 -- these words are the command's, and it is a command of a script
-pub record AreWordsOf (words : List (List ℕ)) (command : Command) : Type 0 where
+pub record AreCommandWords (words : List (List ℕ)) (command : Command) : Type 0 where
   pub fits : IsCommand command
   pub spelled : words ≡ command_words command
 
@@ -120,4 +120,4 @@ names_a_command line = begin_with_verb (line_words line)
 
 -- a line is of a command: its words are the command's
 abbrev pub IsLineOf : List ℕ → Command → Type 0
-IsLineOf line command = AreWordsOf (line_words line) command
+IsLineOf line command = AreCommandWords (line_words line) command

@@ -3,11 +3,11 @@ use Rattle.std.specs.Prelude.{◌≡◌, ◌⊎◌, ℕ, true, false, List, Opti
 use Rattle.repl_commands.specs.declared.command.Command.{Command}
 use Rattle.repl_commands.specs.declared.errors.LineError.{LineError}
 use Rattle.repl_commands.specs.declared.errors.LineError.TheVariants.{Memory, UnknownCommand, BadLine}
-use Rattle.script_text.specs.Commands.{IsCount, option_words, limit_words, AreWordsOf, begin_with_verb}
+use Rattle.script_text.specs.Commands.{IsCount, option_words, limit_words, AreCommandWords, begin_with_verb}
 
 -- a command of a script has these words
 abbrev pub AreOfACommand : List (List ℕ) → Type 0
-AreOfACommand words = (command : Command) × AreWordsOf words command
+AreOfACommand words = (command : Command) × AreCommandWords words command
 
 -- why a reader that asks whether P holds answers an error: memory ran out, or P doesn't hold. It never calls a command
 -- unknown
@@ -17,7 +17,7 @@ IsRefusal P BadLine = ¬ P
 IsRefusal P UnknownCommand = ⊥
 
 -- a word spells a number of a range
-pub record IsNumber (IsInRange : ℕ → Type 0) (word : List ℕ) (n : ℕ) : Type 0 where
+pub record IsNumberWord (IsInRange : ℕ → Type 0) (word : List ℕ) (n : ℕ) : Type 0 where
   pub fits : IsInRange n
   pub spelled : word ≡ decimal n
 

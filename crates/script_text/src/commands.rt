@@ -2,8 +2,8 @@
 
 ghost use Rattle.std.specs.Prelude.{◌≡◌, ◌∷◌, [], ◌⊎◌, ℕ, IfOk, IfErr, codes};
 ghost use Rattle.script_text.specs.Words.{texts};
-ghost use Rattle.script_text.specs.Commands.{AreWordsOf, IsMinutes};
-ghost use Rattle.script_text.specs.Readings.{AreOfACommand, IsRefusal, IsNumber};
+ghost use Rattle.script_text.specs.Commands.{AreCommandWords, IsMinutes};
+ghost use Rattle.script_text.specs.Readings.{AreOfACommand, IsRefusal, IsNumberWord};
 ghost use Rattle.script_text.specs.Readings.{ShowsServer, ShowsTable, ShowsSet};
 
 use crate::parts::{
@@ -16,7 +16,7 @@ use std::alloc::Global;
 
 /// `load`
 pub(crate) fn read_load(rest: &[&[u8]]) -> Result<Command, LineError>
-    ensures ok { IfOk result (AreWordsOf (codes "load" ∷ texts rest.now)) }
+    ensures ok { IfOk result (AreCommandWords (codes "load" ∷ texts rest.now)) }
     ensures refused { IfErr result (IsRefusal (AreOfACommand (codes "load" ∷ texts rest.now))) }
 {
     match rest {
@@ -27,7 +27,7 @@ pub(crate) fn read_load(rest: &[&[u8]]) -> Result<Command, LineError>
 
 /// `feed S`
 pub(crate) fn read_feed(alloc: Global, rest: &[&[u8]]) -> Result<Command, LineError>
-    ensures ok { IfOk result (AreWordsOf (codes "feed" ∷ texts rest.now)) }
+    ensures ok { IfOk result (AreCommandWords (codes "feed" ∷ texts rest.now)) }
     ensures refused { IfErr result (IsRefusal (AreOfACommand (codes "feed" ∷ texts rest.now))) }
 {
     match rest {
@@ -40,7 +40,7 @@ pub(crate) fn read_feed(alloc: Global, rest: &[&[u8]]) -> Result<Command, LineEr
 
 /// `capture S [units U] [every E]`, `capture S cold`, of which S is read.
 fn read_capture_at(server: Name, limits: &[&[u8]]) -> Result<Command, LineError>
-    ensures ok { IfOk result (AreWordsOf (codes "capture" ∷ server ∷ texts limits.now)) }
+    ensures ok { IfOk result (AreCommandWords (codes "capture" ∷ server ∷ texts limits.now)) }
     ensures refused { IfErr result
         (IsRefusal (AreOfACommand (codes "capture" ∷ server ∷ texts limits.now))) }
 {
@@ -57,7 +57,7 @@ fn read_capture_at(server: Name, limits: &[&[u8]]) -> Result<Command, LineError>
 
 /// `capture S [units U] [every E]`, `capture S cold`
 pub(crate) fn read_capture(alloc: Global, rest: &[&[u8]]) -> Result<Command, LineError>
-    ensures ok { IfOk result (AreWordsOf (codes "capture" ∷ texts rest.now)) }
+    ensures ok { IfOk result (AreCommandWords (codes "capture" ∷ texts rest.now)) }
     ensures refused { IfErr result (IsRefusal (AreOfACommand (codes "capture" ∷ texts rest.now))) }
 {
     match rest {
@@ -68,9 +68,9 @@ pub(crate) fn read_capture(alloc: Global, rest: &[&[u8]]) -> Result<Command, Lin
 
 /// `prune S M`, `prune S normal`, of which S is read.
 fn read_prune_at(server: Name, kept: &[u8]) -> Result<Command, LineError>
-    ensures ok { IfOk result (AreWordsOf (codes "prune" ∷ server ∷ kept.now ∷ [])) }
+    ensures ok { IfOk result (AreCommandWords (codes "prune" ∷ server ∷ kept.now ∷ [])) }
     ensures refused { IfErr result (IsRefusal
-        ((kept.now ≡ codes "normal") ⊎ ((n : ℕ) × IsNumber IsMinutes kept.now n))) }
+        ((kept.now ≡ codes "normal") ⊎ ((n : ℕ) × IsNumberWord IsMinutes kept.now n))) }
 {
     if is_word(kept, b"normal") {
         return Ok(Command::PruneNormal { server });
@@ -83,7 +83,7 @@ fn read_prune_at(server: Name, kept: &[u8]) -> Result<Command, LineError>
 
 /// `prune S`, `prune S M`, `prune S normal`
 pub(crate) fn read_prune(alloc: Global, rest: &[&[u8]]) -> Result<Command, LineError>
-    ensures ok { IfOk result (AreWordsOf (codes "prune" ∷ texts rest.now)) }
+    ensures ok { IfOk result (AreCommandWords (codes "prune" ∷ texts rest.now)) }
     ensures refused { IfErr result (IsRefusal (AreOfACommand (codes "prune" ∷ texts rest.now))) }
 {
     match rest {
@@ -98,7 +98,7 @@ pub(crate) fn read_prune(alloc: Global, rest: &[&[u8]]) -> Result<Command, LineE
 
 /// `step Q N`
 pub(crate) fn read_step(alloc: Global, rest: &[&[u8]]) -> Result<Command, LineError>
-    ensures ok { IfOk result (AreWordsOf (codes "step" ∷ texts rest.now)) }
+    ensures ok { IfOk result (AreCommandWords (codes "step" ∷ texts rest.now)) }
     ensures refused { IfErr result (IsRefusal (AreOfACommand (codes "step" ∷ texts rest.now))) }
 {
     Ok(Command::Step {
@@ -108,7 +108,7 @@ pub(crate) fn read_step(alloc: Global, rest: &[&[u8]]) -> Result<Command, LineEr
 
 /// `apply Q N`
 pub(crate) fn read_apply(alloc: Global, rest: &[&[u8]]) -> Result<Command, LineError>
-    ensures ok { IfOk result (AreWordsOf (codes "apply" ∷ texts rest.now)) }
+    ensures ok { IfOk result (AreCommandWords (codes "apply" ∷ texts rest.now)) }
     ensures refused { IfErr result (IsRefusal (AreOfACommand (codes "apply" ∷ texts rest.now))) }
 {
     Ok(Command::Apply {
@@ -118,7 +118,7 @@ pub(crate) fn read_apply(alloc: Global, rest: &[&[u8]]) -> Result<Command, LineE
 
 /// `refresh Q N`
 pub(crate) fn read_refresh(alloc: Global, rest: &[&[u8]]) -> Result<Command, LineError>
-    ensures ok { IfOk result (AreWordsOf (codes "refresh" ∷ texts rest.now)) }
+    ensures ok { IfOk result (AreCommandWords (codes "refresh" ∷ texts rest.now)) }
     ensures refused { IfErr result (IsRefusal (AreOfACommand (codes "refresh" ∷ texts rest.now))) }
 {
     Ok(Command::Refresh {
@@ -128,7 +128,7 @@ pub(crate) fn read_refresh(alloc: Global, rest: &[&[u8]]) -> Result<Command, Lin
 
 /// `stop S T`
 pub(crate) fn read_stop(alloc: Global, rest: &[&[u8]]) -> Result<Command, LineError>
-    ensures ok { IfOk result (AreWordsOf (codes "stop" ∷ texts rest.now)) }
+    ensures ok { IfOk result (AreCommandWords (codes "stop" ∷ texts rest.now)) }
     ensures refused { IfErr result (IsRefusal (AreOfACommand (codes "stop" ∷ texts rest.now))) }
 {
     match rest {
@@ -142,7 +142,7 @@ pub(crate) fn read_stop(alloc: Global, rest: &[&[u8]]) -> Result<Command, LineEr
 
 /// `generate S T SEED UNITS CHANGES`
 pub(crate) fn read_generate(alloc: Global, rest: &[&[u8]]) -> Result<Command, LineError>
-    ensures ok { IfOk result (AreWordsOf (codes "generate" ∷ texts rest.now)) }
+    ensures ok { IfOk result (AreCommandWords (codes "generate" ∷ texts rest.now)) }
     ensures refused { IfErr result (IsRefusal (AreOfACommand (codes "generate" ∷ texts rest.now))) }
 {
     match rest {
@@ -159,7 +159,7 @@ pub(crate) fn read_generate(alloc: Global, rest: &[&[u8]]) -> Result<Command, Li
 
 /// `rounds Q`
 pub(crate) fn read_rounds(alloc: Global, rest: &[&[u8]]) -> Result<Command, LineError>
-    ensures ok { IfOk result (AreWordsOf (codes "rounds" ∷ texts rest.now)) }
+    ensures ok { IfOk result (AreCommandWords (codes "rounds" ∷ texts rest.now)) }
     ensures refused { IfErr result (IsRefusal (AreOfACommand (codes "rounds" ∷ texts rest.now))) }
 {
     match rest {
@@ -172,7 +172,7 @@ pub(crate) fn read_rounds(alloc: Global, rest: &[&[u8]]) -> Result<Command, Line
 
 /// `audit Q N`
 pub(crate) fn read_audit(alloc: Global, rest: &[&[u8]]) -> Result<Command, LineError>
-    ensures ok { IfOk result (AreWordsOf (codes "audit" ∷ texts rest.now)) }
+    ensures ok { IfOk result (AreCommandWords (codes "audit" ∷ texts rest.now)) }
     ensures refused { IfErr result (IsRefusal (AreOfACommand (codes "audit" ∷ texts rest.now))) }
 {
     Ok(Command::Audit {
@@ -182,7 +182,7 @@ pub(crate) fn read_audit(alloc: Global, rest: &[&[u8]]) -> Result<Command, LineE
 
 /// `status S`, `status Q N`
 pub(crate) fn read_status(alloc: Global, rest: &[&[u8]]) -> Result<Command, LineError>
-    ensures ok { IfOk result (AreWordsOf (codes "status" ∷ texts rest.now)) }
+    ensures ok { IfOk result (AreCommandWords (codes "status" ∷ texts rest.now)) }
     ensures refused { IfErr result (IsRefusal (AreOfACommand (codes "status" ∷ texts rest.now))) }
 {
     match rest {
@@ -198,7 +198,7 @@ pub(crate) fn read_status(alloc: Global, rest: &[&[u8]]) -> Result<Command, Line
 
 /// `show S uow`, `show S log`, of which S is read.
 fn read_show_server(server: Name, shown: &[u8]) -> Result<Command, LineError>
-    ensures ok { IfOk result (AreWordsOf (codes "show" ∷ server ∷ shown.now ∷ [])) }
+    ensures ok { IfOk result (AreCommandWords (codes "show" ∷ server ∷ shown.now ∷ [])) }
     ensures refused { IfErr result (IsRefusal (ShowsServer shown.now)) }
 {
     if is_word(shown, b"uow") {
@@ -212,7 +212,7 @@ fn read_show_server(server: Name, shown: &[u8]) -> Result<Command, LineError>
 
 /// `show S source T`, `show S cd T`, `show S target T`, of which S and T are read.
 fn read_show_table(server: Name, shown: &[u8], table: Name) -> Result<Command, LineError>
-    ensures ok { IfOk result (AreWordsOf (codes "show" ∷ server ∷ shown.now ∷ table ∷ [])) }
+    ensures ok { IfOk result (AreCommandWords (codes "show" ∷ server ∷ shown.now ∷ table ∷ [])) }
     ensures refused { IfErr result (IsRefusal (ShowsTable shown.now)) }
 {
     if is_word(shown, b"source") {
@@ -229,7 +229,7 @@ fn read_show_table(server: Name, shown: &[u8], table: Name) -> Result<Command, L
 /// `show S trail Q N`, `show S rejected Q N`, of which S, Q and N are read.
 fn read_show_set(server: Name, shown: &[u8], set: SetId) -> Result<Command, LineError>
     ensures ok { IfOk result
-        (AreWordsOf (codes "show" ∷ server ∷ shown.now ∷ set.qual ∷ set.name ∷ [])) }
+        (AreCommandWords (codes "show" ∷ server ∷ shown.now ∷ set.qual ∷ set.name ∷ [])) }
     ensures refused { IfErr result (IsRefusal (ShowsSet shown.now)) }
 {
     if is_word(shown, b"trail") {
@@ -243,7 +243,7 @@ fn read_show_set(server: Name, shown: &[u8], set: SetId) -> Result<Command, Line
 
 /// `show S` and one of `source T`, `cd T`, `uow`, `log`, `target T`, `trail Q N`, `rejected Q N`
 pub(crate) fn read_show(alloc: Global, rest: &[&[u8]]) -> Result<Command, LineError>
-    ensures ok { IfOk result (AreWordsOf (codes "show" ∷ texts rest.now)) }
+    ensures ok { IfOk result (AreCommandWords (codes "show" ∷ texts rest.now)) }
     ensures refused { IfErr result (IsRefusal (AreOfACommand (codes "show" ∷ texts rest.now))) }
 {
     match rest {

@@ -4,7 +4,7 @@ ghost use Rattle.std.specs.Prelude.{◌≡◌, ◌∷◌, false, true, IfOk, IfE
 ghost use Rattle.std.specs.Str.{IsUtf8};
 ghost use Rattle.repl_commands.specs.declared.command.Command.{Command};
 ghost use Rattle.script_text.specs.Words.{line_words, texts};
-ghost use Rattle.script_text.specs.Commands.{AreWordsOf, IsLineOf, names_a_command};
+ghost use Rattle.script_text.specs.Commands.{AreCommandWords, IsLineOf, names_a_command};
 ghost use Rattle.script_text.specs.Readings.{AreRefused};
 
 use crate::commands::{
@@ -18,7 +18,7 @@ use std::str;
 
 /// The command of a verb and the words after it.
 fn read_command(alloc: Global, verb: &[u8], rest: &[&[u8]]) -> Result<Command, LineError>
-    ensures ok { IfOk result (AreWordsOf (verb.now ∷ texts rest.now)) }
+    ensures ok { IfOk result (AreCommandWords (verb.now ∷ texts rest.now)) }
     ensures refused { IfErr result (AreRefused (verb.now ∷ texts rest.now)) }
 {
     if is_word(verb, b"load") {
@@ -54,7 +54,7 @@ fn read_command(alloc: Global, verb: &[u8], rest: &[&[u8]]) -> Result<Command, L
 
 /// The command that has these words.
 fn read_words(alloc: Global, words: &[&[u8]]) -> Result<Command, LineError>
-    ensures ok { IfOk result (AreWordsOf (texts words.now)) }
+    ensures ok { IfOk result (AreCommandWords (texts words.now)) }
     ensures refused { IfErr result (AreRefused (texts words.now)) }
 {
     match words {

@@ -4,9 +4,9 @@ ghost use Rattle.std.specs.Prelude.{◌≡◌, ◌∷◌, [], ◌≤◌, ℕ, If
 ghost use Rattle.repl_types.specs.Name.{is_name};
 ghost use Rattle.repl_types.specs.declared.record.SetId.{SetId};
 ghost use Rattle.script_text.specs.Words.{texts};
-ghost use Rattle.script_text.specs.Commands.{IsSet, IsCount, IsMinutes, IsAmount, IsSeed};
+ghost use Rattle.script_text.specs.Commands.{IsSetName, IsCount, IsMinutes, IsAmount, IsSeed};
 ghost use Rattle.script_text.specs.Commands.{highest_number};
-ghost use Rattle.script_text.specs.Readings.{IsRefusal, IsNumber, IsOption, AreLimits};
+ghost use Rattle.script_text.specs.Readings.{IsRefusal, IsNumberWord, IsOption, AreLimits};
 
 use repl_commands::LineError;
 use repl_types::{Name, SetId, read_number};
@@ -25,7 +25,7 @@ pub(crate) fn read_name(alloc: Global, word: &[u8]) -> Result<Name, LineError>
 
 /// The set with this qualifier and this name.
 pub(crate) fn read_set(alloc: Global, qual: &[u8], name: &[u8]) -> Result<SetId, LineError>
-    ensures ok { IfOk result (λ set. (set.qual ≡ qual.now) × (set.name ≡ name.now) × IsSet set) }
+    ensures ok { IfOk result (λ set. (set.qual ≡ qual.now) × (set.name ≡ name.now) × IsSetName set) }
     ensures refused { IfErr result
         (IsRefusal (IsTrue (is_name qual.now) × IsTrue (is_name name.now))) }
 {
@@ -37,8 +37,8 @@ pub(crate) fn read_set(alloc: Global, qual: &[u8], name: &[u8]) -> Result<SetId,
 
 /// The set whose qualifier and name are all of these words.
 pub(crate) fn read_one_set(alloc: Global, words: &[&[u8]]) -> Result<SetId, LineError>
-    ensures ok { IfOk result (λ set. IsSet set × (texts words.now ≡ set.qual ∷ set.name ∷ [])) }
-    ensures refused { IfErr result (IsRefusal ((set : SetId) × IsSet set
+    ensures ok { IfOk result (λ set. IsSetName set × (texts words.now ≡ set.qual ∷ set.name ∷ [])) }
+    ensures refused { IfErr result (IsRefusal ((set : SetId) × IsSetName set
         × (texts words.now ≡ set.qual ∷ set.name ∷ []))) }
 {
     match words {
@@ -49,9 +49,9 @@ pub(crate) fn read_one_set(alloc: Global, words: &[&[u8]]) -> Result<SetId, Line
 
 /// The number from `low` to `high` that a word spells.
 fn read_between(word: &[u8], low: u64, high: u64) -> Result<u64, LineError>
-    ensures ok { IfOk result (IsNumber (λ n. (low ≤ n) × (n ≤ high)) word.now) }
+    ensures ok { IfOk result (IsNumberWord (λ n. (low ≤ n) × (n ≤ high)) word.now) }
     ensures refused { IfErr result (IsRefusal ((n : ℕ)
-        × IsNumber (λ n. (low ≤ n) × (n ≤ high)) word.now n)) }
+        × IsNumberWord (λ n. (low ≤ n) × (n ≤ high)) word.now n)) }
 {
     match read_number(word, low, high) {
         Some(number) => Ok(number),
@@ -61,41 +61,41 @@ fn read_between(word: &[u8], low: u64, high: u64) -> Result<u64, LineError>
 
 /// The number of 32 bits, `low` or above, that a word spells.
 fn read_u32(word: &[u8], low: u64) -> Result<u32, LineError>
-    ensures ok { IfOk result (IsNumber (λ n. (low ≤ n) × (n ≤ highest_number)) word.now) }
+    ensures ok { IfOk result (IsNumberWord (λ n. (low ≤ n) × (n ≤ highest_number)) word.now) }
     ensures refused { IfErr result (IsRefusal ((n : ℕ)
-        × IsNumber (λ n. (low ≤ n) × (n ≤ highest_number)) word.now n)) }
+        × IsNumberWord (λ n. (low ≤ n) × (n ≤ highest_number)) word.now n)) }
 {
     Ok(read_between(word, low, u64::from(u32::MAX))? as u32)
 }
 
 /// How many units to capture, or after how many to commit.
 fn read_count(word: &[u8]) -> Result<u32, LineError>
-    ensures ok { IfOk result (IsNumber IsCount word.now) }
-    ensures refused { IfErr result (IsRefusal ((n : ℕ) × IsNumber IsCount word.now n)) }
+    ensures ok { IfOk result (IsNumberWord IsCount word.now) }
+    ensures refused { IfErr result (IsRefusal ((n : ℕ) × IsNumberWord IsCount word.now n)) }
 {
     read_u32(word, 1)
 }
 
 /// A number of minutes.
 pub(crate) fn read_minutes(word: &[u8]) -> Result<u32, LineError>
-    ensures ok { IfOk result (IsNumber IsMinutes word.now) }
-    ensures refused { IfErr result (IsRefusal ((n : ℕ) × IsNumber IsMinutes word.now n)) }
+    ensures ok { IfOk result (IsNumberWord IsMinutes word.now) }
+    ensures refused { IfErr result (IsRefusal ((n : ℕ) × IsNumberWord IsMinutes word.now n)) }
 {
     read_u32(word, 0)
 }
 
 /// How many units to make, or how many changes in each.
 pub(crate) fn read_amount(word: &[u8]) -> Result<u32, LineError>
-    ensures ok { IfOk result (IsNumber IsAmount word.now) }
-    ensures refused { IfErr result (IsRefusal ((n : ℕ) × IsNumber IsAmount word.now n)) }
+    ensures ok { IfOk result (IsNumberWord IsAmount word.now) }
+    ensures refused { IfErr result (IsRefusal ((n : ℕ) × IsNumberWord IsAmount word.now n)) }
 {
     read_u32(word, 0)
 }
 
 /// A seed.
 pub(crate) fn read_seed(word: &[u8]) -> Result<u64, LineError>
-    ensures ok { IfOk result (IsNumber IsSeed word.now) }
-    ensures refused { IfErr result (IsRefusal ((n : ℕ) × IsNumber IsSeed word.now n)) }
+    ensures ok { IfOk result (IsNumberWord IsSeed word.now) }
+    ensures refused { IfErr result (IsRefusal ((n : ℕ) × IsNumberWord IsSeed word.now n)) }
 {
     read_between(word, 0, u64::MAX)
 }
