@@ -3,7 +3,7 @@
 use crate::texts_for_tests::{
     CHANGED_ORDERS, ITEMS, LARGE_ORDERS, MEMBER, ORDERS, ORDERS_BY_ITEM, PARTS, PENS_AND_INKS,
     SECOND_MEMBER, SET, STOCK, STOCK_AT_BRANCH, STOCK_AT_DEPOT, break_beside, break_of_edited,
-    find_wrong, join, stock_at,
+    find_wrong, join, join_two, stock_at,
 };
 use repl_types::DefPlace;
 use std::alloc::Global;
@@ -317,7 +317,7 @@ fn a_replica_set_has_only_replicas(rt: HostRuntime) -> Result<(), Fail> {
         ("columns = ['n = count(*)']", 13),
     ];
     for (line, rule) in rows {
-        let longer = join(alloc, &[text.as_str(), line])?;
+        let longer = join_two(alloc, text.as_str(), line)?;
         let answer = break_beside(alloc, "", longer.as_str())?;
         assert_eq!(rt; answer, Some((rule, MEMBER)), "{line}");
     }

@@ -2,7 +2,7 @@
 
 use crate::texts_for_tests::{
     CHANGED_ORDERS, ITEMS, LARGE_ORDERS, NUMBERS, ORDERS, ORDERS_BY_ITEM, PARTS, PENS_AND_INKS,
-    STOCK, STOCK_AT_BRANCH, check_alone, edit, join, stock_at,
+    STOCK, STOCK_AT_BRANCH, check_alone, edit, join_two, stock_at,
 };
 use repl_definitions::{
     Boxed, ColumnFrom, CompareOp, Expr, Member, Operand, Predicate, SetDef, TargetColumn,
@@ -10,6 +10,7 @@ use repl_definitions::{
 };
 use repl_types::{ColumnDef, Kind, Value};
 use spelled_defs::{RegistrationAt, TableAt};
+use std::alloc::Global;
 use std::test::Fail;
 
 /// A table: its server, its name, its columns with their kinds and whether they are nullable, and
@@ -39,6 +40,12 @@ fn is_table(table: &TableAt, wanted: &WantedTable) -> bool {
             .all(|(column, wanted)| is_column(column, *wanted))
         && table.def.key.as_slice() == wanted.key
         && table.def.fixed.as_slice() == wanted.fixed
+}
+
+/// Whether a text spells these tables.
+fn spells_tables(alloc: Global, text: &str, wanted: &[WantedTable]) -> Result<bool, Fail> {
+    let defs = check_alone(alloc, text)?;
+    Ok(are_tables(defs.tables.as_slice(), wanted))
 }
 
 fn are_tables(tables: &[TableAt], wanted: &[WantedTable]) -> bool {
@@ -111,19 +118,13 @@ fn the_tables_of_a_text_are_spelled(rt: HostRuntime) -> Result<(), Fail> {
         "key = ['item', 'id']\nfixed = ['qty', 'item']",
     )?;
     let branch = stock_at(alloc, "branch")?;
-    let rows: [(&[&str], &[WantedTable]); 6] = [
-        (&[ITEMS], &[items]),
-        (&[ORDERS], &[orders]),
-        (&[keys.as_str()], &[other_keys]),
-        (&[PARTS], &[parts]),
-        (&[NUMBERS], &[numbers]),
-        (&[STOCK, branch.as_str()], &[stock, stock_at_branch]),
-    ];
-    for (texts, wanted) in rows {
-        let text = join(alloc, texts)?;
-        let defs = check_alone(alloc, text.as_str())?;
-        assert!(rt; are_tables(defs.tables.as_slice(), wanted), "{text}");
-    }
+    let stocks = join_two(alloc, STOCK, branch.as_str())?;
+    assert!(rt; spells_tables(alloc, ITEMS, &[items])?);
+    assert!(rt; spells_tables(alloc, ORDERS, &[orders])?);
+    assert!(rt; spells_tables(alloc, keys.as_str(), &[other_keys])?);
+    assert!(rt; spells_tables(alloc, PARTS, &[parts])?);
+    assert!(rt; spells_tables(alloc, NUMBERS, &[numbers])?);
+    assert!(rt; spells_tables(alloc, stocks.as_str(), &[stock, stock_at_branch])?);
     Ok(())
 }
 
@@ -145,6 +146,41 @@ fn is_registration(registration: &RegistrationAt, wanted: &WantedRegistration) -
         && def.after.as_slice() == wanted.after
         && def.before.as_slice() == wanted.before
         && (def.del_ins, def.changes_only, def.disable_refresh) == wanted.flags
+}
+
+/// Whether a text spells these registrations.
+fn spells_registrations(
+    alloc: Global,
+    text: &str,
+    wanted: &[WantedRegistration],
+) -> Result<bool, Fail> {
+    let defs = check_alone(alloc, text)?;
+    Ok(are_registrations(defs.registrations.as_slice(), wanted))
+}
+
+/// Whether the registration of the orders, with this last line, has these places and flags.
+fn orders_keep(
+    alloc: Global,
+    line: &str,
+    after: &[u32],
+    before: &[u32],
+    flags: (bool, bool, bool),
+) -> Result<bool, Fail> {
+    let text = edit(alloc, ORDERS, "before = ['qty']", line)?;
+    let defs = check_alone(alloc, text.as_str())?;
+    match defs.registrations.as_slice() {
+        [registration] => Ok(
+            registration.def.after.as_slice() == after
+                && registration.def.before.as_slice() == before
+                && flags_of(registration) == flags,
+        ),
+        _ => Ok(false),
+    }
+}
+
+fn flags_of(registration: &RegistrationAt) -> (bool, bool, bool) {
+    let def = &registration.def;
+    (def.del_ins, def.changes_only, def.disable_refresh)
 }
 
 fn are_registrations(registrations: &[RegistrationAt], wanted: &[WantedRegistration]) -> bool {
@@ -191,53 +227,30 @@ fn the_registrations_of_a_text_are_spelled(rt: HostRuntime) -> Result<(), Fail> 
         ..stock
     };
     let branch = stock_at(alloc, "branch")?;
-    let rows: [(&[&str], &[WantedRegistration]); 4] = [
-        (&[ITEMS], &[items]),
-        (&[PARTS], &[parts]),
-        (&[NUMBERS], &[numbers]),
-        (&[STOCK, branch.as_str()], &[stock, stock_at_branch]),
-    ];
-    for (texts, wanted) in rows {
-        let text = join(alloc, texts)?;
-        let defs = check_alone(alloc, text.as_str())?;
-        assert!(rt;
-            are_registrations(defs.registrations.as_slice(), wanted),
-            "{text}"
-        );
-    }
-    let all: &[u32] = &[0, 1, 2];
-    // what the last line of the registration of the orders may be, and what it spells then
-    let rows: [(&str, &[u32], &[u32], (bool, bool, bool)); 9] = [
-        ("", all, &[], (false, false, false)),
-        ("before = ['qty']", all, &[2], (false, false, false)),
-        (
-            "before = ['qty', 'id']",
-            all,
-            &[0, 2],
-            (false, false, false),
-        ),
-        ("before = []", all, &[], (false, false, false)),
-        ("after = ['qty', 'id']", &[0, 2], &[], (false, false, false)),
-        ("del_ins = true", all, &[], (true, false, false)),
-        ("changes_only = true", all, &[], (false, true, false)),
-        ("disable_refresh = true", all, &[], (false, false, true)),
-        ("del_ins = false", all, &[], (false, false, false)),
-    ];
-    for (line, after, before, flags) in rows {
-        let wanted = WantedRegistration {
-            server: "hq",
-            table: "orders",
-            after,
-            before,
-            flags,
-        };
-        let text = edit(alloc, ORDERS, "before = ['qty']", line)?;
-        let defs = check_alone(alloc, text.as_str())?;
-        assert!(rt;
-            are_registrations(defs.registrations.as_slice(), &[wanted]),
-            "{line}"
-        );
-    }
+    let stocks = join_two(alloc, STOCK, branch.as_str())?;
+    assert!(rt; spells_registrations(alloc, ITEMS, &[items])?);
+    assert!(rt; spells_registrations(alloc, PARTS, &[parts])?);
+    assert!(rt; spells_registrations(alloc, NUMBERS, &[numbers])?);
+    assert!(rt; spells_registrations(alloc, stocks.as_str(), &[stock, stock_at_branch])?);
+    Ok(())
+}
+
+#[test]
+fn images_stand_in_the_order_of_the_table(rt: HostRuntime) -> Result<(), Fail> {
+    let alloc = rt.alloc();
+    let none = (false, false, false);
+    assert!(rt; orders_keep(alloc, "", &[0, 1, 2], &[], none)?);
+    assert!(rt; orders_keep(alloc, "before = ['qty']", &[0, 1, 2], &[2], none)?);
+    assert!(rt; orders_keep(alloc, "before = ['qty', 'id']", &[0, 1, 2], &[0, 2], none)?);
+    assert!(rt; orders_keep(alloc, "before = []", &[0, 1, 2], &[], none)?);
+    assert!(rt; orders_keep(alloc, "after = ['qty', 'id']", &[0, 2], &[], none)?);
+    let del_ins = (true, false, false);
+    assert!(rt; orders_keep(alloc, "del_ins = true", &[0, 1, 2], &[], del_ins)?);
+    let changes_only = (false, true, false);
+    assert!(rt; orders_keep(alloc, "changes_only = true", &[0, 1, 2], &[], changes_only)?);
+    let disabled = (false, false, true);
+    assert!(rt; orders_keep(alloc, "disable_refresh = true", &[0, 1, 2], &[], disabled)?);
+    assert!(rt; orders_keep(alloc, "del_ins = false", &[0, 1, 2], &[], none)?);
     Ok(())
 }
 
@@ -300,8 +313,7 @@ fn is_member(member: &Member, wanted: &WantedMember) -> bool {
         && is_filter(&member.filter, wanted.least)
 }
 
-/// A set: its qualifier, its name, its servers, its limits of units and of minutes, and its
-/// members.
+/// A set: its qualifier, its name, its servers, and its limits of units and of minutes.
 #[derive(Clone, Copy)]
 struct WantedSet<'a> {
     qual: &'a str,
@@ -309,28 +321,35 @@ struct WantedSet<'a> {
     source: &'a str,
     target: &'a str,
     limits: (u32, u32),
-    members: &'a [WantedMember<'a>],
 }
 
 fn is_set(set: &SetDef, wanted: &WantedSet) -> bool {
-    let members = set.members.as_slice();
     set.id.qual.as_str() == wanted.qual
         && set.id.name.as_str() == wanted.name
         && set.source.as_str() == wanted.source
         && set.target.as_str() == wanted.target
         && (set.commit_count, set.max_minutes) == wanted.limits
-        && members.len() == wanted.members.len()
+}
+
+fn are_members(members: &[Member], wanted: &[WantedMember]) -> bool {
+    members.len() == wanted.len()
         && members
             .iter()
-            .zip(wanted.members.iter())
+            .zip(wanted.iter())
             .all(|(member, wanted)| is_member(member, wanted))
 }
 
-/// Whether this set is the only one.
-fn is_only_set(sets: &[SetDef], wanted: &WantedSet) -> bool {
-    match sets {
-        [set] => is_set(set, wanted),
-        _ => false,
+/// Whether a text spells this set with these members, and no other.
+fn spells_set(
+    alloc: Global,
+    text: &str,
+    wanted: &WantedSet,
+    members: &[WantedMember],
+) -> Result<bool, Fail> {
+    let defs = check_alone(alloc, text)?;
+    match defs.sets.as_slice() {
+        [set] => Ok(is_set(set, wanted) && are_members(set.members.as_slice(), members)),
+        _ => Ok(false),
     }
 }
 
@@ -406,61 +425,43 @@ fn the_sets_of_a_text_are_spelled(rt: HostRuntime) -> Result<(), Fail> {
         source: "hq",
         target: "shop",
         limits: (0, 0),
-        members: &[orders_copy],
     };
     let counted = WantedSet {
         name: "c",
         limits: (2, 0),
-        members: &[by_item],
         ..large
     };
-    let changed = WantedSet {
-        name: "d",
-        members: &[hist, latest],
-        ..large
-    };
+    let changed = WantedSet { name: "d", ..large };
     let items = WantedSet {
         qual: "copy",
         name: "copy",
         source: "src",
         target: "dst",
-        members: &[items_copy],
         ..large
     };
-    let parts = WantedSet {
-        name: "p",
-        members: &[parts_pit],
-        ..large
-    };
-    let numbers = WantedSet {
-        name: "g",
-        members: &[numbers_copy],
-        ..large
-    };
+    let parts = WantedSet { name: "p", ..large };
+    let numbers = WantedSet { name: "g", ..large };
     let replica = WantedSet {
         qual: "r",
         name: "b",
         target: "branch",
-        members: &[stock],
         ..large
     };
-    let split = edit(alloc, ORDERS, "before = ['qty']", "del_ins = true")?;
+    let copied = join_two(alloc, ORDERS, LARGE_ORDERS)?;
+    assert!(rt; spells_set(alloc, copied.as_str(), &large, &[orders_copy])?);
+    let split = edit(alloc, copied.as_str(), "before = ['qty']", "del_ins = true")?;
+    assert!(rt; spells_set(alloc, split.as_str(), &large, &[orders_copy])?);
+    let summed = join_two(alloc, ORDERS, ORDERS_BY_ITEM)?;
+    assert!(rt; spells_set(alloc, summed.as_str(), &counted, &[by_item])?);
+    let kept = join_two(alloc, ORDERS, CHANGED_ORDERS)?;
+    assert!(rt; spells_set(alloc, kept.as_str(), &changed, &[hist, latest])?);
+    assert!(rt; spells_set(alloc, ITEMS, &items, &[items_copy])?);
+    assert!(rt; spells_set(alloc, PARTS, &parts, &[parts_pit])?);
+    assert!(rt; spells_set(alloc, NUMBERS, &numbers, &[numbers_copy])?);
     let branch = stock_at(alloc, "branch")?;
-    let rows: [(&[&str], WantedSet); 8] = [
-        (&[ORDERS, LARGE_ORDERS], large),
-        (&[split.as_str(), LARGE_ORDERS], large),
-        (&[ORDERS, ORDERS_BY_ITEM], counted),
-        (&[ORDERS, CHANGED_ORDERS], changed),
-        (&[ITEMS], items),
-        (&[PARTS], parts),
-        (&[NUMBERS], numbers),
-        (&[STOCK, branch.as_str(), STOCK_AT_BRANCH], replica),
-    ];
-    for (texts, wanted) in rows {
-        let text = join(alloc, texts)?;
-        let defs = check_alone(alloc, text.as_str())?;
-        assert!(rt; is_only_set(defs.sets.as_slice(), &wanted), "{text}");
-    }
+    let stocks = join_two(alloc, STOCK, branch.as_str())?;
+    let replicas = join_two(alloc, stocks.as_str(), STOCK_AT_BRANCH)?;
+    assert!(rt; spells_set(alloc, replicas.as_str(), &replica, &[stock])?);
     Ok(())
 }
 

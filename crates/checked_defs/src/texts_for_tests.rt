@@ -263,6 +263,11 @@ pub fn stock_at(alloc: Global, server: &str) -> Result<String, AllocError> {
     STOCK.replace(alloc, "hq", server)
 }
 
+/// Two texts, one after the other.
+pub fn join_two<'a>(alloc: Global, first: &'a str, second: &'a str) -> Result<String, AllocError> {
+    join(alloc, &[first, second])
+}
+
 /// The texts one after the other.
 pub fn join(alloc: Global, texts: &[&str]) -> Result<String, AllocError> {
     let mut joined = String::new(alloc);
