@@ -1,15 +1,13 @@
 -- No two commands have the same words.
-use Rattle.std.proofs.Common.{◌≡◌, ℕ, ◌^◌, ◌<◌, true, false, Bool, ◌&&◌, eqb, eq-eqb, List, [], ◌∷◌, length, get_or, Option, Some, None, refl, sym, ap, ◌∙◌, arith}
+use Rattle.std.proofs.Common.{◌≡◌, ℕ, ◌^◌, ◌<◌, List, [], ◌∷◌, Option, Some, None, refl, sym, ap, ◌∙◌, arith}
 use Rattle.std.specs.Prelude.{codes, decimal, IfSome}
-use Rattle.std.specs.Str.{bytes_eq}
-use Rattle.std.proofs.lemmas.Bool.{and_from, false≢true}
 use Rattle.std.proofs.lemmas.Option.{none-some}
-use Rattle.std.proofs.lemmas.Slice.Eq.{bytes_eq-Decides}
 use Rattle.repl_types.specs.Numbers.{number_of}
 use Rattle.repl_types.specs.laws.Numbers.{number_again}
 use Rattle.repl_types.specs.declared.record.SetId.{SetId}
 use Rattle.repl_commands.specs.declared.command.Command.{Command}
 use Rattle.repl_commands.specs.declared.command.Command.TheVariants.{Load, Feed, Capture, CaptureCold, Prune, PruneNormal, Step, Apply, Refresh, Stop, Generate, Rounds, Audit, StatusServer, StatusSet, ShowSource, ShowCd, ShowUow, ShowLog, ShowTarget, ShowTrail, ShowRejected}
+use Rattle.script_text.proofs.Apart.{apart}
 use Rattle.script_text.specs.Commands.{IsCount, limit_words, command_words, IsCommand}
 
 -- the highest number of 64 bits
@@ -28,19 +26,6 @@ not_normal n small e = none-some n (sym (ap (number_of 0 highest) e) ∙ number_
 -- a set is known by its qualifier and its name
 same_set : (a b : SetId) → a.qual ≡ b.qual → a.name ≡ b.name → a ≡ b
 same_set a b p q = ap (λ (qual : List ℕ). record { qual = qual; name = a.name }) p ∙ ap (λ (name : List ℕ). record { qual = b.qual; name = name }) q
-
--- whether words agree in the first of them, in their number, and in the third
-abbrev alike : List (List ℕ) → List (List ℕ) → Bool
-alike ws vs = bytes_eq (get_or ws 0 []) (get_or vs 0 []) && eqb (length ws) (length vs) && bytes_eq (get_or ws 2 []) (get_or vs 2 [])
-
--- words agree with themselves
-alike_itself : (ws : List (List ℕ)) → alike ws ws ≡ true
-alike_itself ws =
-    and_from _ _ (and_from _ _ ((bytes_eq-Decides (get_or ws 0 []) (get_or ws 0 [])).1 refl) (eq-eqb (length ws) (length ws) refl)) ((bytes_eq-Decides (get_or ws 2 []) (get_or ws 2 [])).1 refl)
-
--- words that don't agree are others
-apart : (ws vs : List (List ℕ)) → alike ws vs ≡ false → ws ≡ vs → ⊥
-apart ws vs e same = false≢true (sym e ∙ ap (alike ws) (sym same) ∙ alike_itself ws)
 
 -- the limits of a capture are known by their words
 same_limits : (u e v f : Option ℕ) → IfSome u IsCount → IfSome e IsCount → IfSome v IsCount → IfSome f IsCount → limit_words u e ≡ limit_words v f → (u ≡ v) × (e ≡ f)

@@ -3,7 +3,7 @@
 ghost use Rattle.std.specs.Prelude.{◌≡◌, ◌∷◌, [], ◌⊎◌, ℕ, IfOk, IfErr, codes};
 ghost use Rattle.script_text.specs.Words.{texts};
 ghost use Rattle.script_text.specs.Commands.{AreCommandWords, IsMinutes};
-ghost use Rattle.script_text.specs.Readings.{AreOfACommand, IsRefusal, IsNumberWord};
+ghost use Rattle.script_text.specs.Readings.{AreOfACommand, IsRefusal};
 ghost use Rattle.script_text.specs.Readings.{ShowsServer, ShowsTable, ShowsSet};
 
 use crate::parts::{
@@ -44,15 +44,17 @@ fn read_capture_at(server: Name, limits: &[&[u8]]) -> Result<Command, LineError>
     ensures refused { IfErr result
         (IsRefusal (AreOfACommand (codes "capture" ∷ server ∷ texts limits.now))) }
 {
-    if let [b"cold"] = limits {
-        return Ok(Command::CaptureCold { server });
+    match limits {
+        [word] if is_word(word, b"cold") => Ok(Command::CaptureCold { server }),
+        _ => {
+            let (units, every) = read_limits(limits)?;
+            Ok(Command::Capture {
+                server,
+                units,
+                every,
+            })
+        }
     }
-    let (units, every) = read_limits(limits)?;
-    Ok(Command::Capture {
-        server,
-        units,
-        every,
-    })
 }
 
 /// `capture S [units U] [every E]`, `capture S cold`
@@ -66,21 +68,6 @@ pub(crate) fn read_capture(alloc: Global, rest: &[&[u8]]) -> Result<Command, Lin
     }
 }
 
-/// `prune S M`, `prune S normal`, of which S is read.
-fn read_prune_at(server: Name, kept: &[u8]) -> Result<Command, LineError>
-    ensures ok { IfOk result (AreCommandWords (codes "prune" ∷ server ∷ kept.now ∷ [])) }
-    ensures refused { IfErr result (IsRefusal
-        ((kept.now ≡ codes "normal") ⊎ ((n : ℕ) × IsNumberWord IsMinutes kept.now n))) }
-{
-    if is_word(kept, b"normal") {
-        return Ok(Command::PruneNormal { server });
-    }
-    Ok(Command::Prune {
-        server,
-        minutes: Some(read_minutes(kept)?),
-    })
-}
-
 /// `prune S`, `prune S M`, `prune S normal`
 pub(crate) fn read_prune(alloc: Global, rest: &[&[u8]]) -> Result<Command, LineError>
     ensures ok { IfOk result (AreCommandWords (codes "prune" ∷ texts rest.now)) }
@@ -91,7 +78,13 @@ pub(crate) fn read_prune(alloc: Global, rest: &[&[u8]]) -> Result<Command, LineE
             server: read_name(alloc, server)?,
             minutes: None,
         }),
-        [server, kept] => read_prune_at(read_name(alloc, server)?, kept),
+        [server, word] if is_word(word, b"normal") => Ok(Command::PruneNormal {
+            server: read_name(alloc, server)?,
+        }),
+        [server, minutes] => Ok(Command::Prune {
+            server: read_name(alloc, server)?,
+            minutes: Some(read_minutes(minutes)?),
+        }),
         _ => Err(LineError::BadLine),
     }
 }
@@ -141,6 +134,7 @@ pub(crate) fn read_stop(alloc: Global, rest: &[&[u8]]) -> Result<Command, LineEr
 }
 
 /// `generate S T SEED UNITS CHANGES`
+#[tactic(auto, using(crate::proofs::Slices::five_words))]
 pub(crate) fn read_generate(alloc: Global, rest: &[&[u8]]) -> Result<Command, LineError>
     ensures ok { IfOk result (AreCommandWords (codes "generate" ∷ texts rest.now)) }
     ensures refused { IfErr result (IsRefusal (AreOfACommand (codes "generate" ∷ texts rest.now))) }
@@ -242,6 +236,7 @@ fn read_show_set(server: Name, shown: &[u8], set: SetId) -> Result<Command, Line
 }
 
 /// `show S` and one of `source T`, `cd T`, `uow`, `log`, `target T`, `trail Q N`, `rejected Q N`
+#[tactic(auto, using(crate::proofs::Slices::four_words))]
 pub(crate) fn read_show(alloc: Global, rest: &[&[u8]]) -> Result<Command, LineError>
     ensures ok { IfOk result (AreCommandWords (codes "show" ∷ texts rest.now)) }
     ensures refused { IfErr result (IsRefusal (AreOfACommand (codes "show" ∷ texts rest.now))) }

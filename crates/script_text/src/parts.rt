@@ -8,6 +8,7 @@ ghost use Rattle.script_text.specs.Commands.{IsSetName, IsCount, IsMinutes, IsAm
 ghost use Rattle.script_text.specs.Commands.{highest_number};
 ghost use Rattle.script_text.specs.Readings.{IsRefusal, IsNumberWord, IsOption, AreLimits};
 
+use crate::words::is_word;
 use repl_commands::LineError;
 use repl_types::{Name, SetId, read_number};
 use std::alloc::Global;
@@ -108,7 +109,7 @@ fn read_every(words: &[&[u8]]) -> Result<Option<u32>, LineError>
 {
     match words {
         [] => Ok(None),
-        [b"every", every] => Ok(Some(read_count(every)?)),
+        [word, every] if is_word(word, b"every") => Ok(Some(read_count(every)?)),
         _ => Err(LineError::BadLine),
     }
 }
@@ -120,7 +121,9 @@ pub(crate) fn read_limits(words: &[&[u8]]) -> Result<(Option<u32>, Option<u32>),
         × AreLimits (texts words.now) units every)) }
 {
     match words {
-        [b"units", units, rest @ ..] => Ok((Some(read_count(units)?), read_every(rest)?)),
+        [word, units, rest @ ..] if is_word(word, b"units") => {
+            Ok((Some(read_count(units)?), read_every(rest)?))
+        }
         _ => Ok((None, read_every(words)?)),
     }
 }

@@ -1,7 +1,7 @@
 //! The words of a line.
 
 ghost use Rattle.std.specs.Prelude.{◌≡◌, IfOk, take};
-ghost use Rattle.std.specs.Str.{bytes_eq};
+ghost use Rattle.std.specs.Bool.{Decides};
 ghost use Rattle.script_text.specs.Words.{line_words, texts};
 
 use std::alloc::{AllocError, Global};
@@ -22,7 +22,7 @@ pub(crate) fn first_words(alloc: Global, line: &[u8]) -> Result<Vec<&[u8]>, Allo
 
 /// Whether a word is this text.
 pub(crate) fn is_word(word: &[u8], text: &[u8]) -> bool
-    ensures { result ≡ bytes_eq word.now text.now }
+    ensures { Decides result (word.now ≡ text.now) }
 {
     word == text
 }
