@@ -151,7 +151,8 @@ fn first_registration(
     rule: Rule,
 ) -> Result<Option<u32>, AllocError>
     ensures { IfOk result (λ number. number
-        ≡ position_from (registration_breaks_lem raw.now context.now rule) 1 raw.now.registrations) }
+        ≡ position_from (registration_breaks_lem raw.now context.now rule) 1
+        raw.now.registrations) }
 {
     'registrations: for (place, registration) in raw.registrations.as_slice().iter().enumerate() {
         if registration_breaks(alloc, raw, context, rule, registration)? {

@@ -50,8 +50,10 @@ use std::alloc::Global;
 /// lowest rule that is broken, and the first item of the text that breaks it. `Memory` may be
 /// answered whenever the machine runs out of memory.
 pub fn check(alloc: Global, raw: &RawDefs, known: &Defs) -> Result<Defs, DefsError>
-    ensures ok { IfOk result (λ defs. defs ≡ defs_of raw.now (context_of_lem raw.now known.now).tables) }
-    ensures kept { IfOk result (λ _. first_broken raw.now (context_of_lem raw.now known.now) all_rules ≡ None) }
+    ensures ok { IfOk result
+        (λ defs. defs ≡ defs_of raw.now (context_of_lem raw.now known.now).tables) }
+    ensures kept { OnOk result
+        (first_broken raw.now (context_of_lem raw.now known.now) all_rules ≡ None) }
     ensures whole { OnOk result (IsTrue (have_kinds raw.now)
         → LeavesNothingOut raw.now (context_of_lem raw.now known.now).tables) }
     ensures broken { (rule : ℕ) (place : Place) → result ≡ Err (DefsError.Broken rule place)

@@ -1,6 +1,7 @@
 //! Rules 9 to 13: members, and the tables that they copy.
 
-ghost use Rattle.std.specs.Prelude.{◌≡◌, ◌++◌, ◌==◌, ◌||◌, option_map, count_by, is_some, false, IfOk};
+ghost use Rattle.std.specs.Prelude.{◌≡◌, ◌++◌, ◌==◌, ◌||◌, option_map, count_by, is_some, false};
+ghost use Rattle.std.specs.Prelude.{IfOk};
 ghost use Rattle.std.specs.List.{list_all, list_any};
 ghost use Rattle.std.specs.Option.{option_map_or};
 ghost use Rattle.repl_model.specs.Rules.{are_among as are_among_lem, filter_columns, columns_from};
@@ -8,7 +9,8 @@ ghost use Rattle.repl_model.specs.Rules.{just_column as just_column_lem};
 ghost use Rattle.repl_types.specs.declared.change_row.Registration.{Registration as Captured};
 ghost use Rattle.repl_model.specs.Rules.{is_copy as is_copy_lem, is_condensed as is_condensed_lem};
 ghost use Rattle.repl_model.specs.Rules.{is_aggregate as is_aggregate_lem, sums_up as sums_up_lem};
-ghost use Rattle.repl_model.specs.Rules.{sums_texts as sums_texts_lem, keys_stand as keys_stand_lem};
+ghost use Rattle.repl_model.specs.Rules.{sums_texts as sums_texts_lem};
+ghost use Rattle.repl_model.specs.Rules.{keys_stand as keys_stand_lem};
 ghost use Rattle.repl_model.specs.Rules.{copy_may_move as copy_may_move_lem};
 ghost use Rattle.repl_model.specs.Rules.{condensed_may_move as condensed_may_move_lem};
 ghost use Rattle.repl_model.specs.Rules.{sums_fit as sums_fit_lem};

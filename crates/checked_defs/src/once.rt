@@ -3,7 +3,8 @@
 ghost use Rattle.std.specs.Prelude.{◌≡◌, ◌&&◌, not, IfOk};
 ghost use Rattle.std.specs.List.{filter_map, list_any};
 ghost use Rattle.std.specs.Str.{bytes_eq};
-ghost use Rattle.repl_defs.specs.Entries.{column_name as column_name_lem, target_name as target_name_lem};
+ghost use Rattle.repl_defs.specs.Entries.{column_name as column_name_lem};
+ghost use Rattle.repl_defs.specs.Entries.{target_name as target_name_lem};
 ghost use Rattle.spelled_defs.specs.Spelled.{is_table as is_table_lem};
 ghost use Rattle.checked_defs.specs.Rules.{texts_differ as texts_differ_lem};
 ghost use Rattle.checked_defs.specs.Rules.{names_table as names_table_lem};

@@ -6,7 +6,8 @@ ghost use Rattle.std.specs.Option.{option_map_or};
 ghost use Rattle.repl_model.specs.Rules.{is_among as is_among_lem};
 ghost use Rattle.spelled_defs.specs.Spelled.{column_place as column_place_lem};
 ghost use Rattle.checked_defs.specs.Rules.{table_of_registration as table_of_registration_lem};
-ghost use Rattle.checked_defs.specs.Rules.{has_table as has_table_lem, after_fits as after_fits_lem};
+ghost use Rattle.checked_defs.specs.Rules.{has_table as has_table_lem};
+ghost use Rattle.checked_defs.specs.Rules.{after_fits as after_fits_lem};
 ghost use Rattle.checked_defs.specs.Rules.{has_after_images as has_after_images_lem};
 ghost use Rattle.checked_defs.specs.Rules.{has_before_images as has_before_images_lem};
 
@@ -83,7 +84,8 @@ pub fn has_after_images(
 /// Whether each name is that of a column at one of the places.
 fn are_placed(def: &TableDef, places: &[u32], names: &[Bytes]) -> Result<bool, AllocError>
     ensures { IfOk result (λ placed. placed
-        ≡ list_all (λ name. option_map_or (is_among_lem places.now) (column_place_lem def.now.columns name) false) names.now) }
+        ≡ list_all (λ name. option_map_or (is_among_lem places.now)
+        (column_place_lem def.now.columns name) false) names.now) }
 {
     'names: for name in names {
         match column_place(def.columns.as_slice(), name.as_slice()) {

@@ -7,8 +7,10 @@ ghost use Rattle.repl_model.specs.Rules.{all_places as all_places_lem, are_among
 ghost use Rattle.checked_defs.specs.Rules.{replicas_stand_alone as replicas_stand_alone_lem};
 ghost use Rattle.checked_defs.specs.Rules.{same_column as same_column_lem, as_source_table};
 ghost use Rattle.checked_defs.specs.Rules.{keeps_all_images as keeps_all_images_lem};
-ghost use Rattle.checked_defs.specs.Rules.{same_tables as same_tables_lem, has_twin as has_twin_lem};
-ghost use Rattle.checked_defs.specs.Rules.{copies_from as copies_from_lem, copies_to as copies_to_lem};
+ghost use Rattle.checked_defs.specs.Rules.{same_tables as same_tables_lem};
+ghost use Rattle.checked_defs.specs.Rules.{has_twin as has_twin_lem};
+ghost use Rattle.checked_defs.specs.Rules.{copies_from as copies_from_lem};
+ghost use Rattle.checked_defs.specs.Rules.{copies_to as copies_to_lem};
 ghost use Rattle.spelled_defs.specs.Context.{is_replica_item as is_replica_item_lem};
 ghost use Rattle.checked_defs.specs.Rules.{makes_chain as makes_chain_lem};
 ghost use Rattle.checked_defs.specs.Rules.{is_replica_apart as is_replica_apart_lem};
@@ -85,7 +87,8 @@ fn has_all_places(alloc: Global, places: &[u32], def: &TableDef) -> Result<bool,
 /// Whether all columns are captured as they were before and after a change, each change by one
 /// change row.
 fn keeps_all_images(alloc: Global, def: &TableDef, reg: &Registration) -> Result<bool, AllocError>
-    ensures { IfOk result (λ keeps. keeps ≡ keeps_all_images_lem (as_source_table def.now reg.now)) }
+    ensures { IfOk result
+        (λ keeps. keeps ≡ keeps_all_images_lem (as_source_table def.now reg.now)) }
 {
     Ok(
         has_all_places(alloc, reg.after.as_slice(), def)?

@@ -4,7 +4,8 @@ ghost use Rattle.std.specs.Prelude.{◌≡◌, find, option_map, IfOk};
 ghost use Rattle.std.specs.List.{list_all};
 ghost use Rattle.std.specs.Str.{bytes_eq};
 ghost use Rattle.checked_defs.specs.Rules.{is_column_entry as is_column_entry_lem};
-ghost use Rattle.checked_defs.specs.Rules.{has_column_entries as has_column_entries_lem, has_key_columns as has_key_columns_lem};
+ghost use Rattle.checked_defs.specs.Rules.{has_column_entries as has_column_entries_lem};
+ghost use Rattle.checked_defs.specs.Rules.{has_key_columns as has_key_columns_lem};
 ghost use Rattle.checked_defs.specs.Rules.{is_key_column as is_key_column_lem};
 
 use repl_commands::RawTable;

@@ -26,7 +26,8 @@ pub(crate) fn read_name(alloc: Global, word: &[u8]) -> Result<Name, LineError>
 
 /// The set with this qualifier and this name.
 pub(crate) fn read_set(alloc: Global, qual: &[u8], name: &[u8]) -> Result<SetId, LineError>
-    ensures ok { IfOk result (λ set. (set.qual ≡ qual.now) × (set.name ≡ name.now) × IsSetName set) }
+    ensures ok { IfOk result
+        (λ set. (set.qual ≡ qual.now) × (set.name ≡ name.now) × IsSetName set) }
     ensures refused { IfErr result
         (IsRefusal (IsTrue (is_name qual.now) × IsTrue (is_name name.now))) }
 {

@@ -4,9 +4,11 @@ ghost use Rattle.std.specs.Prelude.{◌≡◌, find, option_map, IfOk};
 ghost use Rattle.std.specs.List.{list_any};
 ghost use Rattle.spelled_defs.specs.Spelled.{is_table as is_table_lem};
 ghost use Rattle.spelled_defs.specs.Spelled.{is_registration as is_registration_lem};
-ghost use Rattle.spelled_defs.specs.Context.{is_other_table as is_other_table_lem, context_of as context_of_lem};
+ghost use Rattle.spelled_defs.specs.Context.{is_other_table as is_other_table_lem};
+ghost use Rattle.spelled_defs.specs.Context.{context_of as context_of_lem};
 ghost use Rattle.spelled_defs.specs.Context.{is_other_registration as is_other_registration_lem};
-ghost use Rattle.spelled_defs.specs.Context.{all_tables as all_tables_lem, all_registrations as all_registrations_lem};
+ghost use Rattle.spelled_defs.specs.Context.{all_tables as all_tables_lem};
+ghost use Rattle.spelled_defs.specs.Context.{all_registrations as all_registrations_lem};
 
 use crate::context::Context;
 use crate::defs::{Defs, RegistrationAt, TableAt};

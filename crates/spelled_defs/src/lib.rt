@@ -3,8 +3,8 @@
 //! Below it are `repl_commands`, whose `RawDefs` it takes, `repl_defs`, which splits entries and
 //! reads the texts of columns and predicates, `repl_definitions`, which has sets and members, and
 //! `repl_model`, which names places among places. Above it `checked_defs` asks whether a text keeps
-//! the rules. `specs/Spelled.antt` says which definitions items spell, and `specs/Context.antt` what
-//! stands beside a text. An item or an entry that spells nothing is left out.
+//! the rules. `specs/Spelled.antt` says which definitions items spell, and `specs/Context.antt`
+//! what stands beside a text. An item or an entry that spells nothing is left out.
 //!
 //! For example, `key = ["qty", "id"]` over the columns `id` and `qty` are the places 1 and 0.
 #![tactic(auto)]

@@ -7,7 +7,8 @@ ghost use Rattle.spelled_defs.specs.Context.{is_replica_item as is_replica_item_
 ghost use Rattle.spelled_defs.specs.Context.{link_of_item as link_of_item_lem};
 ghost use Rattle.spelled_defs.specs.Context.{link_of_member as link_of_member_lem};
 ghost use Rattle.spelled_defs.specs.Context.{links_of_item, links_of_set, all_links};
-ghost use Rattle.spelled_defs.specs.Context.{names_set as names_set_lem, is_other_set as is_other_set_lem};
+ghost use Rattle.spelled_defs.specs.Context.{names_set as names_set_lem};
+ghost use Rattle.spelled_defs.specs.Context.{is_other_set as is_other_set_lem};
 
 use crate::context::Link;
 use crate::defs::Defs;

@@ -4,13 +4,16 @@ ghost use Rattle.std.specs.Prelude.{◌≡◌, [], find, option_map, option_and_
 ghost use Rattle.std.specs.List.{filter_map};
 ghost use Rattle.repl_defs.specs.Trees.{predicate_tree};
 ghost use Rattle.repl_types.specs.Name.{name_of};
-ghost use Rattle.spelled_defs.specs.Spelled.{spelled_column as spelled_column_lem, spelled_table as spelled_table_lem};
-ghost use Rattle.spelled_defs.specs.Spelled.{is_table as is_table_lem, columns_at as columns_at_lem};
+ghost use Rattle.spelled_defs.specs.Spelled.{spelled_column as spelled_column_lem};
+ghost use Rattle.spelled_defs.specs.Spelled.{spelled_table as spelled_table_lem};
+ghost use Rattle.spelled_defs.specs.Spelled.{is_table as is_table_lem};
+ghost use Rattle.spelled_defs.specs.Spelled.{columns_at as columns_at_lem};
 ghost use Rattle.spelled_defs.specs.Spelled.{spelled_registration as spelled_registration_lem};
 ghost use Rattle.spelled_defs.specs.Spelled.{registration_def as registration_def_lem};
 ghost use Rattle.spelled_defs.specs.Spelled.{target_kind as target_kind_lem};
 ghost use Rattle.spelled_defs.specs.Spelled.{target_column as target_column_lem};
-ghost use Rattle.spelled_defs.specs.Spelled.{spelled_member as spelled_member_lem, spelled_member_at as spelled_member_at_lem};
+ghost use Rattle.spelled_defs.specs.Spelled.{spelled_member as spelled_member_lem};
+ghost use Rattle.spelled_defs.specs.Spelled.{spelled_member_at as spelled_member_at_lem};
 ghost use Rattle.spelled_defs.specs.Spelled.{spelled_set as spelled_set_lem};
 ghost use Rattle.spelled_defs.specs.Context.{defs_of};
 
@@ -302,7 +305,8 @@ pub fn spelled_member_at(
     source: &[u8],
     member: &RawMember,
 ) -> Result<Option<Member>, AllocError>
-    ensures { IfOk result (λ spelled. spelled ≡ spelled_member_at_lem tables.now source.now member.now) }
+    ensures { IfOk result
+        (λ spelled. spelled ≡ spelled_member_at_lem tables.now source.now member.now) }
 {
     let none = List::new(alloc);
     let columns = columns_at(tables, source, member.source.as_slice(), &none);
@@ -317,7 +321,8 @@ fn spelled_members(
     members: &[RawMember],
 ) -> Result<List<Member>, AllocError>
     ensures { IfOk result
-        (λ spelled. spelled ≡ filter_map (spelled_member_at_lem tables.now source.now) members.now) }
+        (λ spelled. spelled
+        ≡ filter_map (spelled_member_at_lem tables.now source.now) members.now) }
 {
     let mut spelled = List::new(alloc);
     'members: for member in members {
