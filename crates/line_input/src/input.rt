@@ -121,7 +121,7 @@ impl Input {
             (left_of self.new (I.left source.new) ≡ left_of self.old (I.left source.old)) }
         ensures total { OnOk result
             (total_of self.new (I.left source.new) ≡ total_of self.old (I.left source.old)) }
-        ensures budget { OnOk result (budget self.new ≡ budget self.old) }
+        ensures budget { budget self.new ≡ budget self.old }
         ensures more { result ≡ Ok true →
             (self.new.at < self.new.end) × (has_ended self.new ≡ false) }
         ensures end { result ≡ Ok false →
@@ -166,6 +166,7 @@ impl Input {
             (total_of self.new (I.left source.new) ≡ total_of self.old (I.left source.old)) }
         ensures budget { IfOk result (λ byte.
             budget self.new + length (option_to_list byte) ≤ budget self.old) }
+        ensures within { budget self.new ≤ budget self.old }
         ensures ends { IfOk result (λ byte. has_ended self.new ≡ is_none byte) }
         ensures same_source { NothingAfterEnd self.new (I.left source.new) }
         ensures cause { InputHasCause result (total_of self.old (I.left source.old))
@@ -192,6 +193,7 @@ impl Input {
         ensures short { result ≡ Ok Next.Line → length line.new.items ≤ line_limit }
         ensures spends { IfOk result (λ next.
             Spends next self.old (I.left source.old) self.new (I.left source.new)) }
+        ensures within { budget self.new ≤ budget self.old }
         ensures ended { has_ended self.old ≡ true →
             (result ≡ Ok Next.End) × (line.new.items ≡ [])
             × (self.new ≡ self.old) × (source.new ≡ source.old) }
