@@ -1,11 +1,11 @@
 -- Laws of runs one after another: proofs, and nothing to believe.
 use Rattle.std.proofs.Common.{◌≡◌, ℕ, List, [], ◌∷◌, ◌++◌, refl, sym, ap, subst, ◌∙◌, append_assoc}
-use Rattle.std.specs.Prelude.{Option}
+use Rattle.std.specs.Prelude.{Option, ◌||◌}
 use Rattle.std.proofs.lemmas.List.{append-nil}
 use Rattle.keep_core.specs.Contents.{Contents}
 use Rattle.keep_core.specs.Revealed.{Takes, TakesPrefix}
 use Rattle.keep_core.specs.laws.Revealed.{takes_nothing, takes_both}
-use Rattle.run_core.specs.Runs.{Event, commits, writes, last_world, lines_of, IsPartOf, Went, Stopped, Going}
+use Rattle.run_core.specs.Runs.{Event, commits, writes, refuses, last_world, lines_of, is_refused, IsPartOf, Went, Stopped, Going}
 
 -- ---- lists of events
 
@@ -14,26 +14,38 @@ pub lines_append : {W : Type 0} (xs ys : List (Event W)) → lines_of (xs ++ ys)
 lines_append [] ys = refl
 lines_append (commits w ∷ xs) ys = lines_append xs ys
 lines_append (writes l ∷ xs) ys = ap (λ (x : List ℕ). l ++ x) (lines_append xs ys) ∙ sym (append_assoc l (lines_of xs) (lines_of ys))
+lines_append (refuses l ∷ xs) ys = ap (λ (x : List ℕ). l ++ x) (lines_append xs ys) ∙ sym (append_assoc l (lines_of xs) (lines_of ys))
 
 -- the last world of two lists of events in turn
 pub last_append : {W : Type 0} (w : W) (xs ys : List (Event W)) → last_world w (xs ++ ys) ≡ last_world (last_world w xs) ys
 last_append w [] ys = refl
 last_append w (commits v ∷ xs) ys = last_append v xs ys
 last_append w (writes l ∷ xs) ys = last_append w xs ys
+last_append w (refuses l ∷ xs) ys = last_append w xs ys
+
+-- whether something was refused in one of two lists of events
+pub refused_append : {W : Type 0} (xs ys : List (Event W)) → is_refused (xs ++ ys) ≡ (is_refused xs || is_refused ys)
+refused_append [] ys = refl
+refused_append (commits w ∷ xs) ys = refused_append xs ys
+refused_append (writes l ∷ xs) ys = refused_append xs ys
+refused_append (refuses l ∷ xs) ys = refl
 
 -- a part of the next line is still one if more events follow
 part_of_more : {W : Type 0} (part : List ℕ) (rest more : List (Event W)) → IsPartOf part rest → IsPartOf part (rest ++ more)
 part_of_more part [] [] is = is
 part_of_more part [] (commits w ∷ more) is = is
 part_of_more part [] (writes l ∷ more) is = (l, sym (ap (λ (p : List ℕ). p ++ l) is))
+part_of_more part [] (refuses l ∷ more) is = (l, sym (ap (λ (p : List ℕ). p ++ l) is))
 part_of_more part (commits w ∷ rest) more is = is
 part_of_more part (writes l ∷ rest) more is = is
+part_of_more part (refuses l ∷ rest) more is = is
 
 -- no bytes are a part of what comes next, whatever it is
 no_part : {W : Type 0} (events : List (Event W)) → IsPartOf [] events
 no_part [] = refl
 no_part (commits w ∷ events) = refl
 no_part (writes line ∷ events) = (line, refl)
+no_part (refuses line ∷ events) = (line, refl)
 
 module _ {W : Type 0} (Stands : List (Option Contents) → W → Type 0) where
   -- ---- one event
@@ -67,6 +79,18 @@ module _ {W : Type 0} (Stands : List (Option Contents) → W → Type 0) where
   stopped_in_line w line events h t u at took = record {
     done = [];
     rest = writes line ∷ events;
+    part = took.prefix;
+    split = refl;
+    stands = at;
+    bytes = took.taken;
+    is_part = (took.rest, took.parts);
+  }
+
+  -- a run stopped in the line of a refusal, of which a prefix was taken
+  pub stopped_in_refusal : (w : W) (line : List ℕ) (events : List (Event W)) (h : List (Option Contents)) (t u : Option (List ℕ)) → Stands h w → TakesPrefix t u line → Stopped Stands (refuses line ∷ events) w h t u
+  stopped_in_refusal w line events h t u at took = record {
+    done = [];
+    rest = refuses line ∷ events;
     part = took.prefix;
     split = refl;
     stands = at;

@@ -1,0 +1,16 @@
+use Rattle.std.proofs.Common.{◌≡◌, ◌≤◌}
+use Rattle.line_input.specs.Input.{budget}
+use Rattle.script_lines.specs.Script.{lines_left, total_left, pending, HasOneSource}
+use Rattle.script_lines.proofs.script.Script.peek.Given as goal
+
+abbrev pub invariant-loop-self : goal.invariant-loop-self
+invariant-loop-self g l = record {
+  lines : lines_left l.self (g.I.Source.left l.source) ≡ lines_left l.fn.self (g.I.Source.left l.fn.source);
+  total : total_left l.self (g.I.Source.left l.source) ≡ total_left l.fn.self (g.I.Source.left l.fn.source);
+  pending : pending l.self ≤ pending l.fn.self;
+  one_source : HasOneSource l.self (g.I.Source.left l.source);
+  counts : g.I.Source.faults l.fn.source ≤ g.I.Source.faults l.source;
+}
+
+abbrev pub decreases-loop-self : goal.decreases-loop-self
+decreases-loop-self g l = budget l.self.input
