@@ -5,6 +5,7 @@ ghost use Rattle.std.specs.Str.{IsUtf8};
 ghost use Rattle.repl_commands.specs.declared.command.Command.{Command};
 ghost use Rattle.script_text.specs.Words.{line_words, texts};
 ghost use Rattle.script_text.specs.Commands.{AreCommandWords, IsLineOf, names_a_command};
+ghost use Rattle.script_text.specs.Asked.{asked_by, asks, unknown, bad};
 ghost use Rattle.script_text.specs.Readings.{AreRefused};
 
 use crate::commands::{
@@ -72,14 +73,19 @@ fn read_bytes(alloc: Global, line: &[u8]) -> Result<Command, LineError>
     read_words(alloc, words.as_slice())
 }
 
-/// The command of a script's line. `UnknownCommand` is returned only if the line is UTF-8 and its
-/// first word is that of no command, or if it is UTF-8 and has no word. `BadLine` is returned only
-/// if the line isn't UTF-8, or if its first word is that of a command and the other words aren't.
+/// The command that a script's line asks for. `UnknownCommand` is returned only if the line is
+/// UTF-8 and its first word is that of no command, or if it is UTF-8 and has no word. `BadLine` is
+/// returned only if the line isn't UTF-8, or if its first word is that of a command and the other
+/// words aren't.
+#[tactic(auto, using(crate::proofs::Answered::answers))]
 pub fn read_line(alloc: Global, line: &[u8]) -> Result<Command, LineError>
     ensures ok { IfOk result (IsLineOf line.now) }
-    ensures unknown { result ≡ Err LineError.UnknownCommand
+    ensures asked { IfOk result (λ command. asked_by line.now ≡ asks command) }
+    ensures unknown { result ≡ Err LineError.UnknownCommand → asked_by line.now ≡ unknown }
+    ensures unknown_word { result ≡ Err LineError.UnknownCommand
         → IsUtf8 line.now × (names_a_command line.now ≡ false) }
-    ensures bad { result ≡ Err LineError.BadLine
+    ensures bad { result ≡ Err LineError.BadLine → asked_by line.now ≡ bad }
+    ensures no_command { result ≡ Err LineError.BadLine
         → (IsUtf8 line.now → names_a_command line.now ≡ true)
         × ((command : Command) → ¬ (IsLineOf line.now command)) }
 {

@@ -342,3 +342,32 @@ fn lines_that_are_not_utf8_are_bad(rt: HostRuntime) {
     assert!(rt; is_refused(alloc, b"feed \xff", LineError::BadLine));
     assert!(rt; is_refused(alloc, b"load \x80", LineError::BadLine));
 }
+
+#[test]
+fn load_and_feed_take_a_body(rt: HostRuntime) {
+    for line in [
+        "load",
+        "feed hq",
+        " load ",
+        "load x",
+        "feed",
+        "  feed   Hq 1",
+    ] {
+        assert!(rt; takes_body(line.as_bytes()), "{line}");
+    }
+    for line in [
+        "",
+        "  ",
+        "loads",
+        "LOAD",
+        "feed\thq",
+        "hq load",
+        "'load'",
+        "capture hq",
+        "é load",
+    ] {
+        assert!(rt; !takes_body(line.as_bytes()), "{line}");
+    }
+    assert!(rt; !takes_body(b"load \x80"));
+    assert!(rt; !takes_body(b"\xff load"));
+}
