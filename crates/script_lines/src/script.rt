@@ -128,7 +128,7 @@ impl Script {
         }
     }
 
-    /// Takes the next line, of which `peek` told.
+    /// Takes the next line, of which `peek` told. Its number and its text stay to be asked.
     pub fn take(&mut self)
         requires { IsSome (next_kind self.old) }
         ensures lines { (later : Option (List ℕ)) → lines_left self.old later
@@ -136,6 +136,8 @@ impl Script {
         ensures total { (later : Option (List ℕ)) →
             total_left self.new later ≡ total_left self.old later }
         ensures pending { pending self.new < pending self.old }
+        ensures number { line_number self.new ≡ line_number self.old }
+        ensures text { line_text self.new ≡ line_text self.old }
         ensures same_source { (later : Option (List ℕ)) → HasOneSource self.old later
             → HasOneSource self.new later }
     {

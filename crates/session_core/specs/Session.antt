@@ -1,22 +1,51 @@
--- What the contract of `session` says of words and of statuses.
-use Rattle.std.specs.Prelude.{Bool, true, false, codes, ℕ, List, [], ◌∷◌, Option, Some, None}
-use Rattle.std.specs.Str.{bytes_eq}
+-- What the contract of `session` says of words, of statuses and of servers.
+use Rattle.std.specs.Prelude.{◌≡◌, ℕ, ◌<◌, Bool, true, false, codes, List, [], ◌∷◌, length, map, Option}
+use Rattle.std.specs.Option.{IfSome}
 use Rattle.repl_types.specs.declared.status.Status.{Status}
 use Rattle.repl_types.specs.declared.status.Status.TheVariants as statuses
-use Rattle.copy_lists.specs.declared.refused.Refused.{Refused}
+use Rattle.keep_core.specs.Contents.{Contents}
+use Rattle.keep_core.specs.Revealed.{Rises}
+use Rattle.line_input.specs.Limits.{input_limit}
+use Rattle.run_words.specs.declared.opening.Opening.{Opening}
+use Rattle.run_words.specs.declared.opening.Opening.TheVariants.{Copy, Servers}
+use Rattle.run_words.specs.Openings.{AreWordsOf}
+use Rattle.repl_model.specs.World.{World}
+use Rattle.world_store.specs.Stands.{Stands}
+use Rattle.run_core.specs.Runs.{Event, Went, is_refused}
+use Rattle.session_core.specs.Copying.{copy_events}
+use Rattle.session_core.specs.EarlyStatus.{status_of_done}
+use Rattle.session_core.specs.Talk.{script_events}
 
--- the words of the command line are the one word `copy`
-abbrev pub is_copy : List (List ℕ) → Bool
-is_copy [] = false
-is_copy (word ∷ []) = bytes_eq word (codes "copy")
-is_copy (word ∷ other ∷ more) = false
+-- ---- what the words ask for
 
--- the status of a run that read its input to the end, by whether a line was refused
-abbrev pub status_of : Option Refused → Status
-status_of None = statuses.Ok
-status_of (Some r) = statuses.Refused
+-- the names of the servers that a run needs, in order: `copy` needs a source and a target
+abbrev pub server_names : Opening → List (List ℕ)
+server_names Copy = codes "src" ∷ codes "dst" ∷ []
+server_names (Servers servers) = map (λ server. server.name) servers
 
--- the status of a run that read its input to the end and wrote its whole text
+-- the words ask for this run, and the servers are those that it needs
+pub record Asks (given names : List (List ℕ)) (opening : Opening) : Type 0 where
+  pub words : AreWordsOf given opening
+  pub servers : server_names opening ≡ names
+
+-- what the run does with an input, from a world on
+abbrev pub run_events : Opening → List ℕ → World → List (Event World)
+run_events Copy input w = copy_events input
+run_events (Servers servers) input w = script_events input w
+
+-- what the servers hold, named in this order, stands for a world; `copy` needs no world, and leaves them as
+-- they were before
+abbrev pub StandsFor : Opening → List (List ℕ) → List (Option Contents) → List (Option Contents) → World → Type 0
+StandsFor Copy names before held w = held ≡ before
+StandsFor (Servers servers) names before held w = Stands names held w
+
+-- ---- how a run ends
+
+-- the status of a run that came to its end
+abbrev pub status_of : List (Event World) → Status
+status_of events = status_of_done (is_refused events)
+
+-- the status is that of a run that came to its end
 abbrev pub is_done : Status → Bool
 is_done statuses.Ok = true
 is_done statuses.Refused = true
@@ -28,14 +57,20 @@ is_done statuses.Memory = false
 is_done statuses.InputTooLong = false
 is_done (statuses.Damaged server area cause) = false
 
--- the status is a fault of a server, or damage at one
-abbrev pub is_of_server : Status → Bool
-is_of_server statuses.Ok = false
-is_of_server statuses.Refused = false
-is_of_server statuses.Usage = false
-is_of_server (statuses.KeeperFault server) = true
-is_of_server statuses.InputFault = false
-is_of_server statuses.OutputFault = false
-is_of_server statuses.Memory = false
-is_of_server statuses.InputTooLong = false
-is_of_server (statuses.Damaged server area cause) = true
+-- The whole run happened, and the status says whether something was refused.
+pub record Ran (Means : List (Option Contents) → World → Type 0) (events : List (Event World)) (w : World) (held : List (Option Contents)) (before now : Option (List ℕ)) (answer : Status) : Type 0 where
+  pub went : Went Means events w held before now
+  pub status : answer ≡ status_of events
+
+-- What a status says of its cause: of a failed input or output, its count of faults has risen; an input that is
+-- too long has more bytes than it may have, if it reveals them. No server is blamed.
+abbrev pub HasCause : Status → Option (List ℕ) → ℕ → ℕ → ℕ → ℕ → Type 0
+HasCause statuses.Ok input in_before in_now out_before out_now = Unit {0}
+HasCause statuses.Refused input in_before in_now out_before out_now = Unit {0}
+HasCause statuses.Usage input in_before in_now out_before out_now = Unit {0}
+HasCause (statuses.KeeperFault server) input in_before in_now out_before out_now = ⊥
+HasCause statuses.InputFault input in_before in_now out_before out_now = Rises in_before in_now
+HasCause statuses.OutputFault input in_before in_now out_before out_now = Rises out_before out_now
+HasCause statuses.Memory input in_before in_now out_before out_now = Unit {0}
+HasCause statuses.InputTooLong input in_before in_now out_before out_now = IfSome input (λ bytes. input_limit < length bytes)
+HasCause (statuses.Damaged server area cause) input in_before in_now out_before out_now = ⊥

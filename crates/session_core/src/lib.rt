@@ -1,85 +1,103 @@
-//! The run of the program: it takes the words of the command line, the input and the output, and
-//! answers the status of the run.
+//! The run of the program: it takes the words of the command line, the servers, the input and the
+//! output, and answers the status of the run.
 //!
-//! Below it are `copy_lists`, which reads the input and writes the copy, `line_input`, whose limit
-//! the contract cites, and `keep_core`, whose `Source` and `Sink` the run reads and writes. Above
-//! it, `sqlrep` calls `session` with the standard streams. The contract of `session` is what the
-//! program promises; `docs/MODEL.md` says its definitions in words.
+//! Below it are `run_words`, which reads the words, `script_lines`, `script_text` and `reply_text`,
+//! which read the lines of a script and write its replies, `site_store`, which has the servers,
+//! `world_store` and `run_core`, whose definitions say what a run does to them, and `copy_lists`,
+//! which carries out `copy`. Above it, `sqlrep` calls `session` with the standard streams. The
+//! contract of `session` is what the program promises; `docs/MODEL.md` says its definitions in
+//! words.
 //!
 //! For example, at the word `copy` the input lines `insert 1 items 7 'pen'` and `commit 1 ann 100`
-//! give the output lines `row 7 'pen'` and `ok rows 1`, and the status `Ok`. At the words `copy`
-//! and `x` the status is `Usage`, and nothing is read or written.
+//! give the output lines `row 7 'pen'` and `ok rows 1`, and the status `Ok`. At the word `hq=:map:`
+//! the input line `frob` gives the output line `refused 1 UnknownCommand line 1`, and the status
+//! `Refused`. At the words `copy` and `x` the status is `Usage`, and nothing is read or written.
 #![tactic(auto)]
 
-ghost use Rattle.std.specs.Prelude.{◌≡◌, ◌≤◌, ◌<◌, ◌↔◌, [], length, map, string_bytes, IsTrue};
+ghost use Rattle.std.specs.Prelude.{◌≡◌, ◌≢◌, ◌≤◌, [], length, map, string_bytes, IsTrue};
 ghost use Rattle.std.specs.Prelude.{IfSome, Some, false};
-ghost use Rattle.keep_core.specs.Revealed.{Rises, Takes, TakesPrefix};
-ghost use Rattle.copy_lists.specs.Feed.{feed_of};
 ghost use Rattle.line_input.specs.Limits.{input_limit};
-ghost use Rattle.copy_lists.specs.Replies.{text_of};
-ghost use Rattle.session_core.specs.Session.{is_copy, status_of, is_done, is_of_server};
+ghost use Rattle.repl_model.specs.World.{World};
+ghost use Rattle.run_core.specs.Runs.{Stopped};
+ghost use Rattle.run_words.specs.declared.opening.Opening.{Opening};
+ghost use Rattle.site_store.specs.Servers.{AllClosed};
+ghost use Rattle.site_store.specs.Views.{names, held, work};
+ghost use Rattle.session_core.specs.Session.{Asks, run_events, StandsFor, is_done, Ran, HasCause};
 
+mod copying;
+mod opening;
+mod replies;
+mod script;
 mod status;
+mod words;
 
+use crate::opening::run_opening;
 use crate::status::{done_status, early_status};
-use copy_lists::run_copy;
-use keep_core::{Sink, Source};
+use crate::words::asked_opening;
+use keep_core::{Keeper, Sink, Source};
+use repl_commands::WordsError;
 use repl_types::Status;
+use run_words::one_opening_of_words;
+use site_store::Sites;
 use std::alloc::Global;
 
-/// Whether the words of the command line are the one word `copy`.
-fn asks_copy(words: &[String]) -> bool
-    ensures { result ≡ is_copy (map string_bytes words.now) }
-{
-    match words {
-        [word] => word.as_str() == "copy",
-        _ => false,
-    }
-}
-
-/// Does what the words of the command line ask for. They can ask only for `copy`, by that one word.
+/// Does what the words of the command line ask for, at these servers: `copy`, or the script that it
+/// reads.
 ///
 /// `copy` reads log records, one on each line, up to the end of the input. It takes no line after
 /// the first refused one. It writes a line for each row of the copy of `items` at the last commit
 /// of that log, a line with the count of rows, and then a line that reports the refused line, if
 /// there is one.
 ///
-/// At `Ok` and `Refused` the whole input was read and the whole of this text was written. At
-/// `Usage` nothing was read or written. At any other status a prefix of the text was written, which
-/// may be all of it. `Memory` may be answered whenever the machine runs out of memory. All this is
-/// said of an input that reveals its bytes and an output that reveals what it took; what is said of
-/// `Usage` holds for every input and output.
-pub fn session<I: Source, O: Sink>(
+/// A script is read to its end, and a line is written for each line that is refused. No command is
+/// carried out yet, so each is refused as unknown.
+///
+/// At `Ok` and `Refused` the whole input was read, and all that the run does happened. At `Usage`
+/// nothing was read or written. At any other status some of it happened, from its beginning on, and
+/// of the next line at most a part was written. `Memory` may be answered whenever the machine runs
+/// out of memory. All this is said of an input that reveals its bytes and an output that reveals
+/// what it took; of a script, if servers that stand for a world reveal what they hold.
+pub fn session<K: Keeper, I: Source, O: Sink>(
     alloc: Global,
     words: &[String],
+    sites: &mut Sites<K>,
     input: &mut I,
     output: &mut O,
 ) -> Status
-    ensures usage { (result ≡ Status.Usage) ↔ (is_copy (map string_bytes words.now) ≡ false) }
-    ensures same_input { result ≡ Status.Usage → input.new ≡ input.old }
-    ensures same_output { result ≡ Status.Usage → output.new ≡ output.old }
-    ensures end { IsTrue (is_done result)
-        → IfSome (I.left input.old) (λ _. I.left input.new ≡ Some []) }
-    ensures written { IsTrue (is_done result) → IfSome (I.left input.old)
-        (λ bytes. Takes (O.taken output.old) (O.taken output.new) (text_of bytes)) }
-    ensures refused { IsTrue (is_done result) → IfSome (I.left input.old)
-        (λ bytes. result ≡ status_of (feed_of bytes).refusal) }
-    ensures prefix { IfSome (I.left input.old)
-        (λ bytes. TakesPrefix (O.taken output.old) (O.taken output.new) (text_of bytes)) }
-    ensures fits { IsTrue (is_done result)
-        → IfSome (I.left input.old) (λ bytes. length bytes ≤ input_limit) }
-    ensures too_long { result ≡ Status.InputTooLong
-        → IfSome (I.left input.old) (λ bytes. input_limit < length bytes) }
-    ensures input_fault { result ≡ Status.InputFault
-        → Rises (I.faults input.old) (I.faults input.new) }
-    ensures output_fault { result ≡ Status.OutputFault
-        → Rises (O.faults output.old) (O.faults output.new) }
-    ensures never { is_of_server result ≡ false }
+    requires { AllClosed (work K.kept sites.old) }
+    ensures usage { result ≡ Status.Usage → (opening : Opening)
+        → ¬ (Asks (map string_bytes words.now) (names sites.old) opening) }
+    ensures right { result ≢ Status.Usage → result ≢ Status.Memory
+        → (opening : Opening) × Asks (map string_bytes words.now) (names sites.old) opening }
+    ensures same { result ≡ Status.Usage
+        → (sites.new ≡ sites.old) × (input.new ≡ input.old) × (output.new ≡ output.old) }
+    ensures done { IsTrue (is_done result) → (opening : Opening) (w : World)
+        → Asks (map string_bytes words.now) (names sites.old) opening
+        → StandsFor opening (names sites.old) (held K.kept sites.old) (held K.kept sites.old) w
+        → IfSome (I.left input.old) (λ bytes.
+        Ran (StandsFor opening (names sites.old) (held K.kept sites.old))
+        (run_events opening bytes w) w (held K.kept sites.new)
+        (O.taken output.old) (O.taken output.new) result) }
+    ensures stopped { is_done result ≡ false → (opening : Opening) (w : World)
+        → Asks (map string_bytes words.now) (names sites.old) opening
+        → StandsFor opening (names sites.old) (held K.kept sites.old) (held K.kept sites.old) w
+        → IfSome (I.left input.old) (λ bytes.
+        Stopped (StandsFor opening (names sites.old) (held K.kept sites.old))
+        (run_events opening bytes w) w (held K.kept sites.new)
+        (O.taken output.old) (O.taken output.new)) }
+    ensures end { IsTrue (is_done result) → IfSome (I.left input.old) (λ bytes.
+        (I.left input.new ≡ Some []) × (length bytes ≤ input_limit)) }
+    ensures cause { HasCause result (I.left input.old) (I.faults input.old) (I.faults input.new)
+        (O.faults output.old) (O.faults output.new) }
+    ensures closed { AllClosed (work K.kept sites.new) }
 {
-    if !asks_copy(words) {
-        return Status::Usage;
-    }
-    match run_copy(alloc, input, output) {
+    one_opening_of_words();
+    let opening = match asked_opening(alloc, words, sites) {
+        Ok(opening) => opening,
+        Err(WordsError::Usage) => return Status::Usage,
+        Err(WordsError::Memory) => return Status::Memory,
+    };
+    match run_opening(alloc, &opening, input, output) {
         Ok(refused) => done_status(refused),
         Err(early) => early_status(early),
     }

@@ -1,20 +1,16 @@
 //! The status that a run ends with.
 
 ghost use Rattle.std.specs.Prelude.{◌≡◌};
-ghost use Rattle.session_core.specs.Session.{status_of};
-ghost use Rattle.session_core.specs.EarlyStatus.{status_of_early};
+ghost use Rattle.session_core.specs.EarlyStatus.{status_of_done, status_of_early};
 
-use copy_lists::{Early, Refused};
+use copy_lists::Early;
 use repl_types::Status;
 
-/// The status of a run that read its input to the end.
-pub fn done_status(refused: Option<Refused>) -> Status
-    ensures { result ≡ status_of refused }
+/// The status of a run that came to its end.
+pub fn done_status(refused: bool) -> Status
+    ensures { result ≡ status_of_done refused }
 {
-    match refused {
-        None => Status::Ok,
-        Some(_) => Status::Refused,
-    }
+    if refused { Status::Refused } else { Status::Ok }
 }
 
 /// The status of a run that ended at once.

@@ -41,7 +41,7 @@ part_of_more part (writes l ∷ rest) more is = is
 part_of_more part (refuses l ∷ rest) more is = is
 
 -- no bytes are a part of what comes next, whatever it is
-no_part : {W : Type 0} (events : List (Event W)) → IsPartOf [] events
+pub no_part : {W : Type 0} (events : List (Event W)) → IsPartOf [] events
 no_part [] = refl
 no_part (commits w ∷ events) = refl
 no_part (writes line ∷ events) = (line, refl)
@@ -110,6 +110,11 @@ module _ {W : Type 0} (Stands : List (Option Contents) → W → Type 0) where
           stands = subst (Stands h2) (sym (last_append w going.done (one v))) went.stands;
           bytes = subst (Takes before now2) (sym (lines_append going.done (one v))) (takes_both before now now2 (lines_of going.done) (lines_of (one v)) going.bytes went.bytes);
         }
+
+    -- what happened then is what had happened before, and that part
+    pub done_after : (went : Went Stands (one (last_world w going.done)) (last_world w going.done) h2 now now2) → (goes_on went).done ≡ going.done ++ one (last_world w going.done)
+    unfolding goes_on
+    done_after went = refl
 
     -- if the next part of a run stopped, the run stopped
     pub stops_in : Stopped Stands (one (last_world w going.done)) (last_world w going.done) h2 now now2 → Stopped Stands events w h2 before now2

@@ -1,0 +1,4 @@
+pub mod Copied
+pub mod Exits
+pub mod Going
+pub mod Names
