@@ -1,12 +1,26 @@
 //! How the program ends: the exit status, and the line on standard error.
 
-ghost use Rattle.std.specs.Prelude.{◌≡◌, ℕ, Option, option_map};
-ghost use Rattle.sqlrep.specs.Endings.{code_of, status_line_of};
+ghost use Rattle.std.specs.Prelude.{◌≡◌, [], slice_index_or, string_bytes, IfOk, IfSome, Some};
+ghost use Rattle.std.specs.Option.{option_map};
+ghost use Rattle.sqlrep.specs.Endings.{code_of, area_name as area_name_lem, status_line_of};
+ghost use Rattle.sqlrep.specs.Endings.{keeper_line as keeper_line_lem};
+ghost use Rattle.sqlrep.specs.Endings.{damaged_line as damaged_line_lem};
+ghost use Rattle.sqlrep.specs.Endings.{cannot_open_line as cannot_open_line_lem};
 
-use repl_types::Status;
+use repl_types::{Area, Name, Status};
+use std::alloc::{AllocError, Global};
+
+/// How the program ends.
+#[derive(Debug, Drop)]
+pub struct Ending {
+    /// The exit status.
+    pub code: u8,
+    /// The line on standard error, if there is one.
+    pub line: Option<String>,
+}
 
 /// The exit status of a run: each kind of status has its own.
-pub fn exit_code(status: &Status) -> u8
+fn exit_code(status: &Status) -> u8
     ensures { result ≡ code_of status.now }
 {
     match status {
@@ -22,18 +36,116 @@ pub fn exit_code(status: &Status) -> u8
     }
 }
 
-/// The line on standard error, which a run to the end of its input doesn't have.
-pub fn status_line(status: &Status) -> Option<&'static str>
-    ensures { option_map (λ line. line.now) result ≡ status_line_of status.now }
+/// The name of an area.
+fn area_name(area: Area) -> &'static str
+    ensures { result.now ≡ area_name_lem area }
+{
+    match area {
+        Area::Log => "Log",
+        Area::Source => "Source",
+        Area::Inflight => "Inflight",
+        Area::Head => "Head",
+        Area::Defs => "Defs",
+        Area::Cd => "Cd",
+        Area::Uow => "Uow",
+        Area::Capture => "Capture",
+        Area::Prune => "Prune",
+        Area::Spill => "Spill",
+        Area::Target => "Target",
+        Area::SetState => "SetState",
+        Area::Trail => "Trail",
+    }
+}
+
+/// The name of a server, an empty text if there is no such server.
+fn server_name(names: &[Name], server: u32) -> &str
+    ensures { result.now ≡ slice_index_or names.now server [] }
+{
+    match names.get(server as usize) {
+        Some(name) => name.as_str(),
+        None => "",
+    }
+}
+
+/// A line that is the same at all servers.
+fn plain_line(alloc: Global, text: &str) -> Result<Option<String>, AllocError>
+    ensures { IfOk result (λ line. option_map string_bytes line ≡ Some text.now) }
+{
+    Ok(Some(String::from_str(alloc, text)?))
+}
+
+/// The line of a failed keeper.
+fn keeper_line(alloc: Global, name: &str) -> Result<Option<String>, AllocError>
+    ensures { IfOk result (λ line. option_map string_bytes line ≡ Some (keeper_line_lem name.now)) }
+{
+    Ok(Some(format!(in alloc; "sqlrep: keeper fault at {name}")?))
+}
+
+/// The line of damaged contents.
+fn damaged_line(alloc: Global, name: &str, area: &str) -> Result<Option<String>, AllocError>
+    ensures { IfOk result (λ line. option_map string_bytes line
+        ≡ Some (damaged_line_lem name.now area.now)) }
+{
+    Ok(Some(format!(in alloc; "sqlrep: damaged {name} {area}")?))
+}
+
+/// The line on standard error of a run at servers of these names. A run to the end of its input has
+/// none.
+fn status_line(
+    alloc: Global,
+    status: &Status,
+    names: &[Name],
+) -> Result<Option<String>, AllocError>
+    ensures { IfOk result (λ line. option_map string_bytes line
+        ≡ status_line_of names.now status.now) }
 {
     match status {
-        Status::Ok | Status::Refused => None,
-        Status::Usage => Some("sqlrep: usage: sqlrep [--cells N] NAME=PATH... | sqlrep copy"),
-        Status::KeeperFault(_) => Some("sqlrep: keeper fault"),
-        Status::InputFault => Some("sqlrep: input fault"),
-        Status::OutputFault => Some("sqlrep: output fault"),
-        Status::Memory => Some("sqlrep: out of memory"),
-        Status::InputTooLong => Some("sqlrep: input too long"),
-        Status::Damaged(..) => Some("sqlrep: damaged"),
+        Status::Ok | Status::Refused => Ok(None),
+        Status::Usage => plain_line(
+            alloc,
+            "sqlrep: usage: sqlrep [--cells N] NAME=PATH... | sqlrep copy",
+        ),
+        Status::KeeperFault(server) => keeper_line(alloc, server_name(names, *server)),
+        Status::InputFault => plain_line(alloc, "sqlrep: input fault"),
+        Status::OutputFault => plain_line(alloc, "sqlrep: output fault"),
+        Status::Memory => plain_line(alloc, "sqlrep: out of memory"),
+        Status::InputTooLong => plain_line(alloc, "sqlrep: input too long"),
+        Status::Damaged(server, area, _) => {
+            damaged_line(alloc, server_name(names, *server), area_name(*area))
+        }
     }
+}
+
+/// The line if a server can't be opened.
+fn cannot_open_line(alloc: Global, name: &Name) -> Result<String, AllocError>
+    ensures { IfOk result (λ line. string_bytes line ≡ cannot_open_line_lem name.now) }
+{
+    let name = name.as_str();
+    format!(in alloc; "sqlrep: cannot open {name}")
+}
+
+/// The end of a run at servers of these names. If there is no memory for its line, it has none.
+pub fn ending_of(alloc: Global, status: &Status, names: &[Name]) -> Ending
+    ensures code { result.code ≡ code_of status.now }
+    ensures line { IfSome result.line (λ line.
+        status_line_of names.now status.now ≡ Some (string_bytes line)) }
+{
+    let code = exit_code(status);
+    match status_line(alloc, status, names) {
+        Ok(line) => Ending { code, line },
+        Err(_) => Ending { code, line: None },
+    }
+}
+
+/// The end of a run at a server of this name, which can't be opened.
+pub fn cannot_open(alloc: Global, name: &Name) -> Result<Ending, AllocError>
+    ensures code { IfOk result (λ ending. ending.code ≡ code_of (Status.KeeperFault 0)) }
+    ensures line { IfOk result (λ ending. option_map string_bytes ending.line
+        ≡ Some (cannot_open_line_lem name.now)) }
+{
+    let line = cannot_open_line(alloc, name)?;
+    Ok(Ending {
+        code: exit_code(&Status::KeeperFault(0)),
+        line: Some(line),
+    })
 }

@@ -8,6 +8,18 @@ use clap::Command;
 use clap::error::ErrorKind;
 use std::alloc::{AllocError, Global};
 
+/// What the help says of a script and its servers.
+const AFTER_HELP: &str = "\
+A script runs at 1 to 16 servers, each named by a word NAME=PATH:
+  NAME   the name by which the script calls the server
+  PATH   where the server is kept; :map: keeps it in memory for this run, and no
+         other path can be opened yet
+
+The script comes on standard input, one command on each line. No command is carried
+out yet, so each is refused as unknown. These are the commands of the whole product:
+  load  feed  capture  prune  step  apply  refresh  stop  generate  rounds  audit
+  status  show";
+
 /// The words that the program takes.
 fn sqlrep_command<'a>(alloc: Global) -> Result<Command<'a>, AllocError>
     ensures { IfOk result (λ command. app_of command ≡ sqlrep_app) }
@@ -19,6 +31,7 @@ fn sqlrep_command<'a>(alloc: Global) -> Result<Command<'a>, AllocError>
         .bin_name("sqlrep")?
         .version("0.1.0")
         .about("Staged SQL replication")
+        .after_help(AFTER_HELP)
         .subcommand_required(true)
         .disable_help_subcommand(true)
         .subcommand(copy)

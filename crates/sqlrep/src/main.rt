@@ -1,30 +1,39 @@
-//! `sqlrep copy` reads log records on standard input and prints the copy of the items.
+//! `sqlrep` runs a script at the servers that its words name, and `sqlrep copy` reads log records on
+//! standard input and prints the copy of the items.
 //!
 //! The program stands on `session_core`, whose `session` does the work and says what a run
-//! promises. What is here gives it the words of the command line and the standard streams, and
-//! hands its status to the caller. `sqlrep --help` says which words it takes.
+//! promises. What is here opens the servers in memory, gives `session` the words of the command
+//! line and the standard streams, and hands its status to the caller. `sqlrep --help` says which
+//! words it takes.
 //!
-//! For example, of the two lines `insert 1 items 1 'pen'` and `commit 1 ann 100` it prints
-//! `row 1 'pen'` and `ok rows 1`, and exits with 0.
+//! For example, of the two lines `insert 1 items 1 'pen'` and `commit 1 ann 100` it prints, at the
+//! word `copy`, `row 1 'pen'` and `ok rows 1`, and exits with 0.
 #![tactic(auto)]
 
-ghost use Rattle.std.specs.Prelude.{◌≡◌, ◌≢◌, ◌⊎◌, drop, map, string_bytes, true, false, IfErr};
+ghost use Rattle.std.specs.Prelude.{◌≡◌, ◌≢◌, ◌⊎◌, drop, map, string_bytes, IfOk, IfErr};
 ghost use Rattle.std.specs.Prelude.{IsOk, IsTrue};
-ghost use Rattle.session_core.specs.Session.{is_copy, is_of_server};
+ghost use Rattle.run_words.specs.declared.opening.Opening.{Opening};
+ghost use Rattle.run_words.specs.Openings.{AreWordsOf};
 ghost use Rattle.sqlrep.specs.Asked.{asks_text, asks_nothing};
+ghost use Rattle.sqlrep.specs.Endings.{usage_code};
 
 mod ending;
 mod help;
+mod servers;
 mod streams;
 #[cfg(test)]
 mod tests;
 
-use crate::ending::{exit_code, status_line};
+use crate::ending::{Ending, cannot_open, ending_of};
 use crate::help::asked_text;
+use crate::servers::{needed_names, on_disk, open_in_memory};
 use crate::streams::{Reads, Writes};
 use keep_core::{ReadError, write_line};
+use repl_commands::WordsError;
 use repl_types::Status;
+use run_words::{Opening, server_words};
 use session_core::session;
+use std::alloc::AllocError;
 use std::io;
 use std::process::ExitCode;
 
@@ -58,7 +67,6 @@ fn print_status(answer: Result<(), ReadError>) -> Status
     ensures memory { answer ≡ Err ReadError.Memory → result ≡ Status.Memory }
     ensures failed { answer ≡ Err ReadError.Failed → result ≡ Status.OutputFault }
     ensures told { result ≢ Status.Usage }
-    ensures never { is_of_server result ≡ false }
 {
     match answer {
         Ok(()) => Status::Ok,
@@ -73,7 +81,6 @@ fn run_help(rt: &HostRuntime, words: &[String]) -> Status
     ensures asked { IsTrue (asks_text (map string_bytes words.now)) → result ≢ Status.Usage }
     ensures other { IsTrue (asks_nothing (map string_bytes words.now)) → (result ≡ Status.Usage)
         ⊎ (result ≡ Status.Memory) }
-    ensures never { is_of_server result ≡ false }
 {
     match asked_text(rt.alloc(), words) {
         Ok(Some(text)) => print_status(write_line(
@@ -85,40 +92,60 @@ fn run_help(rt: &HostRuntime, words: &[String]) -> Status
     }
 }
 
-/// Does what the words of a command line ask for. `session` alone decides which words are its own,
-/// and at its `Usage` nothing was read or written yet.
-fn run_words(rt: &HostRuntime, words: &[String]) -> Status
-    ensures copy { is_copy (map string_bytes (drop 1 words.now)) ≡ true → result ≢ Status.Usage }
-    ensures asked { IsTrue (asks_text (map string_bytes words.now)) → result ≢ Status.Usage }
-    ensures other { is_copy (map string_bytes (drop 1 words.now)) ≡ false
-        → IsTrue (asks_nothing (map string_bytes words.now)) → (result ≡ Status.Usage)
-        ⊎ (result ≡ Status.Memory) }
-    ensures never { is_of_server result ≡ false }
+/// Runs what the words of a command line ask for, at the servers that it needs. A server that isn't
+/// in memory can't be opened yet.
+fn run_opening(
+    rt: &HostRuntime,
+    words: &[String],
+    opening: &Opening,
+) -> Result<Ending, AllocError>
+    requires { AreWordsOf (map string_bytes (drop 1 words.now)) opening.now }
+    ensures { IfOk result (λ ending. ending.code ≢ usage_code) }
 {
+    let alloc = rt.alloc();
+    if let Some(name) = on_disk(opening) {
+        return cannot_open(alloc, name);
+    }
+    let names = needed_names(alloc, opening)?;
+    let mut sites = open_in_memory(alloc, names.as_slice())?;
     let mut input = Reads::new(rt.reader());
     let mut output = Writes::new(io::writer(rt));
-    match session(rt.alloc(), after_name(words), &mut input, &mut output) {
-        Status::Usage => run_help(rt, words),
-        status => status,
+    let words = after_name(words);
+    let status = session(alloc, words, &mut sites, &mut input, &mut output);
+    Ok(ending_of(alloc, &status, names.as_slice()))
+}
+
+/// Does what the words of a command line ask for.
+fn run_words_of(rt: &HostRuntime, words: &[String]) -> Ending
+    ensures asked { (opening : Opening)
+        → AreWordsOf (map string_bytes (drop 1 words.now)) opening → result.code ≢ usage_code }
+    ensures text { IsTrue (asks_text (map string_bytes words.now)) → result.code ≢ usage_code }
+{
+    let alloc = rt.alloc();
+    match server_words(alloc, after_name(words)) {
+        Ok(opening) => match run_opening(rt, words, &opening) {
+            Ok(ending) => ending,
+            Err(_) => ending_of(alloc, &Status::Memory, &[]),
+        },
+        Err(WordsError::Usage) => ending_of(alloc, &run_help(rt, words), &[]),
+        Err(WordsError::Memory) => ending_of(alloc, &Status::Memory, &[]),
     }
 }
 
 /// Does what the command line asks for.
-fn run(rt: &HostRuntime) -> Status
-    ensures { is_of_server result ≡ false }
-{
+fn run(rt: &HostRuntime) -> Ending {
     match command_line(rt) {
-        Ok(words) => run_words(rt, words.as_slice()),
-        Err(status) => status,
+        Ok(words) => run_words_of(rt, words.as_slice()),
+        Err(status) => ending_of(rt.alloc(), &status, &[]),
     }
 }
 
 /// Runs the program, says in a line on standard error why it ended early, if it did, and exits with
 /// the number of its status, whether that line could be written or not.
 fn main(rt: HostRuntime) -> ExitCode {
-    let status = run(&rt);
-    if let Some(line) = status_line(&status) {
-        let _ = rt.eprintln(line);
+    let ending = run(&rt);
+    if let Some(line) = &ending.line {
+        let _ = rt.eprintln(line.as_str());
     }
-    ExitCode::from(exit_code(&status))
+    ExitCode::from(ending.code)
 }
