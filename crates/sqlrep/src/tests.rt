@@ -1,12 +1,18 @@
 //! Runs of `session` over streams in memory: what is written, and how each failure ends a run.
 
 ghost use Rattle.std.specs.Prelude.{◌≡◌, IfOk, Some};
+ghost use Rattle.keep_map.specs.Keepers.{kept_of};
+ghost use Rattle.site_store.specs.Servers.{AllClosed};
+ghost use Rattle.site_store.specs.Views.{work};
 
+use crate::servers::{needed_names, open_in_memory};
 use crate::streams::{Reads, Writes};
 use keep_core::{ReadError, Sink, Source};
-use keep_map::{BytesSink, BytesSource};
+use keep_map::{BytesSink, BytesSource, MapKeeper};
 use repl_types::{List, Status};
+use run_words::Opening;
 use session_core::session;
+use site_store::Sites;
 use std::alloc::{AllocError, Global};
 use std::io;
 use std::io::ErrorKind;
@@ -104,13 +110,42 @@ fn source_of(alloc: Global, bytes: &[u8]) -> Result<BytesSource, AllocError> {
     Ok(BytesSource::new(List::from_vec(Vec::from_slice(alloc, bytes)?)))
 }
 
+/// The servers `src` and `dst`, which hold nothing.
+fn two_servers(alloc: Global) -> Result<Sites<MapKeeper>, AllocError>
+    ensures { IfOk result (λ sites. AllClosed (work kept_of sites)) }
+{
+    let names = needed_names(alloc, &Opening::Copy)?;
+    open_in_memory(alloc, names.as_slice())
+}
+
+/// Runs what these words ask for, at the servers `src` and `dst`.
+fn run_at_two<I: Source, O: Sink>(
+    alloc: Global,
+    line: &str,
+    input: &mut I,
+    output: &mut O,
+) -> Result<Status, AllocError> {
+    let words = words_of(alloc, line)?;
+    let mut sites = two_servers(alloc)?;
+    Ok(session(alloc, words.as_slice(), &mut sites, input, output))
+}
+
 /// Runs `copy`.
 fn copy<I: Source, O: Sink>(
     alloc: Global,
     input: &mut I,
     output: &mut O,
 ) -> Result<Status, AllocError> {
-    Ok(session(alloc, words_of(alloc, "copy")?.as_slice(), input, output))
+    run_at_two(alloc, "copy", input, output)
+}
+
+/// Runs a script at both servers.
+fn run_script<I: Source, O: Sink>(
+    alloc: Global,
+    input: &mut I,
+    output: &mut O,
+) -> Result<Status, AllocError> {
+    run_at_two(alloc, "src=:map: dst=:map:", input, output)
 }
 
 #[test]
@@ -175,16 +210,63 @@ fn a_sink_that_takes_a_byte_at_a_time_gets_it_all(rt: HostRuntime) -> Result<(),
 #[test]
 fn other_words_are_usage_and_nothing_is_read_or_written(rt: HostRuntime) -> Result<(), Fail> {
     let alloc = rt.alloc();
-    for line in ["", "Copy", "copy copy"] {
-        let words = words_of(alloc, line)?;
+    for line in ["", "Copy", "copy copy", "dst=:map: src=:map:", "src=:map:"] {
         let mut input = source_of(alloc, b"left")?;
         let mut output = BytesSink::new(alloc);
-        let status = session(alloc, words.as_slice(), &mut input, &mut output);
+        let status = run_at_two(alloc, line, &mut input, &mut output)?;
         assert_eq!(rt; status, Status::Usage, "at {line:?}");
         assert!(rt; output.bytes().is_empty(), "at {line:?}");
         let mut buffer = *b"....";
         assert_eq!(rt; input.read(&mut buffer), Ok(4), "at {line:?}");
     }
+    Ok(())
+}
+
+/// A script of which the second and the fourth line are refused.
+const TWO_REFUSED: &[u8] = b"# a comment\nfrob\n\n|x\n";
+
+const TWO_REFUSALS: &[u8] = b"refused 1 UnknownCommand line 2\nrefused 2 BadLine line 4\n";
+
+#[test]
+fn the_refused_lines_of_a_script_are_written(rt: HostRuntime) -> Result<(), Fail> {
+    let alloc = rt.alloc();
+    for (input, text, status) in [
+        (TWO_REFUSED, TWO_REFUSALS, Status::Refused),
+        (b"#".as_slice(), b"".as_slice(), Status::Ok),
+    ] {
+        let mut output = BytesSink::new(alloc);
+        let mut input = source_of(alloc, input)?;
+        assert_eq!(rt; run_script(alloc, &mut input, &mut output)?, status);
+        assert_eq!(rt; output.bytes(), text);
+    }
+    Ok(())
+}
+
+#[test]
+fn a_failed_write_ends_a_script_after_the_lines_before(rt: HostRuntime) -> Result<(), Fail> {
+    let alloc = rt.alloc();
+    for (call, text) in [
+        (1, b"".as_slice()),
+        (2, b"refused 1 UnknownCommand line 2\n".as_slice()),
+    ] {
+        let mut input = source_of(alloc, TWO_REFUSED)?;
+        let mut output = BytesSink::new(alloc);
+        output.fail_at(List::from_vec(vec![in alloc; call]?));
+        let status = run_script(alloc, &mut input, &mut output)?;
+        assert_eq!(rt; status, Status::OutputFault, "at write {call}");
+        assert_eq!(rt; output.bytes(), text, "at write {call}");
+    }
+    Ok(())
+}
+
+#[test]
+fn a_failed_read_ends_a_script(rt: HostRuntime) -> Result<(), Fail> {
+    let alloc = rt.alloc();
+    let mut input = source_of(alloc, TWO_REFUSED)?;
+    input.fail_at(List::from_vec(vec![in alloc; 2]?));
+    let mut output = BytesSink::new(alloc);
+    assert_eq!(rt; run_script(alloc, &mut input, &mut output)?, Status::InputFault);
+    assert_eq!(rt; output.bytes(), TWO_REFUSALS);
     Ok(())
 }
 
