@@ -1,0 +1,4 @@
+//! Definitions as servers keep them.
+#![tactic(auto)]
+
+mod reading;
