@@ -1,1 +1,3 @@
 pub mod ByKey
+pub mod Lists
+pub mod Rows
