@@ -1,2 +1,2 @@
-pub mod Passing
 pub mod ReadingRows
+pub mod Sets

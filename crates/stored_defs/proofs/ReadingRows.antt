@@ -1,7 +1,6 @@
 -- The records of a table are read one after another.
-use Rattle.std.proofs.Common.{◌≡◌, ℕ, ◌<◌, ◌≤◌, ◌+◌, List, [], ◌∷◌, ◌++◌, length, refl, sym, ap, subst, ◌∙◌, append_assoc, append-nil, length-append, arith}
-use Rattle.std.specs.Prelude.{map, Option, Some, None, IfSome}
-use Rattle.std.specs.List.{AllByRecursion}
+use Rattle.std.proofs.Common.{◌≡◌, ℕ, ◌<◌, List, [], ◌∷◌, ◌++◌, length, refl, sym, ap, subst, ◌∙◌, append_assoc, append-nil, length-append, arith}
+use Rattle.std.specs.Prelude.{map, Option, Some, None}
 use Rattle.std.proofs.lemmas.List.{nil_from_length, length-map}
 use Rattle.repl_types.specs.declared.area.Area.{Area}
 use Rattle.repl_types.specs.laws.Lists.{filter_none}
@@ -24,7 +23,7 @@ use Rattle.site_store.specs.laws.Counts.{at_most_itself}
 use Rattle.site_store.specs.laws.Damage.{fails_after}
 use Rattle.site_store.specs.laws.Steps.{next_fails}
 use Rattle.stored_defs.specs.Reading.{row_limit, RowFits, AreRows, HasRecords, table_rules}
-use Rattle.stored_defs.proofs.Passing.{reads_more}
+use Rattle.stored_defs.specs.laws.Passing.{reads_more}
 
 module _ {A X : Type 0} (key_fits : A → Type 0) (key : A → List ℕ) (fits : X → Type 0) (spelling : X → List ℕ) (a : Area) (t : ℕ) where
   -- the records that were read, followed by those of the rows after the last key, are the records of all rows

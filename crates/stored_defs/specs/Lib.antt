@@ -1,2 +1,4 @@
+pub mod Known
 pub mod Reading
+pub mod Rules
 pub mod laws

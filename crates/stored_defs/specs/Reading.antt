@@ -1,5 +1,5 @@
 -- What reading all records of a table gives, and what shows that it is damaged.
-use Rattle.std.specs.Prelude.{◌≡◌, ℕ, ◌<◌, ◌≤◌, ◌+◌, List, length, map}
+use Rattle.std.specs.Prelude.{◌≡◌, ℕ, ◌<◌, ◌≤◌, List, length, map}
 use Rattle.std.specs.List.{AllByRecursion}
 use Rattle.repl_types.specs.declared.area.Area.{Area}
 use Rattle.keep_core.specs.Contents.{Contents}

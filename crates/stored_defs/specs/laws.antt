@@ -1,3 +1,6 @@
+pub mod Blaming
 pub mod ByKey
 pub mod Lists
+pub mod Passing
 pub mod Rows
+pub mod Standing

@@ -14,10 +14,12 @@ use row_codec::Stored;
 use site_store::Sites;
 use std::alloc::Global;
 
-/// The most rows of a table of definitions.
+/// The most rows of a table of definitions: a server has at most this many tables, and sets at each
+/// side.
 const ROW_LIMIT: usize = 256;
 
-/// The records of a table, in the order of their keys.
+/// The records of a table, in the order of their keys. No more than `ROW_LIMIT` are read: a server
+/// that stands for a world has no more.
 pub(crate) fn read_records<K: Keeper, R: Stored>(
     sites: &mut Sites<K>,
     alloc: Global,

@@ -1,5 +1,5 @@
 -- The rows of the area Defs that a sound world calls for: proofs, and nothing to believe.
-use Rattle.std.proofs.Common.{◌≡◌, ℕ, ◌+◌, ◌<◌, ◌≤◌, ◌^◌, Bool, true, false, cond, List, [], ◌∷◌, ◌++◌, length, map, refl, sym, ap, subst, ◌∙◌, arith}
+use Rattle.std.proofs.Common.{◌≡◌, ℕ, ◌+◌, ◌<◌, ◌≤◌, Bool, true, false, cond, List, [], ◌∷◌, ◌++◌, length, map, refl, sym, ap, subst, ◌∙◌, arith}
 use Rattle.std.specs.Prelude.{◌&&◌, ◌||◌, ◌==◌, not, nat_lt, Option, Some, None, is_some, IfSome, find, slice_get}
 use Rattle.std.specs.List.{AllByRecursion, enumerate_from, filter_map, list_all, list_any}
 use Rattle.std.specs.Option.{option_map, option_map_or}
@@ -17,14 +17,12 @@ use Rattle.repl_types.specs.declared.table.ColumnDef.{ColumnDef}
 use Rattle.repl_types.specs.declared.table.TableDef.{TableDef}
 use Rattle.repl_types.specs.declared.change_row.Registration.{Registration}
 use Rattle.repl_types.specs.laws.Lists.{all_weaker}
-use Rattle.keep_core.specs.Contents.{same_key}
 use Rattle.row_codec.specs.Definitions.{IsColumn, IsTable, ArePlaces, IsRegistration}
 use Rattle.row_codec.specs.Order.{name_cmp, set_cmp}
 use Rattle.row_codec.specs.Spelling.{Is16, Is32, IsName, IsSet, short_text, set_spelling}
 use Rattle.row_codec.specs.laws.Orders.{whole_order, order_name, order_set}
 use Rattle.repl_definitions.specs.Defined.{IsDefinedTable, IsDefinedRegistration}
-use Rattle.repl_definitions.specs.Sets.{IsSetDef, IsSourceSet, IsTargetSet, source_set_spelling}
-use Rattle.repl_definitions.specs.declared.set.SetDef.{SetDef}
+use Rattle.repl_definitions.specs.Sets.{IsSourceSet, IsTargetSet, source_set_spelling}
 use Rattle.repl_definitions.specs.declared.set.SourceSet.{SourceSet}
 use Rattle.repl_definitions.specs.declared.set.TargetSet.{TargetSet}
 use Rattle.repl_definitions.specs.declared.defined.DefinedTable.{DefinedTable}
@@ -141,7 +139,7 @@ set_one a b e =
     λ i. record { qual = parts.0 i; name = names i }
 
 -- a text is itself
-text_itself : (text : List ℕ) → bytes_eq text text ≡ true
+pub text_itself : (text : List ℕ) → bytes_eq text text ≡ true
 text_itself text = sym (is_eq-slice_cmp text text) ∙ same_itself text
 
 -- texts that are alike are equal
@@ -214,14 +212,14 @@ module _ (world : World) (server : Server) (keeps : ServerKeepsRules world serve
   -- its tables
   pub table_rows_are : AreRows IsName short_text IsDefinedTable (table_rows server)
   table_rows_are = are_by_key IsName short_text IsDefinedTable name_cmp name_order name_some (map table_entry (numbered_tables server))
-    (all_map (RowFits IsName IsDefinedTable) table_entry (numbered_tables server) (all_numbered KeepsTable (λ t. RowFits IsName IsDefinedTable (table_entry t)) 256 0 server.tables (omega (arith, keeps.count)) keeps.tables (λ m t lt k. (table_name t k, (small m lt, table_fits t k)))))
-    (omega (arith, length-map (numbered_tables server) table_entry, length-enumerate_from 0 server.tables, keeps.count))
+      (all_map (RowFits IsName IsDefinedTable) table_entry (numbered_tables server) (all_numbered KeepsTable (λ t. RowFits IsName IsDefinedTable (table_entry t)) 256 0 server.tables (omega (arith, keeps.count)) keeps.tables (λ m t lt k. (table_name t k, (small m lt, table_fits t k)))))
+      (omega (arith, length-map (numbered_tables server) table_entry, length-enumerate_from 0 server.tables, keeps.count))
 
   -- its registrations
   pub registration_rows_are : AreRows IsName short_text IsDefinedRegistration (registration_rows server)
   registration_rows_are = are_by_key IsName short_text IsDefinedRegistration name_cmp name_order name_some (filter_map defined_registration (numbered_tables server))
-    (all_filter_map (RowFits IsName IsDefinedRegistration) defined_registration (numbered_tables server) (all_numbered KeepsTable (λ t. IfSome (defined_registration t) (RowFits IsName IsDefinedRegistration)) 256 0 server.tables (omega (arith, keeps.count)) keeps.tables registered_fits))
-    (omega (arith, filter_map_few defined_registration (numbered_tables server), length-enumerate_from 0 server.tables, keeps.count))
+      (all_filter_map (RowFits IsName IsDefinedRegistration) defined_registration (numbered_tables server) (all_numbered KeepsTable (λ t. IfSome (defined_registration t) (RowFits IsName IsDefinedRegistration)) 256 0 server.tables (omega (arith, keeps.count)) keeps.tables registered_fits))
+      (omega (arith, filter_map_few defined_registration (numbered_tables server), length-enumerate_from 0 server.tables, keeps.count))
 
   -- what is kept of the sets whose source it is has a spelling
   source_entries_fit : AllByRecursion (RowFits IsSet IsSourceSet) (map source_entry (enumerate_from 0 server.source_sets))
@@ -230,13 +228,13 @@ module _ (world : World) (server : Server) (keeps : ServerKeepsRules world serve
   -- the sets whose source it is
   pub source_rows_are : AreRows IsSet set_spelling IsSourceSet (source_set_rows server)
   source_rows_are = are_by_key IsSet set_spelling IsSourceSet set_cmp set_order set_some (map source_entry (enumerate_from 0 server.source_sets)) source_entries_fit
-    (omega (arith, length-map (enumerate_from 0 server.source_sets) source_entry, length-enumerate_from 0 server.source_sets, keeps.counts.0))
+      (omega (arith, length-map (enumerate_from 0 server.source_sets) source_entry, length-enumerate_from 0 server.source_sets, keeps.counts.0))
 
   -- the sets whose target it is
   pub target_rows_are : AreRows IsSet set_spelling IsTargetSet (target_set_rows server)
   target_rows_are = are_by_key IsSet set_spelling IsTargetSet set_cmp set_order set_some (map target_entry (enumerate_from 0 server.target_sets))
-    (all_map (RowFits IsSet IsTargetSet) target_entry (enumerate_from 0 server.target_sets) (all_numbered (λ side. (side.def.target ≡ server.name) × SetKeepsLimits world side.def × UnknownTarget world side) (λ s. RowFits IsSet IsTargetSet (target_entry s)) 256 0 server.target_sets (omega (arith, keeps.counts.1)) keeps.targets (λ m side lt k. (k.1.spelled.0, (small m lt, k.1.spelled)))))
-    (omega (arith, length-map (enumerate_from 0 server.target_sets) target_entry, length-enumerate_from 0 server.target_sets, keeps.counts.1))
+      (all_map (RowFits IsSet IsTargetSet) target_entry (enumerate_from 0 server.target_sets) (all_numbered (λ side. (side.def.target ≡ server.name) × SetKeepsLimits world side.def × UnknownTarget world side) (λ s. RowFits IsSet IsTargetSet (target_entry s)) 256 0 server.target_sets (omega (arith, keeps.counts.1)) keeps.targets (λ m side lt k. (k.1.spelled.0, (small m lt, k.1.spelled)))))
+      (omega (arith, length-map (enumerate_from 0 server.target_sets) target_entry, length-enumerate_from 0 server.target_sets, keeps.counts.1))
 
   -- a row stands under a set's name if and only if the set stands there
   pub source_row_stands : (id : SetId) → is_some (table_from_rows set_spelling source_set_spelling (source_set_rows server) (set_spelling id)) ≡ is_some (source_side id server)

@@ -1,14 +1,14 @@
-use Rattle.std.proofs.Common.{◌≡◌, ◌<◌, ◌+◌, ℕ, List, ◌∷◌, [], ◌++◌, length, length-append, sym, ap, subst, ◌∙◌, arith}
+use Rattle.std.proofs.Common.{◌≡◌, ◌<◌, ◌+◌, ℕ, List, ◌∷◌, [], ◌++◌, length, length-append, sym, ap, subst, arith}
 use Rattle.std.specs.Prelude.{Option, Some, None, IfSome}
 use Rattle.std.proofs.lemmas.Result.{err_from_is_err_and}
 use Rattle.keep_core.specs.Contents.{Contents, IsNextKey, IsLastKey}
-use Rattle.site_store.specs.Views.{names, sees}
+use Rattle.site_store.specs.Views.{sees}
 use Rattle.site_store.specs.Records.{after_key}
-use Rattle.site_store.specs.Calls.{reads_of_one, Stays}
+use Rattle.site_store.specs.Calls.{reads_of_one}
 use Rattle.site_store.specs.Damage.{Damages}
-use Rattle.site_store.specs.laws.Counts.{at_most_itself, stays_then}
+use Rattle.site_store.specs.laws.Counts.{stays_then}
 use Rattle.stored_defs.specs.Reading.{row_limit, HasRecords, table_rules}
-use Rattle.stored_defs.proofs.Passing.{reads_more, reads_within, any_seen, if_seen, if_both_seen, stays_none, stays_sees, stays_within, no_memory}
+use Rattle.stored_defs.specs.laws.Passing.{reads_more, reads_within, any_seen, if_seen, if_both_seen, stays_none, stays_sees, stays_within, no_memory}
 use Rattle.stored_defs.proofs.ReadingRows.{HasReadTo, reads_start, reads_on, reads_last, reads_full, reads_fail}
 use Rattle.stored_defs.proofs.reading.read_records.Goals as goal
 

@@ -1,16 +1,18 @@
--- Calls that change nothing, one after another.
+-- Calls that change nothing, one after another: proofs, and nothing to believe.
 use Rattle.std.proofs.Common.{◌≡◌, ℕ, ◌+◌, ◌≤◌, Bool, true, false, cond, List, get_or, refl, ap, ◌∙◌, arith}
 use Rattle.std.specs.Prelude.{◌&&◌, ◌==◌, Option, Some, None, IfSome}
 use Rattle.repl_types.specs.Area.{same_area}
 use Rattle.repl_types.specs.declared.area.Area.{Area}
+use Rattle.repl_types.specs.declared.area.Area.TheVariants as areas
 use Rattle.repl_types.specs.declared.status.DamageCause.{DamageCause}
 use Rattle.faults.specs.declared.fault.Fault.TheVariants as faults
 use Rattle.keep_core.specs.Contents.{Contents}
 use Rattle.keep_core.specs.Kept.{Kept, seen_of}
 use Rattle.site_store.specs.declared.sites.Sites.{Sites}
 use Rattle.site_store.specs.Servers.{AllClosed}
-use Rattle.site_store.specs.Views.{held, work, sees}
-use Rattle.site_store.specs.Calls.{Bounds, both, only, reads_of_one, Stays, Fails}
+use Rattle.site_store.specs.Views.{work, sees}
+use Rattle.site_store.specs.Calls.{Bounds, both, reads_of_one, Stays, Fails}
+use Rattle.stored_defs.specs.Known.{in_defs}
 use Rattle.site_store.specs.laws.Counts.{IsAtMost, passes_none, passes_within}
 
 -- reads of one area of one server add up
@@ -67,3 +69,37 @@ module _ {K : Type 0} (kept : K → Kept) where
     closes = record { passes = stays.passes; held = stays.held; closed = stays_closed s0 s1 x closed stays };
     blames = tt;
   }
+
+-- reads of the area Defs add up
+pub defs_more : (m n k : ℕ) → m + n ≤ k → IsAtMost (both (in_defs m) (in_defs n)) (in_defs k)
+defs_more m n k le = record { reads = λ q b. pick (same_area areas.Defs b); writes = λ q b. omega arith }
+  where
+    pick : (t : Bool) → cond t m 0 + cond t n 0 ≤ cond t k 0
+    pick true = le
+    pick false = omega arith
+
+-- and are within more of them
+pub defs_within : (m k : ℕ) → m ≤ k → IsAtMost (in_defs m) (in_defs k)
+defs_within m k le = record { reads = λ q b. pick (same_area areas.Defs b); writes = λ q b. omega arith }
+  where
+    pick : (t : Bool) → cond t m 0 ≤ cond t k 0
+    pick true = le
+    pick false = omega arith
+
+-- reads at one server are within reads at every server
+pub one_in_defs : (m s : ℕ) → IsAtMost (reads_of_one m s areas.Defs) (in_defs m)
+one_in_defs m s = record { reads = λ q b. pick (same_area areas.Defs b) (s == q); writes = λ q b. omega arith }
+  where
+    pick : (t u : Bool) → cond (t && u) m 0 ≤ cond t m 0
+    pick true true = omega arith
+    pick true false = omega arith
+    pick false u = omega arith
+
+-- and within more of them
+pub reads_within_defs : (m k s : ℕ) → m ≤ k → IsAtMost (reads_of_one m s areas.Defs) (in_defs k)
+reads_within_defs m k s le = record { reads = λ q b. pick (same_area areas.Defs b) (s == q); writes = λ q b. omega arith }
+  where
+    pick : (t u : Bool) → cond (t && u) m 0 ≤ cond t k 0
+    pick true true = le
+    pick true false = omega arith
+    pick false u = omega arith
