@@ -1,17 +1,17 @@
 -- What a script has left after one more line was read.
-use Rattle.std.proofs.Common.{◌≡◌, ◌≤◌, ◌<◌, ◌+◌, ◌++◌, ◌∷◌, [], ℕ, List, Option, Some, None, true, false, length, take, drop, refl, sym, ap, ap₂, subst, ◌∙◌, arith, add-one, Bool}
+use Rattle.std.proofs.Common.{◌≡◌, ◌≤◌, ◌<◌, ◌+◌, ◌++◌, ◌∷◌, [], ℕ, List, Option, Some, None, true, false, length, take, refl, sym, ap, ap₂, subst, ◌∙◌, arith, add-one, Bool}
 use Rattle.std.proofs.Math.Seq.{take-nil}
 use Rattle.std.proofs.lemmas.Bool.Decides.{nat_tests}
 use Rattle.std.specs.Prelude.{nat_lt, if◌then◌else◌, is_some}
-use Rattle.std.specs.Option.{option_map, option_to_list, IfSome}
+use Rattle.std.specs.Option.{option_map, option_to_list}
 use Rattle.std.specs.Str.Lines.{lines}
 use Rattle.line_input.specs.Limits.{line_limit}
 use Rattle.line_input.specs.Input.{kept_limit, ReadsLine}
-use Rattle.line_input.specs.declared.input.Next.TheVariants.{End, Line, LongLine}
+use Rattle.line_input.specs.declared.input.Next.TheVariants.{Line, LongLine}
 use Rattle.script_lines.specs.Lines.{ScriptLine, long_body, long_command, comment_mark, body_mark, begins_with, short_line, long_line, script_line, script_from}
-use Rattle.line_input.specs.Input.{left_of, total_of, budget, NothingAfterEnd}
+use Rattle.line_input.specs.Input.{left_of, budget}
 use Rattle.line_input.specs.declared.input.Input.{Input}
-use Rattle.script_lines.specs.Script.{line_of, line_number, line_text, next_kind, lines_left, total_left, pending, HasOneSource}
+use Rattle.script_lines.specs.Script.{line_of, line_number, line_text, next_kind, lines_left, pending}
 use Rattle.script_lines.specs.declared.script.Script.{Script}
 use Rattle.script_lines.specs.declared.kind.LineKind.{LineKind}
 

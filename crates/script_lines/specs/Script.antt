@@ -1,10 +1,10 @@
 -- What a script that is read has left, and what its reader keeps.
-use Rattle.std.specs.Prelude.{◌≡◌, ℕ, ◌+◌, ◌≤◌, ◌<◌, if◌then◌else◌, List, [], ◌∷◌, ◌++◌, length, take, drop, Option, Some, None, is_some}
+use Rattle.std.specs.Prelude.{◌≡◌, ℕ, ◌+◌, ◌<◌, if◌then◌else◌, List, ◌++◌, length, take, drop, Option, is_some}
 use Rattle.std.specs.Option.{option_map, option_to_list}
 use Rattle.std.specs.Str.Lines.{lines}
 use Rattle.line_input.specs.Limits.{line_limit}
 use Rattle.line_input.specs.Input.{left_of, total_of, budget, kept_limit, NothingAfterEnd}
-use Rattle.script_lines.specs.Lines.{ScriptLine, command, body, long_command, long_body, script_line, script_from}
+use Rattle.script_lines.specs.Lines.{ScriptLine, command, body, long_command, long_body, script_from}
 use Rattle.script_lines.specs.declared.kind.LineKind.{LineKind}
 use Rattle.script_lines.specs.declared.kind.LineKind.TheVariants as kinds
 use Rattle.script_lines.specs.declared.script.Script.{Script}

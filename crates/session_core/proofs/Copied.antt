@@ -1,8 +1,7 @@
 -- A run of `copy` as a run that only writes.
-use Rattle.std.proofs.Common.{◌≡◌, ℕ, List, [], ◌∷◌, ◌++◌, refl, sym, ap, subst, ◌∙◌, append_assoc, map, true, false}
+use Rattle.std.proofs.Common.{◌≡◌, ℕ, List, [], ◌∷◌, ◌++◌, refl, sym, ap, subst, ◌∙◌, map}
 use Rattle.std.specs.Prelude.{Option, Some, None, is_some}
 use Rattle.std.specs.Option.{IfSome}
-use Rattle.std.specs.List.{flat_map}
 use Rattle.keep_core.specs.Contents.{Contents}
 use Rattle.keep_core.specs.Revealed.{Takes, TakesPrefix}
 use Rattle.repl_model.specs.Copies.{copy_at}
@@ -10,11 +9,11 @@ use Rattle.repl_model.specs.Units.{last_commit}
 use Rattle.repl_model.specs.World.{World}
 use Rattle.run_core.specs.Runs.{Event, writes, refuses, lines_of, is_refused, Went, Stopped}
 use Rattle.run_core.specs.laws.Quiet.{IsQuiet, went_quiet, stopped_quiet}
-use Rattle.copy_lists.specs.Feed.{Feed, feed_of}
+use Rattle.copy_lists.specs.Feed.{feed_of}
 use Rattle.copy_lists.specs.Items.{items_def}
 use Rattle.copy_lists.specs.Replies.{rows_lines, refusal_lines, joined_lines, text_of}
 use Rattle.copy_lists.specs.declared.refused.Refused.{Refused}
-use Rattle.session_core.specs.Copying.{feed_events, copy_events}
+use Rattle.session_core.specs.Copying.{copy_events}
 
 -- some lines and then those of refusals
 abbrev said : List (List ℕ) → List (List ℕ) → List (Event World)

@@ -1,5 +1,5 @@
 -- How a run of a script goes on, line by line.
-use Rattle.std.proofs.Common.{◌≡◌, ℕ, List, [], ◌∷◌, ◌++◌, refl, sym, ap, ap₂, subst, ◌∙◌, Bool, true, false}
+use Rattle.std.proofs.Common.{◌≡◌, ℕ, List, [], ◌∷◌, ◌++◌, refl, sym, ap, ap₂, subst, ◌∙◌, Bool, false}
 use Rattle.std.specs.Prelude.{Option, Some, None, ◌||◌}
 use Rattle.std.specs.Option.{option_map, option_map_or, IfSome}
 use Rattle.repl_types.specs.declared.refusal.Refusal.{Refusal}
@@ -8,7 +8,7 @@ use Rattle.keep_core.specs.Contents.{Contents}
 use Rattle.keep_core.specs.Revealed.{Takes, TakesPrefix}
 use Rattle.keep_core.specs.laws.Revealed.{takes_nothing}
 use Rattle.repl_model.specs.World.{World}
-use Rattle.run_core.specs.Runs.{Event, last_world, lines_of, is_refused, Went, Stopped, Going}
+use Rattle.run_core.specs.Runs.{last_world, lines_of, is_refused, Went, Stopped}
 use Rattle.run_core.specs.laws.Runs.{refused_append, stopped_before, goes_on, done_after, stops_in, going_end, no_part}
 use Rattle.run_core.specs.laws.Quiet.{IsQuiet, went_quiet, stopped_quiet}
 use Rattle.script_lines.specs.Lines.{ScriptLine, script_of}

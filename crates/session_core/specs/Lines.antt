@@ -3,7 +3,7 @@ use Rattle.std.specs.Prelude.{◌≡◌, ℕ, Bool, List, Option, Some, None}
 use Rattle.keep_core.specs.Contents.{Contents}
 use Rattle.repl_model.specs.World.{World}
 use Rattle.run_core.specs.Runs.{Going, is_refused}
-use Rattle.script_lines.specs.Lines.{ScriptLine, script_of}
+use Rattle.script_lines.specs.Lines.{ScriptLine}
 use Rattle.session_core.specs.Talk.{script_events, talk}
 
 -- Some lines of a script were taken, and these are left: what happened is what a run does at them, and

@@ -91,11 +91,7 @@ fn damaged_line(alloc: Global, name: &str, area: &str) -> Result<Option<String>,
 
 /// The line on standard error of a run at servers of these names. A run to the end of its input has
 /// none.
-fn status_line(
-    alloc: Global,
-    status: &Status,
-    names: &[Name],
-) -> Result<Option<String>, AllocError>
+fn status_line(alloc: Global, status: &Status, names: &[Name]) -> Result<Option<String>, AllocError>
     ensures { IfOk result (λ line. option_map string_bytes line
         ≡ status_line_of names.now status.now) }
 {

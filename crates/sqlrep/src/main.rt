@@ -11,11 +11,13 @@
 #![tactic(auto)]
 
 ghost use Rattle.std.specs.Prelude.{◌≡◌, ◌≢◌, ◌⊎◌, drop, map, string_bytes, IfOk, IfErr};
-ghost use Rattle.std.specs.Prelude.{IsOk, IsTrue};
+ghost use Rattle.std.specs.Prelude.{IsOk, IsTrue, IfSome, Some};
+ghost use Rattle.std.specs.Option.{option_map};
 ghost use Rattle.run_words.specs.declared.opening.Opening.{Opening};
 ghost use Rattle.run_words.specs.Openings.{AreWordsOf};
 ghost use Rattle.sqlrep.specs.Asked.{asks_text, asks_nothing};
-ghost use Rattle.sqlrep.specs.Endings.{usage_code};
+ghost use Rattle.sqlrep.specs.Endings.{usage_code, cannot_open_line};
+ghost use Rattle.sqlrep.specs.Opened.{on_disk as on_disk_lem};
 
 mod ending;
 mod help;
@@ -94,13 +96,11 @@ fn run_help(rt: &HostRuntime, words: &[String]) -> Status
 
 /// Runs what the words of a command line ask for, at the servers that it needs. A server that isn't
 /// in memory can't be opened yet.
-fn run_opening(
-    rt: &HostRuntime,
-    words: &[String],
-    opening: &Opening,
-) -> Result<Ending, AllocError>
+fn run_opening(rt: &HostRuntime, words: &[String], opening: &Opening) -> Result<Ending, AllocError>
     requires { AreWordsOf (map string_bytes (drop 1 words.now)) opening.now }
-    ensures { IfOk result (λ ending. ending.code ≢ usage_code) }
+    ensures runs { IfOk result (λ ending. ending.code ≢ usage_code) }
+    ensures on_disk { IfSome (on_disk_lem opening.now) (λ name. IfOk result (λ ending.
+        option_map string_bytes ending.line ≡ Some (cannot_open_line name))) }
 {
     let alloc = rt.alloc();
     if let Some(name) = on_disk(opening) {

@@ -265,7 +265,10 @@ fn a_failed_read_ends_a_script(rt: HostRuntime) -> Result<(), Fail> {
     let mut input = source_of(alloc, TWO_REFUSED)?;
     input.fail_at(List::from_vec(vec![in alloc; 2]?));
     let mut output = BytesSink::new(alloc);
-    assert_eq!(rt; run_script(alloc, &mut input, &mut output)?, Status::InputFault);
+    assert_eq!(rt;
+        run_script(alloc, &mut input, &mut output)?,
+        Status::InputFault
+    );
     assert_eq!(rt; output.bytes(), TWO_REFUSALS);
     Ok(())
 }

@@ -1,12 +1,12 @@
 -- Laws of runs that only write: proofs, and nothing to believe.
-use Rattle.std.proofs.Common.{◌≡◌, ◌⊎◌, inl, inr, ℕ, List, [], ◌∷◌, ◌++◌, refl, sym, ap, subst, ◌∙◌, append_assoc, Bool, true, false, map}
+use Rattle.std.proofs.Common.{◌≡◌, ◌⊎◌, inl, inr, ℕ, List, [], ◌∷◌, ◌++◌, refl, sym, ap, subst, ◌∙◌, append_assoc}
 use Rattle.std.specs.Prelude.{Option, Some, None}
 use Rattle.std.specs.Option.{option_map}
 use Rattle.keep_core.specs.Contents.{Contents}
 use Rattle.keep_core.specs.Revealed.{Takes, TakesPrefix}
-use Rattle.keep_core.specs.laws.Revealed.{takes_nothing, takes_both}
-use Rattle.run_core.specs.Runs.{Event, commits, writes, refuses, last_world, lines_of, IsPartOf, Went, Stopped}
-use Rattle.run_core.specs.laws.Runs.{stopped_before, stopped_in_line, stopped_in_refusal}
+use Rattle.keep_core.specs.laws.Revealed.{takes_both}
+use Rattle.run_core.specs.Runs.{Event, commits, writes, refuses, last_world, lines_of, Went, Stopped}
+use Rattle.run_core.specs.laws.Runs.{stopped_in_line, stopped_in_refusal}
 
 -- nothing is committed
 abbrev pub IsQuiet : {W : Type 0} → List (Event W) → Type 0

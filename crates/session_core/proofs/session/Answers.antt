@@ -1,4 +1,4 @@
-use Rattle.std.proofs.Common.{◌≡◌, sym, subst, rules}
+use Rattle.std.proofs.Common.{◌≡◌, sym, subst}
 use Rattle.std.specs.Option.{IfSome}
 use Rattle.run_core.specs.Runs.{Stopped}
 use Rattle.run_words.specs.declared.opening.Opening.{Opening}

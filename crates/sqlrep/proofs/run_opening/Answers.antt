@@ -1,6 +1,5 @@
-use Rattle.std.proofs.Common.{◌≡◌, ◌∙◌, sym, subst, List, ℕ}
+use Rattle.std.proofs.Common.{◌∙◌, sym, subst}
 use Rattle.site_store.specs.Servers.{AreServers}
-use Rattle.session_core.specs.Session.{server_names}
 use Rattle.sqlrep.proofs.Needed.{are_needed}
 use Rattle.sqlrep.proofs.run_opening.Goals as goal
 

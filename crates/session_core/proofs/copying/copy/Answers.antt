@@ -1,4 +1,3 @@
-use Rattle.std.proofs.Common.{◌∙◌}
 use Rattle.session_core.proofs.Copied.{ran_copy, stopped_copy}
 use Rattle.session_core.proofs.Exits.{on_err}
 use Rattle.session_core.proofs.copying.copy.Goals as goal

@@ -1,4 +1,3 @@
-use Rattle.std.proofs.Common.{sym, subst, rules}
 use Rattle.session_core.proofs.Exits.{err_also, ok_also}
 use Rattle.session_core.proofs.opening.run_opening.Goals as goal
 

@@ -1,6 +1,5 @@
-use Rattle.std.proofs.Common.{◌≡◌, sym, refl, true, false, rules}
-use Rattle.std.specs.Str.{is_utf8}
-use Rattle.std.proofs.lemmas.Str.{IsUtf8-from_is_utf8, is_utf8-from_IsUtf8}
+use Rattle.std.proofs.Common.{refl, rules}
+use Rattle.std.proofs.lemmas.Str.{is_utf8-from_IsUtf8}
 use Rattle.session_core.proofs.Names.{not_text}
 use Rattle.session_core.proofs.script.command_refusal.Goals as goal
 

@@ -1,10 +1,10 @@
-use Rattle.std.proofs.Common.{◌≡◌, ◌∙◌, ◌≤◌, ◌++◌, ◌∷◌, [], ℕ, List, Ok, Some, sym, ap, subst, arith}
+use Rattle.std.proofs.Common.{◌≡◌, ◌∙◌, ◌++◌, ◌∷◌, [], ℕ, List, Ok, sym, ap, subst, arith}
 use Rattle.std.specs.Prelude.{Option}
 use Rattle.std.specs.Option.{option_map}
 use Rattle.keep_core.specs.Contents.{Contents}
 use Rattle.repl_model.specs.World.{World}
 use Rattle.script_lines.specs.Lines.{ScriptLine}
-use Rattle.script_lines.specs.Script.{lines_left, line_number, line_text, next_kind, line_of}
+use Rattle.script_lines.specs.Script.{lines_left, line_of}
 use Rattle.world_store.specs.Stands.{Stands}
 use Rattle.session_core.specs.Lines.{GoesOn}
 use Rattle.session_core.specs.Talk.{skips_after}

@@ -1,4 +1,4 @@
-use Rattle.std.proofs.Common.{◌≡◌, List, ℕ, [], get_or, codes, sym, ap, ◌∙◌, rules, length}
+use Rattle.std.proofs.Common.{◌≡◌, [], get_or, codes, sym, ◌∙◌, rules, length}
 use Rattle.std.proofs.lemmas.Slice.Eq.{bytes_eq-Decides}
 use Rattle.site_store.specs.Views.{names}
 use Rattle.session_core.proofs.Names.{two_names, not_two_names, same_bytes}

@@ -1,4 +1,4 @@
-use Rattle.std.proofs.Common.{◌≡◌, ◌∙◌, ◌<◌, rules, refl, sym, length, arith}
+use Rattle.std.proofs.Common.{◌∙◌, ◌<◌, refl, sym, length, arith}
 use Rattle.std.proofs.lemmas.Bool.{false≢true}
 use Rattle.site_store.specs.Views.{names}
 use Rattle.session_core.proofs.Names.{same_names, other_names}

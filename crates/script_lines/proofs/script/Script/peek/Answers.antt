@@ -1,7 +1,7 @@
-use Rattle.std.proofs.Common.{◌≡◌, ◌∙◌, ◌+◌, ◌≤◌, ◌<◌, None, Some, sym, ap, subst, arith, rules}
+use Rattle.std.proofs.Common.{◌≡◌, ◌∙◌, ◌<◌, None, sym, ap, subst, arith, rules}
 use Rattle.line_input.specs.Input.{left_of, total_of, budget, NothingAfterEnd}
 use Rattle.line_input.specs.declared.input.Input.{Input}
-use Rattle.script_lines.specs.Script.{next_kind, pending}
+use Rattle.script_lines.specs.Script.{next_kind}
 use Rattle.script_lines.proofs.Left.{left_if_none, waits_line, waits_long, pending_falls}
 use Rattle.script_lines.proofs.script.Script.peek.Goals as goal
 
