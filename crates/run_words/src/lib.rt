@@ -4,8 +4,9 @@
 //! a word `NAME=PATH`. All other words are Usage. `specs/Openings.antt` says which words are those
 //! of an opening, and `one_opening_of_words` that they are those of no other.
 //!
-//! It stands on `repl_types`, which has names and texts, and on `repl_commands` for the error. No
-//! crate stands on it yet: the program takes only the word `copy`.
+//! It stands on `repl_types`, which has names and texts, and on `repl_commands` for the error.
+//! Above it, `session_core` asks what the words ask for, and `sqlrep` opens the servers that they
+//! name.
 //!
 //! For example, the words `hq=:map:` and `shop=shop.db` ask for a server `hq` in memory and a
 //! server `shop` that is kept in `shop.db`. The words `hq=a` and `shop=a` are Usage, since two
