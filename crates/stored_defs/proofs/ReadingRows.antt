@@ -3,7 +3,7 @@ use Rattle.std.proofs.Common.{◌≡◌, ℕ, ◌<◌, List, [], ◌∷◌, ◌+
 use Rattle.std.specs.Prelude.{map, Option, Some, None}
 use Rattle.std.proofs.lemmas.List.{nil_from_length, length-map}
 use Rattle.repl_types.specs.declared.area.Area.{Area}
-use Rattle.repl_types.specs.laws.Lists.{filter_none}
+use Rattle.repl_types.specs.laws.Lists.{all_append, filter_none}
 use Rattle.faults.specs.declared.fault.Fault.{Fault}
 use Rattle.keep_core.specs.Contents.{Contents, Table, IsNextKey, IsLastKey}
 use Rattle.keep_core.specs.Kept.{Kept}
@@ -22,7 +22,7 @@ use Rattle.site_store.specs.Damage.{Damages}
 use Rattle.site_store.specs.laws.Counts.{at_most_itself}
 use Rattle.site_store.specs.laws.Damage.{fails_after}
 use Rattle.site_store.specs.laws.Steps.{next_fails}
-use Rattle.stored_defs.specs.Reading.{row_limit, RowFits, AreRows, HasRecords, table_rules}
+use Rattle.stored_defs.specs.Reading.{row_limit, RowFits, AreRows, HasRecords, AllStand, table_rules}
 use Rattle.stored_defs.specs.laws.Passing.{reads_more}
 
 module _ {A X : Type 0} (key_fits : A → Type 0) (key : A → List ℕ) (fits : X → Type 0) (spelling : X → List ℕ) (a : Area) (t : ℕ) where
@@ -69,3 +69,7 @@ module _ {A X : Type 0} (key_fits : A → Type 0) (key : A → List ℕ) (fits :
       let rules = table_rules key_fits key fits spelling a t in
       fails_after kept (λ s. s ≡ server) rules s0 s1 s2 (reads_of_one n server a) (reads_of_one 1 server a) (reads_of_one row_limit server a) e (reads_more n 1 row_limit server a (omega arith)) stays
       (next_fails kept key_fits key fits spelling (λ s. s ≡ server) rules s1 s2 server a t after (reads_of_one 1 server a) e refl (λ bytes h. h refl refl) (λ bytes h. h refl refl) (at_most_itself (reads_of_one 1 server a)) f)
+
+-- one more record that stands in the table was read
+pub stands_on_key : {X : Type 0} (spelling : X → List ℕ) (a : Area) (t : ℕ) (c : Contents) (records : List X) (after k : List ℕ) (x : X) → IsNextKey (c a t) after k (spelling x) → AllStand spelling a t records c → AllStand spelling a t (records ++ x ∷ []) c
+stands_on_key spelling a t c records after k x next stand = all_append (λ y. (q : List ℕ) × (c a t q ≡ Some (spelling y))) records (x ∷ []) stand ((k, next.has), tt)

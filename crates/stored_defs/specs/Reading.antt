@@ -1,5 +1,5 @@
 -- What reading all records of a table gives, and what shows that it is damaged.
-use Rattle.std.specs.Prelude.{◌≡◌, ℕ, ◌<◌, ◌≤◌, List, length, map}
+use Rattle.std.specs.Prelude.{◌≡◌, ℕ, ◌<◌, ◌≤◌, List, Some, length, map}
 use Rattle.std.specs.List.{AllByRecursion}
 use Rattle.repl_types.specs.declared.area.Area.{Area}
 use Rattle.keep_core.specs.Contents.{Contents}
@@ -29,6 +29,10 @@ pub record AreRows {A X : Type 0} (key_fits : A → Type 0) (key : A → List �
 -- if a table of these contents is made of rows, these are their records, in order
 abbrev pub HasRecords : {A X : Type 0} → (A → Type 0) → (A → List ℕ) → (X → Type 0) → (X → List ℕ) → Area → ℕ → List X → Contents → Type 0
 HasRecords {A} {X} key_fits key fits spelling a t records c = (rows : List (A × X)) → AreRows key_fits key fits rows → c a t ≡ table_from_rows key spelling rows → records ≡ map (λ row. row.1) rows
+
+-- each record stands in the table, under some key
+abbrev pub AllStand : {X : Type 0} → (X → List ℕ) → Area → ℕ → List X → Contents → Type 0
+AllStand spelling a t records c = AllByRecursion (λ x. (k : List ℕ) × (c a t k ≡ Some (spelling x))) records
 
 -- one table has only keys and records of its kind; no record is called for, and each fits
 abbrev pub table_rules : {A X : Type 0} → (A → Type 0) → (A → List ℕ) → (X → Type 0) → (X → List ℕ) → Area → ℕ → Rules

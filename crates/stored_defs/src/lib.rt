@@ -7,6 +7,8 @@
 //! `specs/laws/Rows.antt` shows of these rows that they are in the order of their keys, and that
 //! each has a spelling.
 //!
+//! `read_records` reads all records of one table of definitions, of any kind.
+//!
 //! For example, a set that stands at its target and not at its source isn't known.
 #![tactic(auto)]
 
@@ -14,6 +16,7 @@ mod known_defs;
 mod reading;
 
 pub use known_defs::known;
+pub use reading::read_records;
 
 #[cfg(test)]
 mod tests;

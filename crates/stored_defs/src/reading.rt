@@ -5,7 +5,8 @@ ghost use Rattle.site_store.specs.Servers.{AllClosed};
 ghost use Rattle.site_store.specs.Views.{names, work, sees};
 ghost use Rattle.site_store.specs.Calls.{reads_of_one, Stays, Fails};
 ghost use Rattle.site_store.specs.Damage.{Damages};
-ghost use Rattle.stored_defs.specs.Reading.{row_limit, HasRecords, table_rules};
+ghost use Rattle.stored_defs.specs.Reading.{row_limit, HasRecords, AllStand};
+ghost use Rattle.stored_defs.specs.Reading.{table_rules};
 
 use faults::Fault;
 use keep_core::Keeper;
@@ -18,9 +19,9 @@ use std::alloc::Global;
 /// side.
 const ROW_LIMIT: usize = 256;
 
-/// The records of a table, in the order of their keys. No more than `ROW_LIMIT` are read: a server
-/// that stands for a world has no more.
-pub(crate) fn read_records<K: Keeper, R: Stored>(
+/// The records of a table of definitions, in the order of their keys. No more than 256 are read: a
+/// server that stands for a world has no more.
+pub fn read_records<K: Keeper, R: Stored>(
     sites: &mut Sites<K>,
     alloc: Global,
     server: u32,
@@ -33,6 +34,8 @@ pub(crate) fn read_records<K: Keeper, R: Stored>(
     ensures records { IfOk result (λ records. IfSome (sees K.kept sites.old server)
         (HasRecords R.Key.fits R.Key.spelling R.fits R.spelling R.AREA (R.Table.number table)
         records)) }
+    ensures stand { IfOk result (λ records. IfSome (sees K.kept sites.old server)
+        (AllStand R.spelling R.AREA (R.Table.number table) records)) }
     ensures few { IfOk result (λ records. length records ≤ row_limit) }
     ensures fault { let rules = table_rules R.Key.fits R.Key.spelling R.fits R.spelling R.AREA
         (R.Table.number table) in

@@ -91,12 +91,12 @@ none_named (s ∷ ss) name none = pick (bytes_eq name s.name) refl (none_named s
 -- ---- what a server holds
 
 -- the tables of definitions that a server holds
-holds_defs : (w : World) (server : Server) (c : Contents) → Holds w server c → (t : ℕ) → c areas.Defs t ≡ definition_table server t
+pub holds_defs : (w : World) (server : Server) (c : Contents) → Holds w server c → (t : ℕ) → c areas.Defs t ≡ definition_table server t
 unfolding tables
 holds_defs w server c holds t = holds areas.Defs t
 
 -- what a server holds are keys and values of its tables
-holds_spelt : (w : World) (server : Server) (c : Contents) → ServerKeepsRules w server → Holds w server c → IsSpelt rules c
+pub holds_spelt : (w : World) (server : Server) (c : Contents) → ServerKeepsRules w server → Holds w server c → IsSpelt rules c
 holds_spelt w server c keeps holds areas.Defs zero k v has = rows_spelt rules areas.Defs 0 short_text defined_table_spelling (table_rows server) k v (all_weaker (RowFits IsName IsDefinedTable) (λ r. rules.is_key areas.Defs 0 (short_text r.0) × rules.is_value areas.Defs 0 (defined_table_spelling r.1)) (table_rows server) (λ r fit. ((r.0, fit.0, refl), (r.1, fit.1, refl))) (table_rows_are w server keeps).fit) (sym (ap (λ (u : Table). u k) (holds_defs w server c holds 0)) ∙ has)
 holds_spelt w server c keeps holds areas.Defs (suc zero) k v has = rows_spelt rules areas.Defs 1 short_text defined_registration_spelling (registration_rows server) k v (all_weaker (RowFits IsName IsDefinedRegistration) (λ r. rules.is_key areas.Defs 1 (short_text r.0) × rules.is_value areas.Defs 1 (defined_registration_spelling r.1)) (registration_rows server) (λ r fit. ((r.0, fit.0, refl), (r.1, fit.1, refl))) (registration_rows_are w server keeps).fit) (sym (ap (λ (u : Table). u k) (holds_defs w server c holds 1)) ∙ has)
 holds_spelt w server c keeps holds areas.Defs (suc (suc zero)) k v has = rows_spelt rules areas.Defs 2 set_spelling source_set_spelling (source_set_rows server) k v (all_weaker (RowFits IsSet IsSourceSet) (λ r. rules.is_key areas.Defs 2 (set_spelling r.0) × rules.is_value areas.Defs 2 (source_set_spelling r.1)) (source_set_rows server) (λ r fit. ((r.0, fit.0, refl), (r.1, fit.1, refl))) (source_rows_are w server keeps).fit) (sym (ap (λ (u : Table). u k) (holds_defs w server c holds 2)) ∙ has)

@@ -7,15 +7,16 @@ use Rattle.site_store.specs.Records.{after_key}
 use Rattle.site_store.specs.Calls.{reads_of_one}
 use Rattle.site_store.specs.Damage.{Damages}
 use Rattle.site_store.specs.laws.Counts.{stays_then}
-use Rattle.stored_defs.specs.Reading.{row_limit, HasRecords, table_rules}
+use Rattle.stored_defs.specs.Reading.{row_limit, HasRecords, AllStand, table_rules}
 use Rattle.stored_defs.specs.laws.Passing.{reads_more, reads_within, any_seen, if_seen, if_both_seen, stays_none, stays_sees, stays_within, no_memory}
-use Rattle.stored_defs.proofs.ReadingRows.{HasReadTo, reads_start, reads_on, reads_last, reads_full, reads_fail}
+use Rattle.stored_defs.proofs.ReadingRows.{HasReadTo, reads_start, reads_on, reads_last, reads_full, reads_fail, stands_on_key}
 use Rattle.stored_defs.proofs.reading.read_records.Goals as goal
 
 pub loop-read-init : goal.loop-read-init
 loop-read-init g c = record {
   count = ap length c.new-records.ensures;
   stays = stays_none g.K.Keeper.kept c.args.sites.now (reads_of_one 0 c.args.server g.R.Stored.AREA);
+  stand = rw c.new-records.ensures (if_seen (sees g.K.Keeper.kept c.args.sites.now c.args.server) (λ _. Unit {0}) (AllStand g.R.Part.spelling g.R.Stored.AREA (g.R.Table.TableNumber.number c.args.table) []) (λ d _. tt) (any_seen (sees g.K.Keeper.kept c.args.sites.now c.args.server)));
   read = rw c.new-records.ensures (if_seen (sees g.K.Keeper.kept c.args.sites.now c.args.server) (λ _. Unit {0}) (HasReadTo g.R.Key.Key.fits g.R.Key.Key.spelling g.R.Part.fits g.R.Part.spelling g.R.Stored.AREA (g.R.Table.TableNumber.number c.args.table) None []) (λ d _. reads_start g.R.Key.Key.fits g.R.Key.Key.spelling g.R.Part.fits g.R.Part.spelling g.R.Stored.AREA (g.R.Table.TableNumber.number c.args.table) d) (any_seen (sees g.K.Keeper.kept c.args.sites.now c.args.server)));
 }
 
@@ -54,6 +55,14 @@ pub loop-read-preserved : goal.loop-read-preserved
 loop-read-preserved g c = record {
   count = omega (arith, ap length c.in_ok-push.ensures.items, length-append c.loop-read.records (c.in-Some.record ∷ []), c.loop-read.invariant.count);
   stays = stays_then g.K.Keeper.kept c.args.sites.now c.loop-read.sites c.next.new.self (reads_of_one c.loop-read._read c.args.server g.R.Stored.AREA) (reads_of_one 1 c.args.server g.R.Stored.AREA) (reads_of_one (c.loop-read._read + 1) c.args.server g.R.Stored.AREA) c.loop-read.invariant.stays c.in_ok-row.ensures.ok.stays (reads_more c.loop-read._read 1 (c.loop-read._read + 1) c.args.server g.R.Stored.AREA (omega arith));
+  stand =
+      let kept = g.K.Keeper.kept in
+      let t = g.R.Table.TableNumber.number c.args.table in
+      let saw = stays_sees kept c.args.sites.now c.loop-read.sites (reads_of_one c.loop-read._read c.args.server g.R.Stored.AREA) c.loop-read.invariant.stays c.args.server in
+      rw c.in_ok-push.ensures.items (if_both_seen (sees kept c.args.sites.now c.args.server) (λ d. IsNextKey (d g.R.Stored.AREA t) (after_key g.R.Key.Key.spelling c.loop-read.last) (g.R.Key.Key.spelling c.in-Some.key) (g.R.Part.spelling c.in-Some.record)) (AllStand g.R.Part.spelling g.R.Stored.AREA t c.loop-read.records) (AllStand g.R.Part.spelling g.R.Stored.AREA t (c.loop-read.records ++ c.in-Some.record ∷ []))
+      (λ d next stand. stands_on_key g.R.Part.spelling g.R.Stored.AREA t d c.loop-read.records (after_key g.R.Key.Key.spelling c.loop-read.last) (g.R.Key.Key.spelling c.in-Some.key) c.in-Some.record next stand)
+      (subst (λ (o : Option Contents). IfSome o (λ d. IsNextKey (d g.R.Stored.AREA t) (after_key g.R.Key.Key.spelling c.loop-read.last) (g.R.Key.Key.spelling c.in-Some.key) (g.R.Part.spelling c.in-Some.record))) saw (rw (c.in-Some.is, c.as_ref.ensures.value) at c.in_ok-row.ensures.row))
+      c.loop-read.invariant.stand);
   read =
       let kept = g.K.Keeper.kept in
       let t = g.R.Table.TableNumber.number c.args.table in
