@@ -44,7 +44,7 @@ use Rattle.stored_defs.specs.laws.Rows.{text_is, text_itself, table_rows_are, re
 -- ---- lists
 
 -- what holds of all holds at each place
-all_at_place : {X : Type 0} (P : X → Type 0) (xs : List X) (n : ℕ) (d : X) → AllByRecursion P xs → n < length xs → P (get_or xs n d)
+pub all_at_place : {X : Type 0} (P : X → Type 0) (xs : List X) (n : ℕ) (d : X) → AllByRecursion P xs → n < length xs → P (get_or xs n d)
 all_at_place P [] n d all lt = absurd (omega arith)
 all_at_place P (x ∷ xs) zero d all lt = all.0
 all_at_place P (x ∷ xs) (suc n) d all lt = all_at_place P xs n d all.1 (omega arith)
