@@ -8,10 +8,8 @@ use Rattle.std.specs.Option.{option_map, option_map_or, option_or}
 use Rattle.repl_types.specs.Sizes.{time_limit}
 use Rattle.repl_types.specs.declared.area.Area.{Area}
 use Rattle.repl_types.specs.declared.area.Area.TheVariants as areas
-use Rattle.repl_types.specs.declared.status.DamageCause.{DamageCause}
 use Rattle.repl_types.specs.declared.status.DamageCause.TheVariants as causes
 use Rattle.repl_types.specs.declared.unit.Unit.{Unit as LogUnit}
-use Rattle.repl_types.specs.laws.Lists.{all_weaker}
 use Rattle.faults.specs.declared.fault.Fault.{Fault}
 use Rattle.keep_core.specs.Contents.{Contents, Table}
 use Rattle.keep_core.specs.Kept.{Kept}
@@ -21,7 +19,6 @@ use Rattle.repl_definitions.specs.declared.defined.DefinedRegistration.{DefinedR
 use Rattle.repl_definitions.specs.declared.set.SourceSet.{SourceSet}
 use Rattle.repl_definitions.specs.Defined.{defined_registration_spelling, IsDefinedRegistration}
 use Rattle.repl_definitions.specs.Sets.{source_set_spelling, IsSourceSet}
-use Rattle.repl_records.specs.declared.record_keys.Single.{Single}
 use Rattle.repl_records.specs.declared.source_side.Head.{Head}
 use Rattle.repl_records.specs.declared.capture.CaptureState.{CaptureState}
 use Rattle.repl_records.specs.declared.capture.RegState.{RegState}
@@ -35,7 +32,7 @@ use Rattle.reply_text.specs.declared.reply.Reply.TheVariants as replies
 use Rattle.reply_text.specs.Replies.{reply_line}
 use Rattle.reply_text.specs.Status.{registration_line, source_set_line}
 use Rattle.world_store.specs.DefinitionRows.{registration_rows, source_set_rows}
-use Rattle.repl_model.specs.Units.{units, last_time}
+use Rattle.repl_model.specs.Units.{units}
 use Rattle.repl_model.specs.Sound.{empty_server}
 use Rattle.repl_model.specs.SoundLogs.{LogIsSound}
 use Rattle.repl_model.specs.SoundDefinitions.{ServerKeepsRules}
@@ -56,7 +53,7 @@ use Rattle.stored_defs.specs.Known.{server_in}
 use Rattle.stored_defs.specs.Reading.{AllStand, HasRecords}
 use Rattle.stored_defs.specs.laws.Rows.{registration_rows_are, source_rows_are}
 use Rattle.stored_defs.specs.laws.Standing.{all_at_place, holds_defs, holds_spelt, keeps_at, read_is, same_count, seen_at}
-use Rattle.show_rows.specs.Rules.{rules, may_be_value, ShowsDamage}
+use Rattle.show_rows.specs.Rules.{rules, ShowsDamage}
 use Rattle.show_rows.specs.Status.{last_line, mark_of, registration_text, set_text, state_of, status_text, text_at}
 use Rattle.show_rows.proofs.Digits.{state_low, mark_low, head_low, capture_low, server_line_same}
 use Rattle.show_rows.proofs.Standing.{registration_none, registration_some, registration_called, set_none, set_some, set_called}

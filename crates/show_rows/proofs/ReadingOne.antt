@@ -1,5 +1,5 @@
 -- Reads of one server, one after another, and why one fails: proofs.
-use Rattle.std.proofs.Common.{◌≡◌, ℕ, ◌+◌, ◌<◌, ◌≤◌, Bool, true, false, cond, List, length, refl, sym, ap, subst, ◌∙◌, arith}
+use Rattle.std.proofs.Common.{◌≡◌, ℕ, ◌+◌, ◌<◌, ◌≤◌, Bool, true, false, cond, List, length, sym, subst, arith}
 use Rattle.std.specs.Prelude.{◌&&◌, ◌==◌, Option, Some, None, IfSome}
 use Rattle.repl_types.specs.Area.{same_area}
 use Rattle.repl_types.specs.declared.area.Area.{Area}
@@ -12,7 +12,7 @@ use Rattle.site_store.specs.declared.sites.Sites.{Sites}
 use Rattle.site_store.specs.Views.{names, sees}
 use Rattle.site_store.specs.Records.{Misspelt, MissesOrMisreads, IsMissing}
 use Rattle.site_store.specs.Calls.{Bounds, both, reads_of_one, AtServer, Stays, Fails}
-use Rattle.site_store.specs.Damage.{Rules, Shows, Damages}
+use Rattle.site_store.specs.Damage.{Shows, Damages}
 use Rattle.site_store.specs.laws.Counts.{IsAtMost}
 use Rattle.site_store.specs.laws.Damage.{misspelt_shows, fails_by, fails_within, fails_after}
 use Rattle.show_rows.specs.Rules.{reads_at, rules, ShowsDamage}

@@ -1,16 +1,14 @@
 -- What servers that stand for a world have of registrations and sets, and how far their logs are: proofs.
-use Rattle.std.proofs.Common.{◌≡◌, ℕ, zero, suc, ◌+◌, ◌<◌, ◌≤◌, ◌^◌, Bool, true, false, cond, List, [], ◌∷◌, ◌++◌, length, map, get_or, refl, sym, ap, subst, ◌∙◌, arith}
+use Rattle.std.proofs.Common.{◌≡◌, ℕ, ◌<◌, ◌^◌, Bool, true, false, cond, List, [], ◌∷◌, length, map, refl, sym, ap, subst, ◌∙◌, arith}
 use Rattle.std.specs.Prelude.{◌&&◌, ◌==◌, find, Option, Some, None, IfSome, slice_get}
-use Rattle.std.specs.List.{AllByRecursion, enumerate_from, filter_map, flat_map}
+use Rattle.std.specs.List.{enumerate_from, filter_map}
 use Rattle.std.specs.Option.{option_map, option_map_or, option_and_then, option_or}
 use Rattle.std.specs.Ordering.{is_eq, nat_cmp, ordering_then}
 use Rattle.std.specs.Str.{bytes_eq}
 use Rattle.std.specs.declared.cmp.Ordering.{Ordering}
 use Rattle.std.specs.declared.cmp.Ordering.TheVariants.{Less, Equal, Greater}
 use Rattle.repl_types.specs.Bytes.{bytes_cmp}
-use Rattle.repl_types.specs.declared.area.Area.TheVariants as areas
 use Rattle.repl_types.specs.declared.record.SetId.{SetId}
-use Rattle.keep_core.specs.Contents.{Contents, Table}
 use Rattle.row_codec.specs.Order.{name_cmp, set_cmp}
 use Rattle.row_codec.specs.Spelling.{Is32, IsName, IsSet, b32, short_text, set_spelling}
 use Rattle.row_codec.specs.Definitions.{registration_spelling}
@@ -25,7 +23,7 @@ use Rattle.repl_records.specs.declared.prune.SyncMark.{SyncMark}
 use Rattle.repl_records.specs.Capture.{registration_state_spelling}
 use Rattle.repl_records.specs.Prune.{mark_spelling}
 use Rattle.reply_text.specs.Status.{registration_line, source_set_line}
-use Rattle.repl_model.specs.Rules.{all_differ, RegistrationKeepsRules}
+use Rattle.repl_model.specs.Rules.{RegistrationKeepsRules}
 use Rattle.repl_model.specs.SoundDefinitions.{KeepsTable, ServerKeepsRules}
 use Rattle.repl_model.specs.World.{Registered, ServerTable, SourceSide, Server, World, same_set}
 use Rattle.std.proofs.lemmas.Bool.{eq-eqb}

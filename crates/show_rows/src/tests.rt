@@ -60,7 +60,11 @@ fn hold<K: Keeper>(
 }
 
 /// The server hq, with this keeper.
-fn server_hq(alloc: Global, keeper: MapKeeper) -> Result<Sites<MapKeeper>, Fail> {
+fn server_hq<K: Keeper>(alloc: Global, keeper: K) -> Result<Sites<K>, Fail>
+where
+    K: Drop,
+    requires { IsClosed (K.kept keeper) }
+{
     let mut list = List::new(alloc);
     list.push(Site::open_site(Name::new(alloc, "hq")?, keeper))?;
     Ok(Sites::new(list)?)
