@@ -54,6 +54,8 @@ rules_kept world name named = record {
   counts = (omega arith, omega arith);
   source_names = refl;
   target_names = refl;
+  source_members = refl;
+  replica_members = refl;
   origins = tt;
 }
 

@@ -159,6 +159,8 @@ hq_keeps_rules = record {
   counts = (omega arith, omega arith);
   source_names = refl;
   target_names = refl;
+  source_members = refl;
+  replica_members = refl;
   origins = (refl, (refl, (refl, tt)));
 }
 
@@ -175,6 +177,8 @@ shop_keeps_rules = record {
   counts = (omega arith, omega arith);
   source_names = refl;
   target_names = refl;
+  source_members = refl;
+  replica_members = refl;
   origins = tt;
 }
 

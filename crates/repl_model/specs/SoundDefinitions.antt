@@ -13,7 +13,7 @@ use Rattle.repl_model.specs.Units.{units}
 use Rattle.repl_model.specs.SourceAt.{unplaced}
 use Rattle.repl_model.specs.Applicable.{is_signal}
 use Rattle.repl_model.specs.Selection.{SourceTable}
-use Rattle.repl_model.specs.World.{ServerTable, SourceSide, TargetSide, Server, World, KnownSet, source_named, server_named, server_table, same_set, source_side, target_side, known_sets, is_known}
+use Rattle.repl_model.specs.World.{ServerTable, SourceSide, TargetSide, Server, World, KnownSet, source_named, server_named, server_table, same_set, source_side, target_side, known_from, known_sets, is_known}
 use Rattle.repl_model.specs.Replicas.{comes_from}
 use Rattle.repl_model.specs.Rules.{all_differ, is_replica, is_replica_set, TableKeepsRules, RegistrationKeepsRules, MemberKeepsRules, ReplicaKeepsRules}
 
@@ -55,29 +55,44 @@ KeepsTable t = TableKeepsRules t.def × (length t.def.columns ≤ column_limit) 
 abbrev pub IsFresh : SourceSide → Type 0
 IsFresh side = (side.mark ≡ 0) × (side.t ≡ 0) × (side.d ≡ 0) × (side.codes ≡ [])
 
+-- a set that stands at its source stands at its target too
+abbrev pub stands_at_target : World → Server → SourceSide → Bool
+stands_at_target world source side = list_any (λ k. bytes_eq source.name k.source.name && same_set side.def.id k.at_target.def.id) (known_sets world)
+
 -- a set that doesn't stand at its target too has had no step
-abbrev pub UnknownSource : World → SourceSide → Type 0
-UnknownSource world side = IsTrue (is_known world side.def.id) ⊎ (IsFresh side × (side.signal ≡ 0))
+abbrev pub UnknownSource : World → Server → SourceSide → Type 0
+UnknownSource world source side = IsTrue (stands_at_target world source side) ⊎ (IsFresh side × (side.signal ≡ 0))
 
 -- a set that doesn't stand at its source too has had no step
-abbrev pub UnknownTarget : World → TargetSide → Type 0
-UnknownTarget world side = IsTrue (is_known world side.def.id) ⊎ ((side.flag ≡ false) × (side.trail ≡ []) × (side.signal ≡ 0))
+abbrev pub UnknownTarget : World → Server → TargetSide → Type 0
+UnknownTarget world target side = IsTrue (is_some (known_from world target side)) ⊎ ((side.flag ≡ false) × (side.trail ≡ []) × (side.signal ≡ 0))
+
+-- each member of a set that stands at its source is over a registered table there
+abbrev pub has_sources : Server → SourceSide → Bool
+has_sources server side = list_all (λ member. is_some (source_named member.source server)) side.def.members
+
+-- each replica of a set that stands at its target is a registered table there
+abbrev pub has_replicas : Server → TargetSide → Bool
+has_replicas server side = list_all (λ member. not (is_replica member.kind) || is_some (source_named member.target server)) side.def.members
 
 -- the origin of a unit is none, or a known set that stands at the server
 abbrev pub has_origin : World → Server → Unit → Bool
 has_origin world server u = option_map_or (λ id. is_known world id && (is_some (source_side id server) || is_some (target_side id server))) u.head.origin true
 
--- What one server keeps of definitions.
+-- What one server keeps of definitions. A set's row stands at a server only together with the tables that its
+-- members have there, also while it doesn't stand at its other end.
 pub record ServerKeepsRules (world : World) (server : Server) : Type 0 where
   pub name : IsTrue (is_name server.name)
   pub tables : AllByRecursion KeepsTable server.tables
   pub count : length server.tables ≤ table_limit
   pub differ : IsTrue (all_differ (λ a b. bytes_eq a.def.name b.def.name) server.tables)
-  pub sources : AllByRecursion (λ side. (side.def.source ≡ server.name) × SetKeepsLimits world side.def × UnknownSource world side) server.source_sets
-  pub targets : AllByRecursion (λ side. (side.def.target ≡ server.name) × SetKeepsLimits world side.def × UnknownTarget world side) server.target_sets
+  pub sources : AllByRecursion (λ side. (side.def.source ≡ server.name) × SetKeepsLimits world side.def × UnknownSource world server side) server.source_sets
+  pub targets : AllByRecursion (λ side. (side.def.target ≡ server.name) × SetKeepsLimits world side.def × UnknownTarget world server side) server.target_sets
   pub counts : (length server.source_sets ≤ set_limit) × (length server.target_sets ≤ set_limit)
   pub source_names : IsTrue (all_differ (λ a b. same_set a.def.id b.def.id) server.source_sets)
   pub target_names : IsTrue (all_differ (λ a b. same_set a.def.id b.def.id) server.target_sets)
+  pub source_members : IsTrue (list_all (has_sources server) server.source_sets)
+  pub replica_members : IsTrue (list_all (has_replicas server) server.target_sets)
   pub origins : AllByRecursion (λ u. IsTrue (has_origin world server u)) (units server.log)
 
 -- a member of a read-only set is over a registered table of the source, keeps the rules, and its target isn't

@@ -223,7 +223,7 @@ module _ (world : World) (server : Server) (keeps : ServerKeepsRules world serve
 
   -- what is kept of the sets whose source it is has a spelling
   source_entries_fit : AllByRecursion (RowFits IsSet IsSourceSet) (map source_entry (enumerate_from 0 server.source_sets))
-  source_entries_fit = all_map (RowFits IsSet IsSourceSet) source_entry (enumerate_from 0 server.source_sets) (all_numbered (λ side. (side.def.source ≡ server.name) × SetKeepsLimits world side.def × UnknownSource world side) (λ s. RowFits IsSet IsSourceSet (source_entry s)) 256 0 server.source_sets (omega (arith, keeps.counts.0)) keeps.sources (λ m side lt k. (k.1.spelled.0, (small m lt, k.1.spelled))))
+  source_entries_fit = all_map (RowFits IsSet IsSourceSet) source_entry (enumerate_from 0 server.source_sets) (all_numbered (λ side. (side.def.source ≡ server.name) × SetKeepsLimits world side.def × UnknownSource world server side) (λ s. RowFits IsSet IsSourceSet (source_entry s)) 256 0 server.source_sets (omega (arith, keeps.counts.0)) keeps.sources (λ m side lt k. (k.1.spelled.0, (small m lt, k.1.spelled))))
 
   -- the sets whose source it is
   pub source_rows_are : AreRows IsSet set_spelling IsSourceSet (source_set_rows server)
@@ -233,7 +233,7 @@ module _ (world : World) (server : Server) (keeps : ServerKeepsRules world serve
   -- the sets whose target it is
   pub target_rows_are : AreRows IsSet set_spelling IsTargetSet (target_set_rows server)
   target_rows_are = are_by_key IsSet set_spelling IsTargetSet set_cmp set_order set_some (map target_entry (enumerate_from 0 server.target_sets))
-      (all_map (RowFits IsSet IsTargetSet) target_entry (enumerate_from 0 server.target_sets) (all_numbered (λ side. (side.def.target ≡ server.name) × SetKeepsLimits world side.def × UnknownTarget world side) (λ s. RowFits IsSet IsTargetSet (target_entry s)) 256 0 server.target_sets (omega (arith, keeps.counts.1)) keeps.targets (λ m side lt k. (k.1.spelled.0, (small m lt, k.1.spelled)))))
+      (all_map (RowFits IsSet IsTargetSet) target_entry (enumerate_from 0 server.target_sets) (all_numbered (λ side. (side.def.target ≡ server.name) × SetKeepsLimits world side.def × UnknownTarget world server side) (λ s. RowFits IsSet IsTargetSet (target_entry s)) 256 0 server.target_sets (omega (arith, keeps.counts.1)) keeps.targets (λ m side lt k. (k.1.spelled.0, (small m lt, k.1.spelled)))))
       (omega (arith, length-map (enumerate_from 0 server.target_sets) target_entry, length-enumerate_from 0 server.target_sets, keeps.counts.1))
 
   -- a row stands under a set's name if and only if the set stands there
