@@ -1,0 +1,10 @@
+mod Members
+mod Embedded
+mod Servers
+mod KnownSets
+mod Logs
+mod Loaded
+mod Definitions
+mod Between
+mod Replicas
+mod StaysSound
