@@ -1,7 +1,7 @@
 -- What holds of each element of a list, and what stands at a place of two lists, one after the other.
-use Rattle.std.proofs.Common.{◌≡◌, ℕ, zero, suc, ◌+◌, Bool, true, false, cond, List, [], ◌∷◌, ◌++◌, map, get_or, refl, ap, ◌∙◌}
+use Rattle.std.proofs.Common.{◌≡◌, ℕ, zero, suc, ◌+◌, List, [], ◌∷◌, ◌++◌, map, get_or, refl, ap, ◌∙◌}
 use Rattle.std.specs.Prelude.{Option, Some, None, IfSome, fold, sum_by, slice_get}
-use Rattle.std.specs.List.{AllByRecursion, cons_option, enumerate_from, filter, filter_map, flat_map}
+use Rattle.std.specs.List.{AllByRecursion, cons_option, enumerate_from, filter_map, flat_map}
 use Rattle.std.specs.Option.{option_map_or}
 
 -- ---- each element
@@ -27,15 +27,6 @@ pub all_at : {X : Type 0} (P : X → Type 0) (xs : List X) (n : ℕ) → AllByRe
 all_at P [] n all = tt
 all_at P (x ∷ xs) zero all = all.0
 all_at P (x ∷ xs) (suc n) all = all_at P xs n all.1
-
--- each element that a filter keeps passes its test
-pub all_kept : {X : Type 0} (p : X → Bool) (xs : List X) → AllByRecursion (λ x. p x ≡ true) (filter p xs)
-all_kept p [] = tt
-all_kept {X} p (x ∷ xs) = pick (p x) refl (all_kept p xs)
-  where
-    pick : (t : Bool) → p x ≡ t → AllByRecursion (λ x. p x ≡ true) (filter p xs) → AllByRecursion (λ x. p x ≡ true) (cond t (x ∷ filter p xs) (filter p xs))
-    pick true e rest = (e, rest)
-    pick false e rest = rest
 
 -- what holds of each image holds of a list of them
 pub all_images : {X Y : Type 0} (P : Y → Type 0) (f : X → Y) (xs : List X) → AllByRecursion (λ x. P (f x)) xs → AllByRecursion P (map f xs)

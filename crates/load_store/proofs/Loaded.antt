@@ -37,7 +37,8 @@ use Rattle.spelled_defs.specs.declared.defs.TableAt.{TableAt}
 use Rattle.spelled_defs.specs.declared.defs.RegistrationAt.{RegistrationAt}
 use Rattle.load_worlds.specs.Loads.{new_tables, fresh_registration, registration_in, register, fresh_source, fresh_target, new_sources, new_targets, load_server}
 use Rattle.load_store.specs.LoadedServers.{Loaded}
-use Rattle.load_store.proofs.Lists.{all_of, all_kept, all_images, numbered_lists_stay, place_more, place_map}
+use Rattle.rows_in_order.specs.laws.Filtered.{all_kept}
+use Rattle.load_store.proofs.Lists.{all_of, all_images, numbered_lists_stay, place_more, place_map}
 use Rattle.load_store.proofs.FirstStates.{no_first, numbered_more, numbered_lists_more}
 use Rattle.load_store.proofs.SourceTables.{no_source_rows}
 use Rattle.load_store.proofs.Targets.{table_at, table_none}
