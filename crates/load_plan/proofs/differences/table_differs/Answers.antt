@@ -1,0 +1,12 @@
+use Rattle.std.proofs.Common.{rules, ◌<◌, length}
+use Rattle.std.specs.Str.{bytes_eq}
+use Rattle.row_codec.specs.Definitions.{HasTableSpelling}
+use Rattle.load_plan.specs.Differences.{IsSpelledServer}
+use Rattle.load_plan.proofs.Found.{head_holds, part_holds}
+use Rattle.load_plan.proofs.differences.table_differs.Goals as goal
+
+pub differs-requires-clause-stored : goal.differs-requires-clause-stored
+differs-requires-clause-stored c =
+    let within : c.servers.server-index < length c.args.stored.now = search rules in
+    let spelled = head_holds IsSpelledServer c.args.stored.now c.servers.server-index c.server-item.result within c.server-item.is c.servers.invariant.spelled in
+    part_holds (λ d. d.now) (λ row. row.def) HasTableSpelling (λ row. bytes_eq c.args.table.now.def.name row.def.name) c.server-item.result.tables c.table_at.result c.table_at.ensures spelled.tables
