@@ -13,10 +13,10 @@ use Rattle.repl_model.specs.Replicas.{comes_from}
 use Rattle.repl_model.specs.World.{SourceSide, TargetSide, World, KnownSet, same_set, known_sets}
 use Rattle.repl_model.specs.Rules.{all_differ, is_replica_set}
 use Rattle.repl_model.specs.SoundDefinitions.{server_limit, ServerKeepsRules, KnownSetKeepsRules, same_place, targets_of, sources_of, replica_sets, waits_for_load, DefinitionsAreSound}
-use Rattle.load_worlds.proofs.Members.{at_one, at_each, passes_at, all_pass_from, beside_itself}
-use Rattle.load_worlds.proofs.Embedded.{Embeds, embeds_zip, embeds_in, embeds_filter, embeds_flat_map, embeds_none, embeds_differ}
-use Rattle.load_worlds.proofs.Servers.{ServerGrows, WorldGrows, IsBetween, name_stays, log_stays}
-use Rattle.load_worlds.proofs.KnownSets.{SetGrows, known_stay}
+use Rattle.load_worlds.specs.laws.Members.{at_one, at_each, passes_at, all_pass_from, beside_itself}
+use Rattle.load_worlds.specs.laws.Embedded.{Embeds, embeds_zip, embeds_in, embeds_filter, embeds_flat_map, embeds_none, embeds_differ}
+use Rattle.load_worlds.specs.laws.Servers.{ServerGrows, WorldGrows, IsBetween, name_stays, log_stays}
+use Rattle.load_worlds.specs.laws.KnownSets.{SetGrows, known_stay}
 use Rattle.load_worlds.proofs.Definitions.{servers_keep_rules, sources_stand, replicas_stand, set_keeps_rules}
 
 -- ---- places

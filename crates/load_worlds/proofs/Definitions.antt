@@ -1,92 +1,23 @@
 -- The definitions of a world between two others.
-use Rattle.std.proofs.Common.{◌≡◌, ℕ, Bool, true, false, not, ◌&&◌, ◌||◌, ◌⊎◌, inl, inr, List, [], Option, Some, None, refl, sym, ap, ap₂, subst, ◌∙◌}
+use Rattle.std.proofs.Common.{◌≡◌, ℕ, Bool, true, false, not, ◌||◌, ◌⊎◌, inl, inr, List, [], sym, ap₂, subst, ◌∙◌}
 use Rattle.std.specs.Prelude.{IsTrue, is_some}
 use Rattle.std.specs.List.{AllByRecursion, list_all}
-use Rattle.std.specs.Option.{option_map_or}
 use Rattle.std.specs.Str.{bytes_eq}
-use Rattle.std.proofs.lemmas.Bool.{and_parts, and_from, or_cases, or_left, or_right, false≢true}
-use Rattle.repl_types.specs.laws.Lists.{all_append, all_weaker}
-use Rattle.repl_types.specs.declared.record.SetId.{SetId}
-use Rattle.repl_types.specs.declared.unit.Unit.{Unit}
+use Rattle.std.proofs.lemmas.Bool.{false≢true}
+use Rattle.repl_types.specs.laws.Lists.{all_weaker}
 use Rattle.repl_types.specs.declared.record.LogRecord.{LogRecord}
 use Rattle.repl_definitions.specs.declared.set.SetDef.{SetDef}
 use Rattle.repl_definitions.specs.declared.member.Member.{Member}
 use Rattle.repl_model.specs.Units.{units}
-use Rattle.repl_model.specs.World.{SourceSide, TargetSide, Server, World, KnownSet, source_named, server_named, source_side, target_side, known_sets, is_known}
+use Rattle.repl_model.specs.World.{SourceSide, TargetSide, Server, World, KnownSet, source_named, known_sets}
 use Rattle.repl_model.specs.Rules.{is_replica}
 use Rattle.repl_model.specs.SoundDefinitions.{SetKeepsLimits, UnknownSource, UnknownTarget, IsFresh, has_sources, has_replicas, has_origin, ServerKeepsRules, MemberIsSound, ReplicaMemberIsSound, KnownSetKeepsRules}
-use Rattle.load_worlds.proofs.Members.{In, at_one, at_each, passes_at, found_alike}
-use Rattle.load_worlds.proofs.Servers.{IsNewSource, IsNewTarget, ServerGrows, WorldGrows, IsBetween, server_stays, name_stays, log_stays, no_table, same_source, source_side_found, target_side_found}
-use Rattle.load_worlds.proofs.KnownSets.{SetGrows, stands_at_target_stays, is_known_target_stays, is_known_stays, known_stands, source_in, at_source_in}
+use Rattle.load_worlds.specs.laws.Members.{In, at_one, at_each, passes_at}
+use Rattle.load_worlds.specs.laws.Servers.{ServerGrows, WorldGrows, IsBetween, server_stays, name_stays, log_stays, no_table, same_source}
+use Rattle.load_worlds.specs.laws.KnownSets.{SetGrows, known_stands, source_in, at_source_in}
+use Rattle.load_worlds.specs.laws.Stays.{HaveSameNames, names_stay, limits_stay, unknown_sources, unknown_targets, origin_stays}
 
 -- ---- one server
-
--- two worlds have servers of the same names
-abbrev HaveSameNames : World → World → Type 0
-HaveSameNames u v = (name : List ℕ) → is_some (server_named name v) ≡ is_some (server_named name u)
-
--- the names of servers stay
-names_stay : (w v : World) → WorldGrows w v → HaveSameNames w v
-names_stay w v g name = found_alike ServerGrows (λ (a : Server). bytes_eq name a.name) (λ (b : Server). bytes_eq name b.name) (λ a b h. ap (bytes_eq name) (name_stays a b h)) w v g
-
--- a set keeps the limits whatever else servers have
-limits_stay : (u v : World) → HaveSameNames u v → (def : SetDef) → SetKeepsLimits u def → SetKeepsLimits v def
-limits_stay u v names def h = record {
-  spelled = h.spelled;
-  stored = h.stored;
-  members = h.members;
-  columns = h.columns;
-  source = names def.source ∙ h.source;
-  target = names def.target ∙ h.target;
-}
-
--- a set that doesn't stand at its target too has had no step
-unknown_sources : (w v : World) → WorldGrows w v → (s t : Server) → ServerGrows s t → AllByRecursion (UnknownSource w s) s.source_sets → AllByRecursion (UnknownSource v t) t.source_sets
-unknown_sources w v g s t h steps = subst (AllByRecursion (UnknownSource v t)) (sym (ap (λ (a : Server). a.source_sets) h.same))
-    (all_append (UnknownSource v t) s.source_sets h.more_sources
-    (all_weaker (UnknownSource w s) (UnknownSource v t) s.source_sets by_side steps)
-    (all_weaker IsNewSource (UnknownSource v t) h.more_sources (λ side n. inr n) h.new_sources))
-  where
-    by_side : (side : SourceSide) → UnknownSource w s side → UnknownSource v t side
-    by_side side (inl stands) = inl (stands_at_target_stays w v g s t h side stands)
-    by_side side (inr fresh) = inr fresh
-
--- a set that doesn't stand at its source too has had no step
-unknown_targets : (w v : World) → WorldGrows w v → (s t : Server) → ServerGrows s t → AllByRecursion (UnknownTarget w s) s.target_sets → AllByRecursion (UnknownTarget v t) t.target_sets
-unknown_targets w v g s t h steps = subst (AllByRecursion (UnknownTarget v t)) (sym (ap (λ (a : Server). a.target_sets) h.same))
-    (all_append (UnknownTarget v t) s.target_sets h.more_targets
-    (all_weaker (UnknownTarget w s) (UnknownTarget v t) s.target_sets by_side steps)
-    (all_weaker IsNewTarget (UnknownTarget v t) h.more_targets (λ side n. inr n) h.new_targets))
-  where
-    by_side : (side : TargetSide) → UnknownTarget w s side → UnknownTarget v t side
-    by_side side (inl stands) = inl (is_known_target_stays w v g s t h side stands)
-    by_side side (inr fresh) = inr fresh
-
--- a set that stands at a server stands there after
-stands_after : (id : SetId) (s t : Server) → ServerGrows s t → (is_some (source_side id s) || is_some (target_side id s)) ≡ true → (is_some (source_side id t) || is_some (target_side id t)) ≡ true
-stands_after id s t h e = by_side (or_cases (is_some (source_side id s)) (is_some (target_side id s)) e)
-  where
-    at_source : (o : Option SourceSide) → source_side id s ≡ o → is_some o ≡ true → is_some (source_side id t) ≡ true
-    at_source None e some = absurd (false≢true some)
-    at_source (Some side) e some = ap (λ (o : Option SourceSide). is_some o) (source_side_found id s t side h e)
-
-    at_target : (o : Option TargetSide) → target_side id s ≡ o → is_some o ≡ true → is_some (target_side id t) ≡ true
-    at_target None e some = absurd (false≢true some)
-    at_target (Some side) e some = ap (λ (o : Option TargetSide). is_some o) (target_side_found id s t side h e)
-
-    by_side : (is_some (source_side id s) ≡ true) ⊎ (is_some (target_side id s) ≡ true) → (is_some (source_side id t) || is_some (target_side id t)) ≡ true
-    by_side (inl some) = or_left (is_some (source_side id t)) (is_some (target_side id t)) (at_source (source_side id s) refl some)
-    by_side (inr some) = or_right (is_some (source_side id t)) (is_some (target_side id t)) (at_target (target_side id s) refl some)
-
--- the origin of a unit stays a known set that stands at the server
-origin_stays : (w v : World) → WorldGrows w v → (s t : Server) → ServerGrows s t → (a : Unit) → has_origin w s a ≡ true → has_origin v t a ≡ true
-origin_stays w v g s t h a = by_origin a.head.origin
-  where
-    by_origin : (o : Option SetId) → option_map_or (λ id. is_known w id && (is_some (source_side id s) || is_some (target_side id s))) o true ≡ true → option_map_or (λ id. is_known v id && (is_some (source_side id t) || is_some (target_side id t))) o true ≡ true
-    by_origin None e = refl
-    by_origin (Some id) e =
-        let both = and_parts (is_known w id) (is_some (source_side id s) || is_some (target_side id s)) e in
-        and_from (is_known v id) (is_some (source_side id t) || is_some (target_side id t)) (is_known_stays w v id g both.0) (stands_after id s t h both.1)
 
 -- A server keeps the rules in a world if it does in one with servers of the same names, and if it became what
 -- it is from one that does in a world that became this one.

@@ -1,9 +1,4 @@
-mod Members
-mod Embedded
-mod Servers
-mod KnownSets
 mod Logs
-mod Loaded
 mod Definitions
 mod Between
 mod Replicas

@@ -25,9 +25,9 @@ use Rattle.repl_model.specs.Applicable.{change_fits, table_named, is_change_appl
 use Rattle.repl_model.specs.World.{Registered, ServerTable, Server, tables_of, registered_of}
 use Rattle.repl_model.specs.SoundLogs.{record_fits, LogIsSound}
 use Rattle.repl_model.specs.Sound.{NumbersAreSound}
-use Rattle.load_worlds.proofs.Members.{In, at_one, at_each, in_map, in_filter, in_filter_map, in_flat_map, found_first, any_image, each_image, each_given, given_each, each_beside, beside_weaker, find_image}
-use Rattle.load_worlds.proofs.Embedded.{Embeds, embeds_before, embeds_filter_map, embeds_any}
-use Rattle.load_worlds.proofs.Servers.{same_name, TableGrows, IsNewTable, IsNewRegistration, ServerGrows, holds_after, with_lists, literal}
+use Rattle.load_worlds.specs.laws.Members.{In, at_one, at_each, in_map, in_filter, in_filter_map, in_flat_map, found_first, any_image, each_image, each_given, given_each, each_beside, beside_weaker, find_image}
+use Rattle.load_worlds.specs.laws.Embedded.{Embeds, embeds_before, embeds_filter_map, embeds_any}
+use Rattle.load_worlds.specs.laws.Servers.{same_name, TableGrows, IsNewTable, IsNewRegistration, ServerGrows, holds_after, with_lists, literal}
 
 -- ---- tables and registrations
 

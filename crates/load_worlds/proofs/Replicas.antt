@@ -21,9 +21,9 @@ use Rattle.repl_model.specs.World.{ServerTable, SourceSide, TargetSide, Server, 
 use Rattle.repl_model.specs.SoundReplicas.{master_point, settled_point, accepted_after, sent_after, rejected_before, others_before, ReplicaMarksAreSound, IsExactlyOnce, IsIndependent, DecisionsAreCaptured}
 use Rattle.repl_model.specs.Trails.{synchpoint}
 use Rattle.repl_model.specs.Sound.{is_seq_or_zero, SignalsAreSound, GoesOn, TrailIsSound}
-use Rattle.load_worlds.proofs.Members.{at_one, at_each, passes_at, some_passes, in_filter, find_image, found_first, found_in, beside_weaker}
-use Rattle.load_worlds.proofs.Servers.{same_name, ServerGrows, with_lists, literal, source_found}
-use Rattle.load_worlds.proofs.KnownSets.{SetGrows, IsNewSet}
+use Rattle.load_worlds.specs.laws.Members.{at_one, at_each, passes_at, some_passes, in_filter, find_image, found_first, found_in, beside_weaker}
+use Rattle.load_worlds.specs.laws.Servers.{same_name, ServerGrows, with_lists, literal, source_found}
+use Rattle.load_worlds.specs.laws.KnownSets.{SetGrows, IsNewSet}
 use Rattle.load_worlds.proofs.Logs.{more_defs, tables_follow}
 use Rattle.load_worlds.proofs.Definitions.{SourcesStand}
 

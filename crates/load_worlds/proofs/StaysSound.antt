@@ -13,11 +13,11 @@ use Rattle.repl_model.specs.SoundReplicas.{ReplicaMarksAreSound, IsExactlyOnce, 
 use Rattle.repl_model.specs.Sound.{NumbersAreSound, SignalsAreSound, TrailIsSound, IsSound}
 use Rattle.load_worlds.specs.Loads.{load_first, load_all}
 use Rattle.load_worlds.specs.SoundLoads.{StaysSound}
-use Rattle.load_worlds.proofs.Members.{In, at_one, at_each, in_filter, kept_by, each_beside}
-use Rattle.load_worlds.proofs.Servers.{ServerGrows, WorldGrows, IsBetween}
-use Rattle.load_worlds.proofs.KnownSets.{SetGrows, IsNewSet, UnknownHasNoStep, known_before}
+use Rattle.load_worlds.specs.laws.Members.{In, at_one, at_each, in_filter, kept_by, each_beside}
+use Rattle.load_worlds.specs.laws.Servers.{ServerGrows, WorldGrows, IsBetween}
+use Rattle.load_worlds.specs.laws.KnownSets.{SetGrows, IsNewSet, UnknownHasNoStep, known_before}
 use Rattle.load_worlds.proofs.Logs.{log_stays_sound, numbers_stay_sound}
-use Rattle.load_worlds.proofs.Loaded.{first_load, others_load, load_is_between}
+use Rattle.load_worlds.specs.laws.Loaded.{first_load, others_load, load_is_between}
 use Rattle.load_worlds.proofs.Definitions.{SourcesStand, sources_stand}
 use Rattle.load_worlds.proofs.Between.{definitions_between}
 use Rattle.load_worlds.proofs.Replicas.{marks_stay, exactly_once_stays, independence_stays, captured_stay, signals_stay, no_signals, trail_stays, no_trail}

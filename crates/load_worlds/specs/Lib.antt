@@ -1,3 +1,4 @@
 pub mod Loads
 pub mod SoundLoads
 pub mod WorkedLoads
+pub mod laws

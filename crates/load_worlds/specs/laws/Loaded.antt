@@ -11,8 +11,8 @@ use Rattle.spelled_defs.specs.declared.defs.Defs.{Defs}
 use Rattle.spelled_defs.specs.declared.defs.TableAt.{TableAt}
 use Rattle.spelled_defs.specs.declared.defs.RegistrationAt.{RegistrationAt}
 use Rattle.load_worlds.specs.Loads.{new_tables, fresh_registration, registration_in, register, fresh_source, fresh_target, new_sources, new_targets, load_server, load_first, load_all}
-use Rattle.load_worlds.proofs.Members.{In, at_each, in_map, in_filter, in_either, in_first, in_second, image_in, each_image, beside_itself, beside_images, beside_more}
-use Rattle.load_worlds.proofs.Servers.{TableGrows, IsNewTable, IsNewRegistration, IsNewSource, IsNewTarget, with_lists, ServerGrows, WorldGrows, IsBetween, server_stays}
+use Rattle.load_worlds.specs.laws.Members.{In, at_each, in_map, in_filter, in_either, in_first, in_second, image_in, each_image, beside_itself, beside_images, beside_more}
+use Rattle.load_worlds.specs.laws.Servers.{TableGrows, IsNewTable, IsNewRegistration, IsNewSource, IsNewTarget, with_lists, ServerGrows, WorldGrows, IsBetween, server_stays}
 
 -- ---- one server
 
@@ -29,7 +29,7 @@ table_loads : (defs : Defs) (s : Server) (t : ServerTable) → TableGrows t (reg
 table_loads defs s t = (refl, λ r e. ap (λ (o : Option Registered). option_or o (registration_in defs s t)) e, λ e. subst (λ (o : Option Registered). IfSome (option_or o (registration_in defs s t)) IsNewRegistration) (sym e) (registration_new defs s t))
 
 -- nothing is what isn't some
-none_is : {X : Type 0} (o : Option X) → is_none o ≡ true → o ≡ None
+pub none_is : {X : Type 0} (o : Option X) → is_none o ≡ true → o ≡ None
 none_is None e = refl
 none_is (Some x) e = absurd (false≢true e)
 
@@ -48,7 +48,7 @@ each_made : {X Y : Type 0} (P : Y → Type 0) (f : X → Y) → ((x : X) → P (
 each_made P f h xs = each_image P f xs (at_each (λ x. P (f x)) xs (λ x i. h x))
 
 -- a server becomes what a load makes of it
-server_loads : (defs : Defs) (s : Server) → ServerGrows s (load_server defs s)
+pub server_loads : (defs : Defs) (s : Server) → ServerGrows s (load_server defs s)
 server_loads defs s = record {
   kept = map (register defs s) s.tables;
   more_tables = map (register defs s) (new_tables defs s);

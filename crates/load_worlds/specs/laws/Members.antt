@@ -52,7 +52,7 @@ some_passes {X} p (x ∷ xs) e = by_cases (some_passes p xs) (or_cases (p x) (li
     by_cases rest (inr later) = let r = rest later in (r.0, inr r.1, r.2)
 
 -- if no two are alike, no later element is like the first
-first_alone : {X : Type 0} (same : X → X → Bool) (x : X) (xs : List X) → all_differ same (x ∷ xs) ≡ true → (y : X) → In y xs → same x y ≡ true → ⊥
+pub first_alone : {X : Type 0} (same : X → X → Bool) (x : X) (xs : List X) → all_differ same (x ∷ xs) ≡ true → (y : X) → In y xs → same x y ≡ true → ⊥
 first_alone same x xs differ y i e = both_ways (list_any (same x) xs) (not-true (list_any (same x) xs) (and_parts (not (list_any (same x) xs)) (all_differ same xs) differ).0) (any_from (same x) xs y i e)
 
 -- two elements that are alike are one, if no two of the list are

@@ -13,7 +13,7 @@ use Rattle.repl_types.specs.declared.table.TableDef.{TableDef}
 use Rattle.repl_model.specs.Selection.{SourceTable}
 use Rattle.repl_model.specs.World.{Registered, ServerTable, SourceSide, TargetSide, Server, World, same_set, server_table, as_source, source_named, server_named, source_side, target_side}
 use Rattle.repl_model.specs.SoundDefinitions.{IsFresh}
-use Rattle.load_worlds.proofs.Members.{In, found_first, found_beside, beside_itself}
+use Rattle.load_worlds.specs.laws.Members.{In, found_first, found_beside, beside_itself}
 
 -- ---- names
 
@@ -22,7 +22,7 @@ pub same_name : (a b : List ℕ) → bytes_eq a b ≡ true → a ≡ b
 same_name a b = (bytes_eq-Decides a b).0
 
 -- a name is like itself
-name_itself : (a : List ℕ) → bytes_eq a a ≡ true
+pub name_itself : (a : List ℕ) → bytes_eq a a ≡ true
 name_itself a = (bytes_eq-Decides a a).1 refl
 
 -- names of sets that are alike are one
@@ -131,7 +131,7 @@ log_stays s u g = ap (λ (a : Server). a.log) g.same
 -- ---- what is found by name
 
 -- a table that has a name has it after
-table_found : (name : List ℕ) (s u : Server) (t : ServerTable) → ServerGrows s u → server_table name s ≡ Some t → (t' : ServerTable) × (server_table name u ≡ Some t') × TableGrows t t'
+pub table_found : (name : List ℕ) (s u : Server) (t : ServerTable) → ServerGrows s u → server_table name s ≡ Some t → (t' : ServerTable) × (server_table name u ≡ Some t') × TableGrows t t'
 table_found name s u t g e =
     let r = found_beside TableGrows (λ (a : ServerTable). bytes_eq name a.def.name) (λ (b : ServerTable). bytes_eq name b.def.name) (λ a b h. ap (λ (def : TableDef). bytes_eq name def.name) h.0) s.tables g.kept t g.tables e in
     (r.0, ap (λ (a : Server). server_table name a) g.same ∙ found_first (λ (b : ServerTable). bytes_eq name b.def.name) g.kept g.more_tables r.0 r.1, r.2)

@@ -5,7 +5,7 @@ use Rattle.std.specs.List.{AllZip, filter, filter_map, cons_option, flat_map, li
 use Rattle.std.specs.Option.{IfSome}
 use Rattle.std.proofs.lemmas.Bool.{false≢true, and_parts, and_from, or_cases, or_left, or_right, not-true, not_from_false, false_from_ne_true, both_ways}
 use Rattle.repl_model.specs.Rules.{all_differ}
-use Rattle.load_worlds.proofs.Members.{In}
+use Rattle.load_worlds.specs.laws.Members.{In}
 
 -- the elements of a list are related to some of another, in the same order
 abbrev pub Embeds : {X Y : Type 0} → (X → Y → Type 0) → List X → List Y → Type 0

@@ -11,9 +11,9 @@ use Rattle.repl_types.specs.declared.record.SetId.{SetId}
 use Rattle.repl_model.specs.World.{SourceSide, TargetSide, Server, World, KnownSet, same_set, server_named, source_side, known_from, known_sets, is_known}
 use Rattle.repl_model.specs.Rules.{all_differ}
 use Rattle.repl_model.specs.SoundDefinitions.{stands_at_target, UnknownSource, UnknownTarget}
-use Rattle.load_worlds.proofs.Members.{In, at_one, any_from, some_passes, only_one, in_either, in_filter_map, in_flat_map, given_in, listed_in, beside, beside_itself, found_in}
-use Rattle.load_worlds.proofs.Embedded.{Embeds, embeds_zip, embeds_before, embeds_flat_map, embeds_filter_map, embeds_in, embeds_any}
-use Rattle.load_worlds.proofs.Servers.{same_id, id_itself, name_stays, ServerGrows, WorldGrows, IsNewSource, IsNewTarget, server_found, source_side_found}
+use Rattle.load_worlds.specs.laws.Members.{In, at_one, any_from, some_passes, only_one, in_either, in_filter_map, in_flat_map, given_in, listed_in, beside, beside_itself, found_in}
+use Rattle.load_worlds.specs.laws.Embedded.{Embeds, embeds_zip, embeds_before, embeds_flat_map, embeds_filter_map, embeds_in, embeds_any}
+use Rattle.load_worlds.specs.laws.Servers.{same_id, id_itself, name_stays, ServerGrows, WorldGrows, IsNewSource, IsNewTarget, server_found, source_side_found}
 
 -- A known set whose servers become others, and whose rows stay.
 pub record SetGrows (k l : KnownSet) : Type 0 where
@@ -120,7 +120,7 @@ pub at_source_in : (w : World) (k : KnownSet) → StandsIn w k → In k.at_sourc
 at_source_in w k h = (found_in (λ (a : SourceSide). same_set k.at_target.def.id a.def.id) k.source.source_sets k.at_source h.at_source).0
 
 -- both rows have one name
-same_ids : (w : World) (k : KnownSet) → StandsIn w k → k.at_target.def.id ≡ k.at_source.def.id
+pub same_ids : (w : World) (k : KnownSet) → StandsIn w k → k.at_target.def.id ≡ k.at_source.def.id
 same_ids w k h = same_id k.at_target.def.id k.at_source.def.id (found_in (λ (a : SourceSide). same_set k.at_target.def.id a.def.id) k.source.source_sets k.at_source h.at_source).1
 
 -- ---- sets that become known
@@ -138,12 +138,12 @@ no_step_at_source w s side never (inl stands) =
     absurd (both_ways (is_known w side.def.id) never (any_from (λ (k : KnownSet). same_set side.def.id k.at_target.def.id) (known_sets w) k.0 k.1 both.1))
 
 -- a set known at a target is a known set
-known_in : (w : World) (s : Server) (side : TargetSide) (k : KnownSet) → In s w → In side s.target_sets → known_from w s side ≡ Some k → In k (known_sets w)
+pub known_in : (w : World) (s : Server) (side : TargetSide) (k : KnownSet) → In s w → In side s.target_sets → known_from w s side ≡ Some k → In k (known_sets w)
 unfolding known_sets
 known_in w s side k i j e = listed_in (λ (t : Server). filter_map (known_from w t) t.target_sets) w s k i (given_in (known_from w s) s.target_sets side k j e)
 
 -- it has the row at the target
-known_side : (w : World) (s : Server) (side : TargetSide) (k : KnownSet) → known_from w s side ≡ Some k → k.at_target ≡ side
+pub known_side : (w : World) (s : Server) (side : TargetSide) (k : KnownSet) → known_from w s side ≡ Some k → k.at_target ≡ side
 known_side w s side k = by_source (server_named side.def.source w)
   where
     by_side : (source : Server) (o : Option SourceSide) → option_map (λ at_source. record { source = source; at_source = at_source; target = s; at_target = side }) o ≡ Some k → k.at_target ≡ side

@@ -1,0 +1,6 @@
+pub mod Members
+pub mod Embedded
+pub mod Servers
+pub mod KnownSets
+pub mod Loaded
+pub mod Stays
