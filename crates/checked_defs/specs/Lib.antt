@@ -1,3 +1,4 @@
 pub mod Rules
 pub mod Broken
 pub mod Whole
+pub mod laws
