@@ -1,0 +1,4 @@
+mod Lists
+mod Items
+mod Worlds
+mod Servers

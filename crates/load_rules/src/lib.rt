@@ -1,0 +1,37 @@
+//! Which parts of a world's definitions stay sound when definitions that were accepted are loaded.
+//!
+//! `specs/Accepted.antt` says what is known of definitions that a text spells and that were not
+//! refused, `specs/StaysSound.antt` which parts of `DefinitionsAreSound` hold once they are loaded.
+//! The parts that need the rules item by item are not shown yet: the rules of tables, of
+//! registrations and of members, and that names of tables and of sets differ. It has no other code.
+//! It stands on `checked_defs`, whose rules the text keeps, on `load_model`, which says what is
+//! known in a world, and on `load_worlds`, which says what a load makes of it.
+//!
+//! For example, a set that stood at its source alone, and that an accepted text repeats, keeps the
+//! row that it had there, which says nothing yet, and gets one at its target.
+#![tactic(auto)]
+
+ghost use Rattle.load_rules.specs.StaysSound.{
+  AreFew,
+  HoldsLoaded,
+  NamesDiffer,
+  OriginsAreKnown,
+  ServersHaveNames,
+  SetsAreCounted,
+  SourcesKeepLimits,
+  TablesAreCounted,
+  TargetsKeepLimits,
+};
+
+/// The parts of sound definitions that hold of a sound world once definitions that were accepted
+/// are loaded.
+pub fn accepted_definitions_stay_sound()
+    ensures few { HoldsLoaded AreFew }
+    ensures names { HoldsLoaded NamesDiffer }
+    ensures server_names { HoldsLoaded ServersHaveNames }
+    ensures count { HoldsLoaded TablesAreCounted }
+    ensures counts { HoldsLoaded SetsAreCounted }
+    ensures sources { HoldsLoaded SourcesKeepLimits }
+    ensures targets { HoldsLoaded TargetsKeepLimits }
+    ensures origins { HoldsLoaded OriginsAreKnown }
+{}
