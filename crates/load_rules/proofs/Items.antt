@@ -10,8 +10,9 @@ use Rattle.repl_types.specs.declared.record.SetId.{SetId}
 use Rattle.repl_definitions.specs.declared.set.SetDef.{SetDef}
 use Rattle.repl_commands.specs.declared.written.RawDefs.{RawDefs}
 use Rattle.repl_commands.specs.declared.written.RawSet.{RawSet}
+use Rattle.repl_commands.specs.declared.written.RawTable.{RawTable}
 use Rattle.repl_model.specs.World.{World}
-use Rattle.spelled_defs.specs.Spelled.{spelled_member_at, spelled_set}
+use Rattle.spelled_defs.specs.Spelled.{spelled_column, table_def, spelled_table, spelled_member_at, spelled_set}
 use Rattle.spelled_defs.specs.declared.defs.Defs.{Defs}
 use Rattle.spelled_defs.specs.declared.defs.TableAt.{TableAt}
 use Rattle.checked_defs.specs.Whole.{is_whole_member, is_whole_set}
@@ -33,6 +34,17 @@ name_given bytes name = by_test (is_name bytes) refl
     by_test false e none = absurd (none-some name none)
 
 -- ---- what an item spells
+
+-- the table that an item spells
+pub table_spelled : (item : RawTable) (t : TableAt) → spelled_table item ≡ Some t → t ≡ record { server = item.server; def = table_def item.name (filter_map spelled_column item.columns) item }
+unfolding spelled_table
+table_spelled item t e =
+    let server = from_step _ (name_of item.server) t e in
+    let name = from_step _ (name_of item.name) t server.2 in
+    sym (same_Some (made server.0 name.0) t name.2) ∙ ap₂ made (name_given item.server server.0 server.1).0 (name_given item.name name.0 name.1).0
+  where
+    made : List ℕ → List ℕ → TableAt
+    made server name = record { server = server; def = table_def name (filter_map spelled_column item.columns) item }
 
 -- the definition of a set with these names
 abbrev set_def : List TableAt → RawSet → SetId → List ℕ → List ℕ → SetDef

@@ -2,3 +2,4 @@ mod Lists
 mod Items
 mod Worlds
 mod Servers
+mod Differ

@@ -26,11 +26,11 @@ use Rattle.load_rules.proofs.Items.{has_members}
 use Rattle.load_rules.proofs.Worlds.{world_loads}
 
 -- what holds of what each server becomes holds of each server once all are loaded
-each_loaded : (P : Server → Type 0) (defs : Defs) (w : World) → ((s : Server) → In s w → P (load_server defs s)) → AllByRecursion P (load_all defs w)
+pub each_loaded : (P : Server → Type 0) (defs : Defs) (w : World) → ((s : Server) → In s w → P (load_server defs s)) → AllByRecursion P (load_all defs w)
 each_loaded P defs w f = each_image P (load_server defs) w (at_each (λ s. P (load_server defs s)) w f)
 
 -- each server of a sound world keeps the rules
-server_rules : (w : World) (s : Server) → IsSound w → In s w → ServerKeepsRules w s
+pub server_rules : (w : World) (s : Server) → IsSound w → In s w → ServerKeepsRules w s
 server_rules w s sound i = at_one (ServerKeepsRules w) w s sound.definitions.servers i
 
 -- the names of servers are names

@@ -5,7 +5,7 @@ use Rattle.std.specs.Str.{bytes_eq}
 use Rattle.repl_types.specs.Name.{is_name}
 use Rattle.repl_commands.specs.declared.written.RawDefs.{RawDefs}
 use Rattle.repl_model.specs.Units.{units}
-use Rattle.repl_model.specs.World.{World}
+use Rattle.repl_model.specs.World.{World, same_set}
 use Rattle.repl_model.specs.Rules.{all_differ}
 use Rattle.repl_model.specs.SoundDefinitions.{server_limit, table_limit, set_limit, SetKeepsLimits, UnknownSource, UnknownTarget, has_origin}
 use Rattle.repl_model.specs.Sound.{IsSound}
@@ -48,3 +48,15 @@ TargetsKeepLimits world = AllByRecursion (λ server. AllByRecursion (λ side. (s
 -- the origin of each unit is none, or a known set that stands at its server
 abbrev pub OriginsAreKnown : World → Type 0
 OriginsAreKnown world = AllByRecursion (λ server. AllByRecursion (λ u. IsTrue (has_origin world server u)) (units server.log)) world
+
+-- the names of the tables of a server differ
+abbrev pub TableNamesDiffer : World → Type 0
+TableNamesDiffer world = AllByRecursion (λ server. IsTrue (all_differ (λ a b. bytes_eq a.def.name b.def.name) server.tables)) world
+
+-- the names of the sets at their sources differ
+abbrev pub SourceNamesDiffer : World → Type 0
+SourceNamesDiffer world = AllByRecursion (λ server. IsTrue (all_differ (λ a b. same_set a.def.id b.def.id) server.source_sets)) world
+
+-- the names of the sets at their targets differ
+abbrev pub TargetNamesDiffer : World → Type 0
+TargetNamesDiffer world = AllByRecursion (λ server. IsTrue (all_differ (λ a b. same_set a.def.id b.def.id) server.target_sets)) world

@@ -2,10 +2,10 @@
 //!
 //! `specs/Accepted.antt` says what is known of definitions that a text spells and that were not
 //! refused, `specs/StaysSound.antt` which parts of `DefinitionsAreSound` hold once they are loaded.
-//! The parts that need the rules item by item are not shown yet: the rules of tables, of
-//! registrations and of members, and that names of tables and of sets differ. It has no other code.
-//! It stands on `checked_defs`, whose rules the text keeps, on `load_model`, which says what is
-//! known in a world, and on `load_worlds`, which says what a load makes of it.
+//! The other parts are not shown yet: that tables, registrations and members keep their rules, and
+//! what known sets keep together. It has no other code. It stands on `checked_defs`, whose rules
+//! the text keeps, on `load_model`, which says what is known in a world, and on `load_worlds`,
+//! which says what a load makes of it.
 //!
 //! For example, a set that stood at its source alone, and that an accepted text repeats, keeps the
 //! row that it had there, which says nothing yet, and gets one at its target.
@@ -18,8 +18,11 @@ ghost use Rattle.load_rules.specs.StaysSound.{
   OriginsAreKnown,
   ServersHaveNames,
   SetsAreCounted,
+  SourceNamesDiffer,
   SourcesKeepLimits,
+  TableNamesDiffer,
   TablesAreCounted,
+  TargetNamesDiffer,
   TargetsKeepLimits,
 };
 
@@ -30,8 +33,11 @@ pub fn accepted_definitions_stay_sound()
     ensures names { HoldsLoaded NamesDiffer }
     ensures server_names { HoldsLoaded ServersHaveNames }
     ensures count { HoldsLoaded TablesAreCounted }
+    ensures differ { HoldsLoaded TableNamesDiffer }
     ensures counts { HoldsLoaded SetsAreCounted }
     ensures sources { HoldsLoaded SourcesKeepLimits }
     ensures targets { HoldsLoaded TargetsKeepLimits }
+    ensures source_names { HoldsLoaded SourceNamesDiffer }
+    ensures target_names { HoldsLoaded TargetNamesDiffer }
     ensures origins { HoldsLoaded OriginsAreKnown }
 {}

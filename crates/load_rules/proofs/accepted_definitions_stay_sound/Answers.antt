@@ -1,3 +1,4 @@
+use Rattle.load_rules.proofs.Differ.{table_names_differ, source_names_differ, target_names_differ}
 use Rattle.load_rules.proofs.Servers.{servers_have_names, tables_are_counted, sets_are_counted, sources_keep_limits, targets_keep_limits, origins_are_known}
 use Rattle.load_rules.proofs.Worlds.{few_stay, names_differ}
 use Rattle.load_rules.proofs.accepted_definitions_stay_sound.Goals as goal
@@ -25,3 +26,12 @@ returns-clause-targets c = targets_keep_limits
 
 pub returns-clause-origins : goal.returns-clause-origins
 returns-clause-origins c = origins_are_known
+
+pub returns-clause-differ : goal.returns-clause-differ
+returns-clause-differ c = table_names_differ
+
+pub returns-clause-source_names : goal.returns-clause-source_names
+returns-clause-source_names c = source_names_differ
+
+pub returns-clause-target_names : goal.returns-clause-target_names
+returns-clause-target_names c = target_names_differ
