@@ -4,8 +4,8 @@ use Rattle.std.proofs.lemmas.Bool.{ltb-false}
 use Rattle.std.proofs.lemmas.List.Folds.{find_at}
 use Rattle.std.proofs.lemmas.Option.{slice_get_past}
 use Rattle.std.specs.Prelude.{IsTrue, is_some, unwrap_or, nat_lt, find}
-use Rattle.std.specs.List.{filter_map, list_all, position_or_len}
-use Rattle.std.specs.Option.{option_map, option_map_or, option_and_then}
+use Rattle.std.specs.List.{filter_map, list_all, position_or_len, position_from}
+use Rattle.std.specs.Option.{option_map, option_map_or, option_and_then, option_or}
 use Rattle.std.specs.Str.{bytes_eq}
 use Rattle.repl_types.specs.Name.{is_name, name_of}
 use Rattle.repl_types.specs.declared.table.ColumnDef.{ColumnDef}
@@ -24,10 +24,10 @@ use Rattle.repl_commands.specs.declared.written.RawSet.{RawSet}
 use Rattle.repl_defs.specs.Entries.{place_of as blank_of, form_of}
 use Rattle.spelled_defs.specs.Spelled.{is_column, spelled_column, column_place, after_places, spelled_table, is_table, is_registration, columns_at, spelled_registration, target_kind, target_column, spelled_member, spelled_set}
 use Rattle.checked_defs.specs.Rules.{has_column_name, is_column_entry, is_key_column, is_after_image, after_fits, as_source_table, is_target_entry, texts_fit, texts_are_read, entries_of, member_has_names, registration_has_names, set_has_names, table_has_names}
-use Rattle.checked_defs.specs.Broken.{all_rules, table_breaks, registration_breaks, set_breaks, member_breaks, first_broken}
-use Rattle.checked_defs.specs.laws.Kept.{rule_kept}
+use Rattle.checked_defs.specs.Broken.{all_rules, table_breaks, registration_breaks, set_breaks, member_breaks, first_in_set, first_in_sets, first_place, first_broken, rule_number}
 use Rattle.checked_defs.specs.Whole.{have_kinds, is_whole_table, is_whole_registration, has_whole_texts, is_whole_member, is_whole_set, LeavesNothingOut}
-use Rattle.checked_defs.specs.declared.rule.Rule.TheVariants.{Names, Columns, Key, Table, After, Before, Source, Texts}
+use Rattle.checked_defs.specs.declared.rule.Rule.{Rule}
+use Rattle.checked_defs.specs.declared.rule.Rule.TheVariants.{Names, Once, Columns, Key, Table, After, Before, Source, Texts, Copies, Condensed, Sums, Replicas}
 use Rattle.spelled_defs.specs.declared.context.Context.{Context}
 use Rattle.spelled_defs.specs.declared.defs.TableAt.{TableAt}
 use Rattle.spelled_defs.specs.declared.defs.RegistrationAt.{RegistrationAt}
@@ -65,6 +65,65 @@ all_of_three : {X : Type 0} (p q s r : X → Bool) (xs : List X) → ((x : X) �
 all_of_three p q s r xs f h k m =
     all_of_two (λ x. p x && q x) s r xs (λ x a b. let both = parts (p x) (q x) a in f x both.0 both.1 b)
     (all_of_two p q (λ x. p x && q x) xs (λ x a b. joined (p x) (q x) a b) h k) m
+
+-- nothing first and nothing second
+or_none : {X : Type 0} (a b : Option X) → option_or a b ≡ None → (a ≡ None) × (b ≡ None)
+or_none None b h = (refl, h)
+or_none (Some x) b h = absurd (cc)
+
+map_none : {X Y : Type 0} (f : X → Y) (o : Option X) → option_map f o ≡ None → o ≡ None
+map_none f None h = refl
+map_none f (Some x) h = absurd (cc)
+
+chosen_none : {X : Type 0} (b : Bool) (x : X) (o : Option X) → cond b (Some x) o ≡ None → (not b ≡ true) × (o ≡ None)
+chosen_none true x o h = absurd (cc)
+chosen_none false x o h = (refl, h)
+
+-- if no element passes, each fails
+none_pass : {X : Type 0} (p : X → Bool) (n : ℕ) (xs : List X) → position_from p n xs ≡ None → list_all (λ x. not (p x)) xs ≡ true
+none_pass p n [] h = refl
+none_pass p n (x ∷ xs) h =
+    let c = chosen_none (p x) n (position_from p (n + 1) xs) h in
+    joined (not (p x)) (list_all (λ y. not (p y)) xs) c.0 (none_pass p (n + 1) xs c.1)
+
+-- ---- a rule that is kept
+
+-- no item breaks the rule
+record Keeps (raw : RawDefs) (context : Context) (rule : Rule) : Type 0 where
+  tables : list_all (λ t. not (table_breaks raw context rule t)) raw.tables ≡ true
+  registrations : list_all (λ r. not (registration_breaks raw context rule r)) raw.registrations ≡ true
+  sets : list_all (λ s. not (set_breaks raw rule s)) raw.sets ≡ true
+  members : list_all (λ s. list_all (λ m. not (member_breaks context rule s m)) s.members) raw.sets ≡ true
+
+-- no set and no member breaks it
+no_set_breaks : (raw : RawDefs) (context : Context) (rule : Rule) (n : ℕ) (sets : List RawSet) → first_in_sets raw context rule n sets ≡ None
+    → (list_all (λ s. not (set_breaks raw rule s)) sets ≡ true) × (list_all (λ s. list_all (λ m. not (member_breaks context rule s m)) s.members) sets ≡ true)
+no_set_breaks raw context rule n [] h = (refl, refl)
+no_set_breaks raw context rule n (s ∷ ss) h =
+    let o = or_none (first_in_set raw context rule n s) (first_in_sets raw context rule (n + 1) ss) h in
+    let c = chosen_none (set_breaks raw rule s) _ _ o.0 in
+    let m = none_pass (member_breaks context rule s) 1 s.members (map_none _ _ c.1) in
+    let rest = no_set_breaks raw context rule (n + 1) ss o.1 in
+    (joined (not (set_breaks raw rule s)) _ c.0 rest.0, joined (list_all (λ x. not (member_breaks context rule s x)) s.members) _ m rest.1)
+
+keeps : (raw : RawDefs) (context : Context) (rule : Rule) → first_place raw context rule ≡ None → Keeps raw context rule
+unfolding first_place
+keeps raw context rule h =
+    let a = or_none _ _ h in
+    let b = or_none _ _ a.1 in
+    let s = no_set_breaks raw context rule 1 raw.sets b.1 in
+    record {
+      tables = none_pass (table_breaks raw context rule) 1 raw.tables (map_none _ _ a.0);
+      registrations = none_pass (registration_breaks raw context rule) 1 raw.registrations (map_none _ _ b.0);
+      sets = s.0;
+      members = s.1;
+    }
+
+-- of rules that are all kept, the first is
+first_kept : (raw : RawDefs) (context : Context) (rule : Rule) (others : List Rule) → first_broken raw context (rule ∷ others) ≡ None → Keeps raw context rule × (first_broken raw context others ≡ None)
+first_kept raw context rule others h =
+    let o = or_none (option_map (λ place. (rule_number rule, place)) (first_place raw context rule)) (first_broken raw context others) h in
+    (keeps raw context rule (map_none _ _ o.0), o.1)
 
 -- ---- names
 
@@ -222,23 +281,24 @@ whole_members context s names sources texts kinds =
 -- where no rule is broken and each member has a kind, nothing of the text is left out
 pub nothing_left_out : (raw : RawDefs) (context : Context) → first_broken raw context all_rules ≡ None → IsTrue (have_kinds raw) → LeavesNothingOut raw context.tables
 nothing_left_out raw context h kinds =
-    let names = rule_kept raw context h Names in
-    let columns = rule_kept raw context h Columns in
-    let key = rule_kept raw context h Key in
-    let table = rule_kept raw context h Table in
-    let after = rule_kept raw context h After in
-    let before = rule_kept raw context h Before in
-    let source = rule_kept raw context h Source in
-    let texts = rule_kept raw context h Texts in
+    let names = first_kept raw context Names (Once ∷ Columns ∷ Key ∷ Table ∷ After ∷ Before ∷ Source ∷ Texts ∷ Copies ∷ Condensed ∷ Sums ∷ Replicas ∷ []) h in
+    let once = first_kept raw context Once (Columns ∷ Key ∷ Table ∷ After ∷ Before ∷ Source ∷ Texts ∷ Copies ∷ Condensed ∷ Sums ∷ Replicas ∷ []) names.1 in
+    let columns = first_kept raw context Columns (Key ∷ Table ∷ After ∷ Before ∷ Source ∷ Texts ∷ Copies ∷ Condensed ∷ Sums ∷ Replicas ∷ []) once.1 in
+    let key = first_kept raw context Key (Table ∷ After ∷ Before ∷ Source ∷ Texts ∷ Copies ∷ Condensed ∷ Sums ∷ Replicas ∷ []) columns.1 in
+    let table = first_kept raw context Table (After ∷ Before ∷ Source ∷ Texts ∷ Copies ∷ Condensed ∷ Sums ∷ Replicas ∷ []) key.1 in
+    let after = first_kept raw context After (Before ∷ Source ∷ Texts ∷ Copies ∷ Condensed ∷ Sums ∷ Replicas ∷ []) table.1 in
+    let before = first_kept raw context Before (Source ∷ Texts ∷ Copies ∷ Condensed ∷ Sums ∷ Replicas ∷ []) after.1 in
+    let source = first_kept raw context Source (Texts ∷ Copies ∷ Condensed ∷ Sums ∷ Replicas ∷ []) before.1 in
+    let texts = first_kept raw context Texts (Copies ∷ Condensed ∷ Sums ∷ Replicas ∷ []) source.1 in
     record {
-      tables = all_of_three _ _ _ is_whole_table raw.tables (whole_table raw context) names.tables columns.tables key.tables;
+      tables = all_of_three _ _ _ is_whole_table raw.tables (whole_table raw context) names.0.tables columns.0.tables key.0.tables;
       registrations = all_of_two (λ r. not (registration_breaks raw context Names r) && not (registration_breaks raw context Table r)) (λ r. not (registration_breaks raw context After r) && not (registration_breaks raw context Before r)) (is_whole_registration context.tables) raw.registrations
           (λ r a b. let p = parts _ _ a in let q = parts _ _ b in whole_registration raw context r p.0 p.1 q.0 q.1)
-          (all_of_two _ _ (λ r. not (registration_breaks raw context Names r) && not (registration_breaks raw context Table r)) raw.registrations (λ r a b. joined _ _ a b) names.registrations table.registrations)
-          (all_of_two _ _ (λ r. not (registration_breaks raw context After r) && not (registration_breaks raw context Before r)) raw.registrations (λ r a b. joined _ _ a b) after.registrations before.registrations);
-      sets = all_of_two _ _ (is_whole_set context.tables) raw.sets (whole_set raw context) names.sets
+          (all_of_two _ _ (λ r. not (registration_breaks raw context Names r) && not (registration_breaks raw context Table r)) raw.registrations (λ r a b. joined _ _ a b) names.0.registrations table.0.registrations)
+          (all_of_two _ _ (λ r. not (registration_breaks raw context After r) && not (registration_breaks raw context Before r)) raw.registrations (λ r a b. joined _ _ a b) after.0.registrations before.0.registrations);
+      sets = all_of_two _ _ (is_whole_set context.tables) raw.sets (whole_set raw context) names.0.sets
           (all_of_two (λ s. list_all (λ m. not (member_breaks context Names s m)) s.members && list_all (λ m. not (member_breaks context Source s m)) s.members) (λ s. list_all (λ m. not (member_breaks context Texts s m)) s.members && list_all (λ m. is_some (target_kind m)) s.members) (λ s. list_all (is_whole_member context.tables s) s.members) raw.sets
           (λ s a b. let p = parts _ _ a in let q = parts _ _ b in whole_members context s p.0 p.1 q.0 q.1)
-          (all_of_two _ _ (λ s. list_all (λ m. not (member_breaks context Names s m)) s.members && list_all (λ m. not (member_breaks context Source s m)) s.members) raw.sets (λ s a b. joined _ _ a b) names.members source.members)
-          (all_of_two _ _ (λ s. list_all (λ m. not (member_breaks context Texts s m)) s.members && list_all (λ m. is_some (target_kind m)) s.members) raw.sets (λ s a b. joined _ _ a b) texts.members kinds));
+          (all_of_two _ _ (λ s. list_all (λ m. not (member_breaks context Names s m)) s.members && list_all (λ m. not (member_breaks context Source s m)) s.members) raw.sets (λ s a b. joined _ _ a b) names.0.members source.0.members)
+          (all_of_two _ _ (λ s. list_all (λ m. not (member_breaks context Texts s m)) s.members && list_all (λ m. is_some (target_kind m)) s.members) raw.sets (λ s a b. joined _ _ a b) texts.0.members kinds));
     }

@@ -1,4 +1,3 @@
 pub mod Rules
 pub mod Broken
 pub mod Whole
-pub mod laws

@@ -5,7 +5,7 @@
 //! Below it are `spelled_defs`, which says which definitions items spell and what stands beside a
 //! text, `repl_commands`, whose `RawDefs` it takes, `repl_defs`, which reads the texts of columns
 //! and predicates, `repl_definitions`, which has sets and members, and `repl_model`, whose rules
-//! over a member and its source it asks. `load_rules` stands on it. `specs/Rules.antt` has each
+//! over a member and its source it asks. No crate stands on it yet. `specs/Rules.antt` has each
 //! rule, `specs/Broken.antt` says which one is broken, and where, and `specs/Whole.antt` says what
 //! it is that nothing is left out.
 //!

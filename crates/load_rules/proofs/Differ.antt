@@ -16,7 +16,7 @@ use Rattle.spelled_defs.specs.declared.defs.TableAt.{TableAt}
 use Rattle.checked_defs.specs.Rules.{names_table, names_raw_set, table_stands_once, set_stands_once}
 use Rattle.checked_defs.specs.Broken.{table_breaks, set_breaks}
 use Rattle.checked_defs.specs.declared.rule.Rule.TheVariants.{Once}
-use Rattle.checked_defs.specs.laws.Kept.{rule_kept}
+use Rattle.load_rules.proofs.Kept.{rule_kept}
 use Rattle.load_worlds.specs.Loads.{new_tables, fresh_source, fresh_target, new_sources, new_targets, register}
 use Rattle.load_worlds.specs.laws.Members.{In, passes_at, in_map, in_filter}
 use Rattle.load_worlds.specs.laws.Embedded.{embeds_differ}

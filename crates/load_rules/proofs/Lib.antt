@@ -1,3 +1,4 @@
+mod Kept
 mod Lists
 mod Items
 mod Worlds
