@@ -2,10 +2,10 @@
 //!
 //! `specs/Accepted.antt` says what is known of definitions that a text spells and that were not
 //! refused, `specs/StaysSound.antt` which parts of `DefinitionsAreSound` hold once they are loaded.
-//! The other parts are not shown yet: that tables, registrations and members keep their rules, and
-//! what known sets keep together. It has no other code. It stands on `checked_defs`, whose rules
-//! the text keeps, on `load_model`, which says what is known in a world, and on `load_worlds`,
-//! which says what a load makes of it.
+//! The other parts are not shown yet: that tables, registrations and members keep their rules, that
+//! the tables of a set's members stand with its row, and what known sets keep together. It has no
+//! other code. It stands on `checked_defs`, whose rules the text keeps, on `load_model`, which says
+//! what is known in a world, and on `load_worlds`, which says what a load makes of it.
 //!
 //! For example, a set that stood at its source alone, and that an accepted text repeats, keeps the
 //! row that it had there, which says nothing yet, and gets one at its target.
