@@ -8,8 +8,8 @@ ghost use Rattle.script_text.specs.Asked.{takes_body as takes_body_lem};
 use crate::words::is_word;
 use std::str;
 
-/// The first word of a line, if it has one.
-fn first_word(line: &[u8]) -> Option<&[u8]>
+/// The first word of a line, if it has one. It takes no memory.
+pub fn first_word(line: &[u8]) -> Option<&[u8]>
     ensures { option_copied result ≡ first_word_lem line.now }
 {
     line.split(|byte| *byte == b' ')

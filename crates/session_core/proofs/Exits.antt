@@ -1,5 +1,5 @@
 -- Facts at the exits of a function.
-use Rattle.std.specs.Prelude.{ℕ, List, Option, Some, None, Result, Ok, Err, OnErr, IfOk}
+use Rattle.std.specs.Prelude.{ℕ, List, Option, Some, None, Result, Ok, Err, OnErr, IfOk, IfErr}
 use Rattle.std.specs.Option.{IfSome}
 use Rattle.keep_core.specs.Contents.{Contents}
 use Rattle.repl_model.specs.World.{World}
@@ -25,3 +25,8 @@ ok_also (Err e) also p = tt
 pub nothing_yet : (Means : List (Option Contents) → World → Type 0) (input : Option (List ℕ)) (events : List ℕ → World → List (Event World)) (w : World) (h : List (Option Contents)) (t : Option (List ℕ)) → Means h w → IfSome input (λ bytes. Stopped Means (events bytes w) w h t t)
 nothing_yet Means None events w h t at = tt
 nothing_yet Means (Some bytes) events w h t at = stopped_before Means w (events bytes w) h t at
+
+-- the same of what holds of the error
+pub if_err_also : {T E : Type 0} {P Q : E → Type 0} (r : Result T E) → ((e : E) → P e → Q e) → IfErr r P → IfErr r Q
+if_err_also (Ok x) also p = tt
+if_err_also (Err e) also p = also e p

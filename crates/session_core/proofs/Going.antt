@@ -1,25 +1,23 @@
 -- How a run of a script goes on, line by line.
 use Rattle.std.proofs.Common.{◌≡◌, ℕ, List, [], ◌∷◌, ◌++◌, refl, sym, ap, ap₂, subst, ◌∙◌, Bool, false}
 use Rattle.std.specs.Prelude.{Option, Some, None, ◌||◌}
-use Rattle.std.specs.Option.{option_map, option_map_or, IfSome}
-use Rattle.repl_types.specs.declared.refusal.Refusal.{Refusal}
+use Rattle.std.specs.Option.{option_map, IfSome}
 use Rattle.std.proofs.lemmas.List.{append-nil}
 use Rattle.keep_core.specs.Contents.{Contents}
-use Rattle.keep_core.specs.Revealed.{Takes, TakesPrefix}
+use Rattle.keep_core.specs.Revealed.{Takes}
 use Rattle.keep_core.specs.laws.Revealed.{takes_nothing}
 use Rattle.repl_model.specs.World.{World}
-use Rattle.run_core.specs.Runs.{last_world, lines_of, is_refused, Went, Stopped}
+use Rattle.run_core.specs.Runs.{Event, last_world, lines_of, is_refused, Went, Stopped}
 use Rattle.run_core.specs.laws.Runs.{refused_append, stopped_before, goes_on, done_after, stops_in, going_end, no_part}
-use Rattle.run_core.specs.laws.Quiet.{IsQuiet, went_quiet, stopped_quiet}
 use Rattle.script_lines.specs.Lines.{ScriptLine, script_of}
 use Rattle.script_lines.specs.Script.{next_kind, line_number, line_text, next_line, line_of, lines_left}
 use Rattle.script_lines.specs.declared.kind.LineKind.{LineKind}
 use Rattle.script_lines.specs.declared.script.Script.{Script}
-use Rattle.session_core.specs.Talk.{refused, line_refusal, line_events, skips_after, talk, script_events}
+use Rattle.session_core.specs.Talk.{line_events, skips_after, talk, script_events}
 use Rattle.session_core.specs.Lines.{IsGoing, GoesOn}
 
--- the line that waits is the first that is left
-pub waits : (s : Script) (kind : LineKind) (number : ℕ) (text : List ℕ) (left now : Option (List (ℕ × ScriptLine))) → next_kind s ≡ Some kind → number ≡ line_number s → text ≡ line_text s
+-- the line that was read and not taken is the first that is left
+waits : (s : Script) (kind : LineKind) (number : ℕ) (text : List ℕ) (left now : Option (List (ℕ × ScriptLine))) → next_kind s ≡ Some kind → number ≡ line_number s → text ≡ line_text s
     → left ≡ option_map (λ lines. next_line s ++ lines) now → left ≡ option_map (λ lines. ((number, line_of kind text) ∷ []) ++ lines) now
 waits s kind number text left now is same_number same_text e =
     let line : next_line s ≡ (number, line_of kind text) ∷ [] = rw (is, same_number, same_text) refl in
@@ -32,52 +30,68 @@ none_left Means None before s t now w skips h taken later any goes same end = tt
 none_left Means (Some input) None s t now w skips h taken later any goes same end = absurd goes
 none_left Means (Some input) (Some bytes) s t now w skips h taken later any goes same end = sym same ∙ end.1
 
--- a refusal commits nothing, nor does its absence
-quiet_refusal : (refusal : Option Refusal) → IsQuiet (option_map_or refused refusal [])
-quiet_refusal None = tt
-quiet_refusal (Some r) = tt
-
--- a line of a script commits nothing
-quiet_line : (skips : Bool) (number : ℕ) (line : ScriptLine) → IsQuiet (line_events skips number line)
-quiet_line skips number line = quiet_refusal (line_refusal skips number line)
-
 module _ (Means : List (Option Contents) → World → Type 0) where
   -- nothing happened yet
   pub begins : (input : Option (List ℕ)) (left : Option (List (ℕ × ScriptLine))) (w : World) (h : List (Option Contents)) (t : Option (List ℕ)) → left ≡ option_map script_of input → Means h w → GoesOn Means input w false left h t t false
-  begins None left w h t e at = e
+  begins None left w h t e at = (e, (w, at))
   begins (Some input) left w h t e at = subst (λ (l : Option (List (ℕ × ScriptLine))). GoesOn Means (Some input) w false l h t t false) (sym e) (record {
     going = record { done = []; split = refl; stands = at; bytes = takes_nothing t };
     refused = refl;
   })
 
-  -- a line was taken and answered
-  pub takes_line : (input : Option (List ℕ)) (left : Option (List (ℕ × ScriptLine))) (w : World) (h : List (Option Contents)) (t u v : Option (List ℕ)) (skips any was : Bool) (number : ℕ) (line : ScriptLine)
-      → GoesOn Means input w skips (option_map (λ lines. ((number, line) ∷ []) ++ lines) left) h t u any
-      → Takes u v (lines_of (line_events skips number line)) → was ≡ is_refused (line_events skips number line)
-      → GoesOn Means input w (skips_after skips line) left h t v (any || was)
-  takes_line None None w h t u v skips any was number line goes took is = refl
-  takes_line None (Some left) w h t u v skips any was number line goes took is = cc
-  takes_line (Some input) None w h t u v skips any was number line goes took is = absurd goes
-  takes_line (Some input) (Some left) w h t u v skips any was number line goes took is =
-      let events = line_events skips number line in
-      let going = goes.going in
-      let went : Went Means events (last_world w going.done) h u v = went_quiet Means (last_world w going.done) events h u v (quiet_line skips number line) going.stands took in
-      record {
-        going = goes_on Means (script_events input w) w h h t u v (λ _. events) (talk (skips_after skips line) left) going went;
-        refused = ap₂ (λ (a b : Bool). a || b) goes.refused is ∙ sym (refused_append going.done events)
-            ∙ ap is_refused (sym (done_after Means (script_events input w) w h h t u v (λ _. events) (talk (skips_after skips line) left) going went));
-      }
+  -- the servers stand for a world
+  pub stands_now : (input : Option (List ℕ)) (left : Option (List (ℕ × ScriptLine))) (w : World) (h : List (Option Contents)) (t u : Option (List ℕ)) (skips any : Bool) → GoesOn Means input w skips left h t u any → (v : World) × Means h v
+  stands_now None left w h t u skips any goes = goes.1
+  stands_now (Some input) None w h t u skips any goes = absurd goes
+  stands_now (Some input) (Some left) w h t u skips any goes = (last_world w goes.going.done, goes.going.stands)
 
-  -- the run stopped in the answer to a line
-  pub stops_at_line : (input : Option (List ℕ)) (left : Option (List (ℕ × ScriptLine))) (w : World) (h : List (Option Contents)) (t u v : Option (List ℕ)) (skips any : Bool) (number : ℕ) (line : ScriptLine)
-      → GoesOn Means input w skips (option_map (λ lines. ((number, line) ∷ []) ++ lines) left) h t u any
-      → TakesPrefix u v (lines_of (line_events skips number line)) → IfSome input (λ bytes. Stopped Means (script_events bytes w) w h t v)
-  stops_at_line None left w h t u v skips any number line goes took = tt
-  stops_at_line (Some input) None w h t u v skips any number line goes took = absurd goes
-  stops_at_line (Some input) (Some left) w h t u v skips any number line goes took =
-      let events = line_events skips number line in
-      let going = goes.going in
-      stops_in Means (script_events input w) w h h t u v (λ _. events) (talk (skips_after skips line) left) going (stopped_quiet Means (last_world w going.done) events h u v (quiet_line skips number line) going.stands took)
+  -- the line that waits is the first that is left
+  pub line_first : (input : Option (List ℕ)) (w : World) (h : List (Option Contents)) (t u : Option (List ℕ)) (skips any : Bool) (s : Script) (kind : LineKind) (number : ℕ) (text : List ℕ) (before left now : Option (List (ℕ × ScriptLine)))
+      → GoesOn Means input w skips before h t u any → left ≡ before → next_kind s ≡ Some kind → number ≡ line_number s → text ≡ line_text s → left ≡ option_map (λ lines. next_line s ++ lines) now
+      → GoesOn Means input w skips (option_map (λ lines. ((number, line_of kind text) ∷ []) ++ lines) now) h t u any
+  line_first input w h t u skips any s kind number text before left now goes same is same_number same_text e =
+      subst (λ (l : Option (List (ℕ × ScriptLine))). GoesOn Means input w skips l h t u any) (sym same ∙ waits s kind number text left now is same_number same_text e) goes
+
+  module _ (input : Option (List ℕ)) (w : World) (h h2 : List (Option Contents)) (t u u2 : Option (List ℕ)) (skips any : Bool) (number : ℕ) (line : ScriptLine) where
+    -- the events of the line
+    abbrev events : World → List (Event World)
+    events v = line_events skips number line v
+
+    -- a line was taken and answered
+    pub takes_line : (left : Option (List (ℕ × ScriptLine))) (was : Bool) → GoesOn Means input w skips (option_map (λ lines. ((number, line) ∷ []) ++ lines) left) h t u any
+        → ((v : World) → Means h v → Went Means (events v) v h2 u u2 × (was ≡ is_refused (events v)))
+        → GoesOn Means input w (skips_after skips line) left h2 t u2 (any || was)
+    takes_line left was goes happened = pick input left goes
+      where
+        pick : (input : Option (List ℕ)) (left : Option (List (ℕ × ScriptLine))) → GoesOn Means input w skips (option_map (λ lines. ((number, line) ∷ []) ++ lines) left) h t u any → GoesOn Means input w (skips_after skips line) left h2 t u2 (any || was)
+        pick None None goes = let v = goes.1.0 in (refl, (last_world v (events v), (happened v goes.1.1).0.stands))
+        pick None (Some left) goes = absurd (some_lines goes.0)
+          where
+            some_lines : ◌≡◌ {A = Option (List (ℕ × ScriptLine))} (Some (((number, line) ∷ []) ++ left)) None → ⊥
+            some_lines e = cc
+        pick (Some input) None goes = absurd goes
+        pick (Some input) (Some left) goes =
+            let going = goes.going in
+            let v = last_world w going.done in
+            let here = happened v going.stands in
+            record {
+              going = goes_on Means (script_events input w) w h h2 t u u2 events (talk (skips_after skips line) left) going here.0;
+              refused = ap₂ (λ (a b : Bool). a || b) goes.refused here.1 ∙ sym (refused_append going.done (events v))
+                  ∙ ap is_refused (sym (done_after Means (script_events input w) w h h2 t u u2 events (talk (skips_after skips line) left) going here.0));
+            }
+
+    -- the run stopped in the answer to a line
+    pub stops_at_line : (left : Option (List (ℕ × ScriptLine))) → GoesOn Means input w skips (option_map (λ lines. ((number, line) ∷ []) ++ lines) left) h t u any
+        → ((v : World) → Means h v → Stopped Means (events v) v h2 u u2)
+        → IfSome input (λ bytes. Stopped Means (script_events bytes w) w h2 t u2)
+    stops_at_line left goes stopped = pick input left goes
+      where
+        pick : (input : Option (List ℕ)) (left : Option (List (ℕ × ScriptLine))) → GoesOn Means input w skips (option_map (λ lines. ((number, line) ∷ []) ++ lines) left) h t u any → IfSome input (λ bytes. Stopped Means (script_events bytes w) w h2 t u2)
+        pick None left goes = tt
+        pick (Some input) None goes = absurd goes
+        pick (Some input) (Some left) goes =
+            let going = goes.going in
+            stops_in Means (script_events input w) w h h2 t u u2 events (talk (skips_after skips line) left) going (stopped (last_world w going.done) going.stands)
 
   -- the run stopped between two lines
   pub stops_here : (input : Option (List ℕ)) (left : Option (List (ℕ × ScriptLine))) (w : World) (h : List (Option Contents)) (t u : Option (List ℕ)) (skips any : Bool)

@@ -1,5 +1,11 @@
+pub mod Causes
+pub mod Commands
 pub mod Copying
-pub mod EarlyStatus
+pub mod ExitStatus
 pub mod Lines
+pub mod Parts
+pub mod Refusing
+pub mod RunErrors
 pub mod Session
+pub mod StatusCommand
 pub mod Talk

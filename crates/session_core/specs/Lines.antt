@@ -12,8 +12,8 @@ pub record IsGoing (Means : List (Option Contents) → World → Type 0) (input 
   pub going : Going Means (script_events input w) w (talk skips left) held before now
   pub refused : any ≡ is_refused going.done
 
--- the same, if the source reveals its bytes
+-- the same, if the source reveals its bytes; in any case the servers stand for some world
 abbrev pub GoesOn : (List (Option Contents) → World → Type 0) → Option (List ℕ) → World → Bool → Option (List (ℕ × ScriptLine)) → List (Option Contents) → Option (List ℕ) → Option (List ℕ) → Bool → Type 0
-GoesOn Means None w skips left held before now any = left ≡ None
+GoesOn Means None w skips left held before now any = (left ≡ None) × ((v : World) × Means held v)
 GoesOn Means (Some input) w skips None held before now any = ⊥
 GoesOn Means (Some input) w skips (Some left) held before now any = IsGoing Means input w skips left held before now any

@@ -1,11 +1,8 @@
 -- What the contract of `session` says of words, of statuses and of servers.
-use Rattle.std.specs.Prelude.{◌≡◌, ℕ, ◌<◌, Bool, true, false, codes, List, [], ◌∷◌, length, map, Option}
-use Rattle.std.specs.Option.{IfSome}
+use Rattle.std.specs.Prelude.{◌≡◌, ℕ, Bool, true, false, codes, List, [], ◌∷◌, map, Option}
 use Rattle.repl_types.specs.declared.status.Status.{Status}
 use Rattle.repl_types.specs.declared.status.Status.TheVariants as statuses
 use Rattle.keep_core.specs.Contents.{Contents}
-use Rattle.keep_core.specs.Revealed.{Rises}
-use Rattle.line_input.specs.Limits.{input_limit}
 use Rattle.run_words.specs.declared.opening.Opening.{Opening}
 use Rattle.run_words.specs.declared.opening.Opening.TheVariants.{Copy, Servers}
 use Rattle.run_words.specs.Openings.{AreWordsOf}
@@ -13,7 +10,7 @@ use Rattle.repl_model.specs.World.{World}
 use Rattle.world_store.specs.Stands.{Stands}
 use Rattle.run_core.specs.Runs.{Event, Went, is_refused}
 use Rattle.session_core.specs.Copying.{copy_events}
-use Rattle.session_core.specs.EarlyStatus.{status_of_done}
+use Rattle.session_core.specs.ExitStatus.{status_of_done}
 use Rattle.session_core.specs.Talk.{script_events}
 
 -- ---- what the words ask for
@@ -61,16 +58,3 @@ is_done (statuses.Damaged server area cause) = false
 pub record Ran (Means : List (Option Contents) → World → Type 0) (events : List (Event World)) (w : World) (held : List (Option Contents)) (before now : Option (List ℕ)) (answer : Status) : Type 0 where
   pub went : Went Means events w held before now
   pub status : answer ≡ status_of events
-
--- What a status says of its cause: of a failed input or output, its count of faults has risen; an input that is
--- too long has more bytes than it may have, if it reveals them. No server is blamed.
-abbrev pub HasCause : Status → Option (List ℕ) → ℕ → ℕ → ℕ → ℕ → Type 0
-HasCause statuses.Ok input in_before in_now out_before out_now = Unit {0}
-HasCause statuses.Refused input in_before in_now out_before out_now = Unit {0}
-HasCause statuses.Usage input in_before in_now out_before out_now = Unit {0}
-HasCause (statuses.KeeperFault server) input in_before in_now out_before out_now = ⊥
-HasCause statuses.InputFault input in_before in_now out_before out_now = Rises in_before in_now
-HasCause statuses.OutputFault input in_before in_now out_before out_now = Rises out_before out_now
-HasCause statuses.Memory input in_before in_now out_before out_now = Unit {0}
-HasCause statuses.InputTooLong input in_before in_now out_before out_now = IfSome input (λ bytes. input_limit < length bytes)
-HasCause (statuses.Damaged server area cause) input in_before in_now out_before out_now = ⊥

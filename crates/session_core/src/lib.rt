@@ -22,19 +22,25 @@ ghost use Rattle.run_core.specs.Runs.{Stopped};
 ghost use Rattle.run_words.specs.declared.opening.Opening.{Opening};
 ghost use Rattle.site_store.specs.Servers.{AllClosed};
 ghost use Rattle.site_store.specs.Views.{names, held, work};
-ghost use Rattle.session_core.specs.Session.{Asks, run_events, StandsFor, is_done, Ran, HasCause};
+ghost use Rattle.session_core.specs.Causes.{HasCause};
+ghost use Rattle.session_core.specs.Session.{Asks, run_events, StandsFor, is_done, Ran};
 
+mod commands;
 mod copying;
+mod exit_status;
+mod laws;
 mod opening;
 mod replies;
+mod run_error;
 mod script;
-mod status;
+mod status_command;
 mod words;
 
+use crate::exit_status::{done_status, error_status};
 use crate::opening::run_opening;
-use crate::status::{done_status, early_status};
 use crate::words::asked_opening;
 use keep_core::{Keeper, Sink, Source};
+pub use laws::first_words_of_commands;
 use repl_commands::WordsError;
 use repl_types::Status;
 use run_words::one_opening_of_words;
@@ -49,8 +55,9 @@ use std::alloc::Global;
 /// of that log, a line with the count of rows, and then a line that reports the refused line, if
 /// there is one.
 ///
-/// A script is read to its end, and a line is written for each line that is refused. No command is
-/// carried out yet, so each is refused as unknown.
+/// A script is read to its end, line by line. At `status` of a server its lines are written, how
+/// far it is and its registrations and sets among them; for each line that is refused a line with
+/// the cause is written. No other command is carried out yet, so each is refused as unknown.
 ///
 /// At `Ok` and `Refused` the whole input was read, and all that the run does happened. At `Usage`
 /// nothing was read or written. At any other status some of it happened, from its beginning on, and
@@ -87,8 +94,8 @@ pub fn session<K: Keeper, I: Source, O: Sink>(
         (O.taken output.old) (O.taken output.new)) }
     ensures end { IsTrue (is_done result) → IfSome (I.left input.old) (λ bytes.
         (I.left input.new ≡ Some []) × (length bytes ≤ input_limit)) }
-    ensures cause { HasCause result (I.left input.old) (I.faults input.old) (I.faults input.new)
-        (O.faults output.old) (O.faults output.new) }
+    ensures cause { HasCause K.kept sites.old sites.new (I.left input.old) (I.faults input.old)
+        (I.faults input.new) (O.faults output.old) (O.faults output.new) result }
     ensures closed { AllClosed (work K.kept sites.new) }
 {
     one_opening_of_words();
@@ -97,8 +104,8 @@ pub fn session<K: Keeper, I: Source, O: Sink>(
         Err(WordsError::Usage) => return Status::Usage,
         Err(WordsError::Memory) => return Status::Memory,
     };
-    match run_opening(alloc, &opening, input, output) {
+    match run_opening(alloc, &opening, sites, input, output) {
         Ok(refused) => done_status(refused),
-        Err(early) => early_status(early),
+        Err(error) => error_status(error),
     }
 }

@@ -1,75 +1,80 @@
 //! The run of a script, line by line.
 
-ghost use Rattle.std.specs.Prelude.{◌≡◌, ◌≤◌, ◌<◌, ◌||◌, ℕ, List, [], Option, Some, length};
-ghost use Rattle.std.specs.Prelude.{IfOk, IfSome, OnOk, OnErr};
-ghost use Rattle.keep_core.specs.Contents.{Contents};
-ghost use Rattle.keep_core.specs.Revealed.{Rises, Takes, TakesPrefix};
-ghost use Rattle.line_input.specs.Limits.{input_limit};
+ghost use Rattle.std.specs.Prelude.{◌≡◌, ◌≤◌, [], IfOk, IfErr, IfSome, OnErr, not};
+ghost use Rattle.std.specs.Prelude.{if◌then◌else◌};
+ghost use Rattle.keep_core.specs.Revealed.{Takes, TakesPrefix};
 ghost use Rattle.repl_model.specs.World.{World};
 ghost use Rattle.run_core.specs.Runs.{Went, Stopped, lines_of, is_refused};
 ghost use Rattle.script_lines.specs.Script.{line_of};
+ghost use Rattle.site_store.specs.Servers.{AllClosed};
+ghost use Rattle.site_store.specs.Views.{names, held, work};
 ghost use Rattle.world_store.specs.Stands.{Stands};
-ghost use Rattle.session_core.specs.Talk.{command_refusal as command_refusal_lem};
-ghost use Rattle.session_core.specs.Talk.{line_refusal as line_refusal_lem, line_events};
-ghost use Rattle.session_core.specs.Talk.{skips_after as skips_after_lem, script_events};
+ghost use Rattle.session_core.specs.Causes.{BlamesServers, HasEnded, IsOfOutput, PartHasCause};
+ghost use Rattle.session_core.specs.ExitStatus.{status_of_error};
+ghost use Rattle.session_core.specs.Parts.{KeepsServers, Happened, StoppedIn};
+ghost use Rattle.session_core.specs.Refusing.{refused as refused_lem};
+ghost use Rattle.session_core.specs.Talk.{line_events, script_events};
+ghost use Rattle.session_core.specs.Talk.{skips_after as skips_after_lem};
 
-use crate::replies::write_refusal;
-use copy_lists::Early;
-use keep_core::{ReadError, Sink, Source};
+use crate::commands::run_line;
+use crate::replies::refuse;
+use crate::run_error::RunError;
+use keep_core::{Keeper, Sink, Source};
 use repl_types::Refusal;
 use script_lines::{LineKind, Script};
 use script_text::takes_body;
+use site_store::Sites;
 use std::alloc::Global;
-use std::str;
 
-/// Why a line that asks for a command is refused: no command is carried out yet.
-fn command_refusal(line: u64, text: &[u8]) -> Refusal
-    ensures { result ≡ command_refusal_lem line text.now }
-{
-    if str::from_utf8(text).is_ok() {
-        return Refusal::UnknownCommand { line };
-    }
-    Refusal::BadLine { line }
-}
-
-/// Why a line is refused, of whose text these bytes are kept, None if it isn't.
-fn line_refusal(skips: bool, line: u64, kind: LineKind, text: &[u8]) -> Option<Refusal>
-    ensures { result ≡ line_refusal_lem skips line (line_of kind text.now) }
-{
-    match kind {
-        LineKind::Command => Some(command_refusal(line, text)),
-        LineKind::LongCommand => Some(Refusal::LineTooLong { line }),
-        LineKind::Body | LineKind::LongBody if skips => None,
-        LineKind::Body => Some(Refusal::BadLine { line }),
-        LineKind::LongBody => Some(Refusal::LineTooLong { line }),
-    }
-}
-
-/// Answers a line, of whose text these bytes are kept, and says whether it was refused.
-fn answer_line<O: Sink>(
+/// Refuses a body line, unless it is skipped, and says whether it was refused. After an error a
+/// prefix of the line that refuses it was taken.
+fn answer_body<O: Sink>(
     alloc: Global,
     output: &mut O,
     skips: bool,
-    line: u64,
-    kind: LineKind,
-    text: &[u8],
-) -> Result<bool, ReadError>
-    ensures ok { OnOk result (Takes (O.taken output.old) (O.taken output.new)
-        (lines_of (line_events skips line (line_of kind text.now)))) }
-    ensures refused { IfOk result (λ refused. refused
-        ≡ is_refused (line_events skips line (line_of kind text.now))) }
-    ensures err { OnErr result (TakesPrefix (O.taken output.old) (O.taken output.new)
-        (lines_of (line_events skips line (line_of kind text.now)))) }
-    ensures cause { result ≡ Err ReadError.Failed
-        → Rises (O.faults output.old) (O.faults output.new) }
+    refusal: &Refusal,
+) -> Result<bool, RunError>
+    ensures ok { IfOk result (λ was_refused. (was_refused ≡ not skips)
+        × Takes (O.taken output.old) (O.taken output.new)
+        (if skips then [] else lines_of (refused_lem refusal.now))) }
+    ensures stopped { OnErr result (TakesPrefix (O.taken output.old) (O.taken output.new)
+        (if skips then [] else lines_of (refused_lem refusal.now))) }
+    ensures cause { IfErr result (IsOfOutput (O.faults output.old) (O.faults output.new)) }
     ensures counts { O.faults output.old ≤ O.faults output.new }
 {
-    match line_refusal(skips, line, kind, text) {
-        Some(refusal) => {
-            write_refusal(alloc, output, &refusal)?;
-            Ok(true)
+    if skips {
+        return Ok(false);
+    }
+    refuse(alloc, output, refusal)
+}
+
+/// Answers a line, of whose text these bytes are kept, and says whether something was refused.
+fn answer_line<K: Keeper, O: Sink>(
+    alloc: Global,
+    sites: &mut Sites<K>,
+    output: &mut O,
+    skips: bool,
+    number: u64,
+    kind: LineKind,
+    text: &[u8],
+) -> Result<bool, RunError>
+    requires { AllClosed (work K.kept sites.old) }
+    ensures ok { IfOk result (Happened K.kept sites.old sites.new (O.taken output.old)
+        (O.taken output.new) (line_events skips number (line_of kind text.now))) }
+    ensures stopped { OnErr result (StoppedIn K.kept sites.old sites.new (O.taken output.old)
+        (O.taken output.new) (line_events skips number (line_of kind text.now))) }
+    ensures servers { KeepsServers K.kept sites.old sites.new }
+    ensures cause { IfErr result (PartHasCause K.kept sites.old sites.new (O.faults output.old)
+        (O.faults output.new)) }
+    ensures counts { O.faults output.old ≤ O.faults output.new }
+{
+    match kind {
+        LineKind::Command => run_line(alloc, sites, output, number, text),
+        LineKind::Body => answer_body(alloc, output, skips, &Refusal::BadLine { line: number }),
+        LineKind::LongBody => {
+            answer_body(alloc, output, skips, &Refusal::LineTooLong { line: number })
         }
-        None => Ok(false),
+        LineKind::LongCommand => refuse(alloc, output, &Refusal::LineTooLong { line: number }),
     }
 }
 
@@ -84,44 +89,43 @@ fn skips_after(skips: bool, kind: LineKind, text: &[u8]) -> bool
     }
 }
 
-/// Whether one of two is so.
-fn either(first: bool, second: bool) -> bool
-    ensures { result ≡ (first || second) }
-{
-    first || second
-}
-
-/// Runs a script to the end of the input, and says whether something was refused. After an error
-/// the run stopped on its way.
-pub fn run_script<I: Source, O: Sink>(
+/// Runs a script at the servers to the end of the input, and says whether something was refused.
+/// After an error the run stopped on its way.
+pub fn run_script<K: Keeper, I: Source, O: Sink>(
     alloc: Global,
+    sites: &mut Sites<K>,
     input: &mut I,
     output: &mut O,
-) -> Result<bool, Early>
-    ensures ok { IfOk result (λ refused. (names : List (List ℕ)) (held : List (Option Contents))
-        (w : World) → Stands names held w → IfSome (I.left input.old) (λ bytes.
-        Went (Stands names) (script_events bytes w) w held (O.taken output.old) (O.taken output.new)
-        × (refused ≡ is_refused (script_events bytes w)))) }
-    ensures stopped { OnErr result ((names : List (List ℕ)) (held : List (Option Contents))
-        (w : World) → Stands names held w → IfSome (I.left input.old) (λ bytes.
-        Stopped (Stands names) (script_events bytes w) w held
+) -> Result<bool, RunError>
+    requires { AllClosed (work K.kept sites.old) }
+    ensures ok { IfOk result (λ refused. (w : World)
+        → Stands (names sites.old) (held K.kept sites.old) w → IfSome (I.left input.old) (λ bytes.
+        Went (Stands (names sites.old)) (script_events bytes w) w (held K.kept sites.new)
+        (O.taken output.old) (O.taken output.new) × (refused ≡ is_refused (script_events bytes w)))) }
+    ensures stopped { OnErr result ((w : World)
+        → Stands (names sites.old) (held K.kept sites.old) w → IfSome (I.left input.old) (λ bytes.
+        Stopped (Stands (names sites.old)) (script_events bytes w) w (held K.kept sites.new)
         (O.taken output.old) (O.taken output.new))) }
-    ensures end { OnOk result (IfSome (I.left input.old) (λ _. I.left input.new ≡ Some [])) }
-    ensures fits { OnOk result (IfSome (I.left input.old) (λ bytes. length bytes ≤ input_limit)) }
-    ensures too_long { result ≡ Err Early.InputTooLong
-        → IfSome (I.left input.old) (λ bytes. input_limit < length bytes) }
-    ensures input_fault { result ≡ Err Early.InputFailed
-        → Rises (I.faults input.old) (I.faults input.new) }
-    ensures output_fault { result ≡ Err Early.OutputFailed
-        → Rises (O.faults output.old) (O.faults output.new) }
+    ensures ended { HasEnded (I.left input.old) (I.left input.new) (I.faults input.old)
+        (I.faults input.new) (O.faults output.old) (O.faults output.new) result }
+    ensures servers { IfErr result (λ e.
+        BlamesServers K.kept sites.old sites.new (status_of_error e)) }
+    ensures closed { AllClosed (work K.kept sites.new) }
 {
     let mut script = Script::new(alloc)?;
     let mut skips = false;
     let mut refused = false;
     while let Some(kind) = script.peek(input)? {
         script.take();
-        let was_refused = answer_line(alloc, output, skips, script.number(), kind, script.text())?;
-        refused = either(refused, was_refused);
+        refused |= answer_line(
+            alloc,
+            sites,
+            output,
+            skips,
+            script.number(),
+            kind,
+            script.text(),
+        )?;
         skips = skips_after(skips, kind, script.text());
     }
     Ok(refused)

@@ -1,6 +1,6 @@
 //! The reply of `status` of a server.
 
-ghost use Rattle.std.specs.Prelude.{◌≡◌, ◌<◌, length, OnOk, OnErr, IfOk, IfErr};
+ghost use Rattle.std.specs.Prelude.{◌≡◌, ◌<◌, ◌≤◌, length, OnOk, OnErr, IfOk, IfErr};
 ghost use Rattle.keep_core.specs.Revealed.{Takes, TakesPrefix};
 ghost use Rattle.repl_model.specs.World.{World};
 ghost use Rattle.site_store.specs.Servers.{AllClosed};
@@ -70,6 +70,7 @@ pub fn show_server<K: Keeper, O: Sink>(
         (reads_at status_reads server) (O.faults output.old) (O.faults output.new)) }
     ensures undamaged { IfErr result (λ e. (world : World)
         → Stands (names sites.old) (held K.kept sites.old) world → IsUndamagedShow e) }
+    ensures counts { O.faults output.old ≤ O.faults output.new }
 {
     let text = status_text(sites, alloc, server)?;
     match write_line(output, &text) {

@@ -15,8 +15,9 @@ A script runs at 1 to 16 servers, each named by a word NAME=PATH:
   PATH   where the server is kept; :map: keeps it in memory for this run, and no
          other path can be opened yet
 
-The script comes on standard input, one command on each line. No command is carried
-out yet, so each is refused as unknown. These are the commands of the whole product:
+The script comes on standard input, one command on each line. Only status of a server
+is carried out yet; any other is refused as unknown. These are the commands of the
+whole product:
   load  feed  capture  prune  step  apply  refresh  stop  generate  rounds  audit
   status  show";
 

@@ -1,6 +1,7 @@
 //! All records of a table are read.
 
 ghost use Rattle.std.specs.Prelude.{◌≡◌, ◌<◌, ◌≤◌, length, OnOk, IfOk, IfErr, IfSome};
+ghost use Rattle.std.specs.List.{AllByRecursion};
 ghost use Rattle.site_store.specs.Servers.{AllClosed};
 ghost use Rattle.site_store.specs.Views.{names, work, sees};
 ghost use Rattle.site_store.specs.Calls.{reads_of_one, Stays, Fails};
@@ -36,6 +37,7 @@ pub fn read_records<K: Keeper, R: Stored>(
         records)) }
     ensures stand { IfOk result (λ records. IfSome (sees K.kept sites.old server)
         (AllStand R.spelling R.AREA (R.Table.number table) records)) }
+    ensures fit { IfOk result (λ records. AllByRecursion R.fits records) }
     ensures few { IfOk result (λ records. length records ≤ row_limit) }
     ensures fault { let rules = table_rules R.Key.fits R.Key.spelling R.fits R.spelling R.AREA
         (R.Table.number table) in

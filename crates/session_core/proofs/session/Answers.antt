@@ -13,7 +13,7 @@ returns-in-Err-Memory-clause-stopped g c = λ e opening w asks at. nothing_yet (
 pub returns-clause-stopped : goal.returns-clause-stopped
 returns-clause-stopped g c = λ e other w asks at.
     let given = names c.args.sites.now in
-    let holds = held g.K.Keeper.kept c.args.sites.now in
+    let before = held g.K.Keeper.kept c.args.sites.now in
     let same : c.in-Ok.opening ≡ other = c.one_opening_of_words.ensures _ c.in-Ok.opening other c.in-Ok.ensures.ok.words asks.words in
-    subst (λ (o : Opening). IfSome (g.I.Source.left c.args.input.now) (λ bytes. Stopped (StandsFor o given holds) (run_events o bytes w) w holds (g.O.Sink.taken c.args.output.now) (g.O.Sink.taken c.run_opening.new.output))) same
-    (c.in-Err.ensures.stopped given holds holds w (subst (λ (o : Opening). StandsFor o given holds holds w) (sym same) at))
+    subst (λ (o : Opening). IfSome (g.I.Source.left c.args.input.now) (λ bytes. Stopped (StandsFor o given before) (run_events o bytes w) w (held g.K.Keeper.kept c.run_opening.new.sites) (g.O.Sink.taken c.args.output.now) (g.O.Sink.taken c.run_opening.new.output))) same
+    (c.in-Err.ensures.stopped w (subst (λ (o : Opening). StandsFor o given before before w) (sym same) at))

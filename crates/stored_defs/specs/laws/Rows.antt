@@ -1,5 +1,5 @@
 -- The rows of the area Defs that a sound world calls for: proofs, and nothing to believe.
-use Rattle.std.proofs.Common.{◌≡◌, ℕ, ◌+◌, ◌<◌, ◌≤◌, Bool, true, false, cond, List, [], ◌∷◌, ◌++◌, length, map, refl, sym, ap, subst, ◌∙◌, arith}
+use Rattle.std.proofs.Common.{◌≡◌, ℕ, ◌+◌, ◌<◌, ◌≤◌, ◌^◌, Bool, true, false, cond, List, [], ◌∷◌, ◌++◌, length, map, refl, sym, ap, subst, ◌∙◌, arith}
 use Rattle.std.specs.Prelude.{◌&&◌, ◌||◌, ◌==◌, not, nat_lt, Option, Some, None, is_some, IfSome, find, slice_get}
 use Rattle.std.specs.List.{AllByRecursion, enumerate_from, filter_map, list_all, list_any}
 use Rattle.std.specs.Option.{option_map, option_map_or}
@@ -67,9 +67,9 @@ set_order = whole_order IsSet set_spelling set_cmp order_set
 
 -- ---- tables and registrations
 
--- places below 64, at most 64 of them, have spellings
-are_places : (n : ℕ) (ps : List ℕ) → n ≤ 64 → length ps ≤ n → AllByRecursion (λ p. p < n) ps → ArePlaces ps
-are_places n ps small few all = (omega (arith, few), all_weaker (λ p. p < n) Is16 ps (λ p lt. omega arith) all)
+-- places below a number of two bytes, and no more of them than it, have spellings
+pub are_places : (n : ℕ) (ps : List ℕ) → n < 2 ^ 16 → length ps ≤ n → AllByRecursion (λ p. p < n) ps → ArePlaces ps
+are_places n ps small few all = (omega (arith, few, small), all_weaker (λ p. p < n) Is16 ps (λ p lt. omega arith) all)
 
 -- a place at which a column may be in the key is one of a column
 key_place : (def : TableDef) (p : ℕ) → may_be_key def p ≡ true → p < length def.columns
@@ -89,6 +89,7 @@ table_fits t keeps =
     let def = t.def in
     let n = length def.columns in
     let few : n ≤ 64 = keeps.1 in
+    let counted : n < 2 ^ 16 = omega (arith, few) in
     let names = both_true (is_name def.name) (list_all (λ (column : ColumnDef). is_name column.name) def.columns) keeps.0.names in
     let differ = both_true (all_differ (λ (a b : ColumnDef). bytes_eq a.name b.name) def.columns && all_differ ◌==◌ def.key) (all_differ ◌==◌ def.fixed) keeps.0.differ in
     let keys_differ = both_true (all_differ (λ (a b : ColumnDef). bytes_eq a.name b.name) def.columns) (all_differ ◌==◌ def.key) differ.0 in
@@ -96,7 +97,7 @@ table_fits t keeps =
     let keys = both_true (nat_lt 0 (length def.key)) (list_all (may_be_key def) def.key) places.0 in
     let key_below = all_weaker (λ p. may_be_key def p ≡ true) (λ p. p < n) def.key (key_place def) (all_pass (may_be_key def) def.key keys.1) in
     let fixed_below = among_first n def.fixed places.1 in
-    (names.0, (omega (arith, few), all_weaker (λ (column : ColumnDef). is_name column.name ≡ true) IsColumn def.columns (λ column name. (name, tt, tt)) (all_pass (λ (column : ColumnDef). is_name column.name) def.columns names.1)), are_places n def.key few (distinct_few n def.key keys_differ.1 key_below) key_below, are_places n def.fixed few (distinct_few n def.fixed differ.1 fixed_below) fixed_below)
+    (names.0, (counted, all_weaker (λ (column : ColumnDef). is_name column.name ≡ true) IsColumn def.columns (λ column name. (name, tt, tt)) (all_pass (λ (column : ColumnDef). is_name column.name) def.columns names.1)), are_places n def.key counted (distinct_few n def.key keys_differ.1 key_below) key_below, are_places n def.fixed counted (distinct_few n def.fixed differ.1 fixed_below) fixed_below)
 
 -- so has its registration
 registration_fits : (t : ServerTable) (reg : Registration) → KeepsTable t → RegistrationKeepsRules t.def reg → IsRegistration reg
@@ -104,12 +105,13 @@ registration_fits t reg keeps rules =
     let def = t.def in
     let n = length def.columns in
     let few : n ≤ 64 = keeps.1 in
+    let counted : n < 2 ^ 16 = omega (arith, few) in
     let after = both_true (places_rise reg.after && are_among (all_places def) reg.after) (are_among reg.after def.key) rules.after in
     let rising = both_true (places_rise reg.after) (are_among (all_places def) reg.after) after.0 in
     let before = both_true (places_rise reg.before) (are_among reg.after reg.before) rules.before in
     let after_below = among_first n reg.after rising.1 in
     let before_below = among_below n reg.after reg.before after_below before.1 in
-    (ap is_name rules.table ∙ table_name t keeps, are_places n reg.after few (rising_few n reg.after rising.0 after_below) after_below, are_places n reg.before few (rising_few n reg.before before.0 before_below) before_below, tt, tt, tt)
+    (ap is_name rules.table ∙ table_name t keeps, are_places n reg.after counted (rising_few n reg.after rising.0 after_below) after_below, are_places n reg.before counted (rising_few n reg.before before.0 before_below) before_below, tt, tt, tt)
 
 -- ---- names of sets
 
@@ -147,7 +149,7 @@ pub text_is : (x y : List ℕ) → bytes_eq x y ≡ true → x ≡ y
 text_is x y e = same_is x y (is_eq-slice_cmp x y ∙ e)
 
 -- names of sets are alike if and only if their spellings are
-set_alike : (a b : SetId) → is_eq (bytes_cmp (set_spelling a) (set_spelling b)) ≡ same_set a b
+pub set_alike : (a b : SetId) → is_eq (bytes_cmp (set_spelling a) (set_spelling b)) ≡ same_set a b
 set_alike a b = alike (is_eq (bytes_cmp (set_spelling a) (set_spelling b))) (same_set a b) there back
   where
     pass : (x y : Bool) → x ≡ true → y ≡ true → (x && y) ≡ true

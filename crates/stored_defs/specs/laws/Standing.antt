@@ -160,16 +160,24 @@ module _ {K : Type 0} (kept : K → Kept) (s0 : Sites K) (closed : AllClosed (wo
   pub none_damaged : (s1 : Sites K) (e : Fault) → Blames kept s0 s1 (ShowsDamage kept s0) e → IsNoDamage e
   none_damaged s1 e blames = no_damage kept s0 s1 (λ s. s < length (names s0)) rules e (λ s lt. let r = seen_at s lt in (r.0, r.1, spelt_undamaged rules (λ a t key c h. h, λ a t key value c h. h) r.0 (holds_spelt w (server_in w s) r.0 (keeps_at s lt) r.2))) blames
 
+  -- the server at the place of a name is the world's server of that name
+  pub server_at_place : (name : List ℕ) (n : ℕ) → AreApart (names s0) → IsPlace (names s0) name n → server_named name w ≡ Some (server_in w n)
+  server_at_place name n apart place = place_found w name n (omega (arith, same_count, place.within)) (ap (λ (l : List (List ℕ)). get_or l n []) stands.named ∙ place.is) (subst AreApart (sym stands.named) apart)
+
+  -- if no server has a name, the world has none of that name
+  pub no_server : (name : List ℕ) → HasNone (names s0) name → server_named name w ≡ None
+  no_server name none = none_named w name (subst (λ (l : List (List ℕ)). HasNone l name) (sym stands.named) none)
+
   -- a set of whose source there is no server doesn't stand there
   pub no_source : (def : SetDef) → HasNone (names s0) def.source → stands_at_source w def ≡ false
-  no_source def none = ap (λ (o : Option Server). option_map_or (λ source. is_some (source_side def.id source)) o false) (none_named w def.source (subst (λ (l : List (List ℕ)). HasNone l def.source) (sym stands.named) none))
+  no_source def none = ap (λ (o : Option Server). option_map_or (λ source. is_some (source_side def.id source)) o false) (no_server def.source none)
 
   -- a set stands at its source if and only if a row is found there
   pub at_source : (def : SetDef) (n : ℕ) (row : Option SourceSet) → AreApart (names s0) → IsPlace (names s0) def.source n → IfSome (sees kept s0 n) (RowIs source_set_spelling areas.Defs 2 (set_spelling def.id) row) → is_some row ≡ stands_at_source w def
   at_source def n row apart place read =
       let r = seen_at n place.within in
       let has : r.0 areas.Defs 2 (set_spelling def.id) ≡ option_map source_set_spelling row = subst (λ (o : Option Contents). IfSome o (RowIs source_set_spelling areas.Defs 2 (set_spelling def.id) row)) r.1 read in
-      let found : server_named def.source w ≡ Some (server_in w n) = place_found w def.source n (omega (arith, same_count, place.within)) (ap (λ (l : List (List ℕ)). get_or l n []) stands.named ∙ place.is) (subst AreApart (sym stands.named) apart) in
+      let found : server_named def.source w ≡ Some (server_in w n) = server_at_place def.source n apart place in
       mapped row
       ∙ ap is_some (sym has ∙ ap (λ (u : Table). u (set_spelling def.id)) (holds_defs w (server_in w n) r.0 r.2 2))
       ∙ source_row_stands w (server_in w n) (keeps_at n place.within) def.id

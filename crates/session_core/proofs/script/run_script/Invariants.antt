@@ -1,16 +1,17 @@
-use Rattle.std.proofs.Common.{◌≡◌, ◌≤◌, ℕ, List, length}
-use Rattle.std.specs.Prelude.{Option}
+use Rattle.std.proofs.Common.{◌≡◌, ◌≤◌, length}
 use Rattle.std.specs.Option.{option_map}
-use Rattle.keep_core.specs.Contents.{Contents}
 use Rattle.repl_model.specs.World.{World}
 use Rattle.script_lines.specs.Script.{lines_left, total_left, pending, HasOneSource}
+use Rattle.site_store.specs.Views.{names, held}
 use Rattle.world_store.specs.Stands.{Stands}
 use Rattle.session_core.specs.Lines.{GoesOn}
+use Rattle.session_core.specs.Parts.{KeepsServers}
 use Rattle.session_core.proofs.script.run_script.Given as goal
 
 abbrev pub invariant-loop-script : goal.invariant-loop-script
 invariant-loop-script g l = record {
-  going : (names : List (List ℕ)) (held : List (Option Contents)) (w : World) → Stands names held w → GoesOn (Stands names) (g.I.Source.left l.fn.input) w l.skips (lines_left l.script (g.I.Source.left l.input)) held (g.O.Sink.taken l.fn.output) (g.O.Sink.taken l.output) l.refused;
+  going : (w : World) → Stands (names l.fn.sites) (held g.K.Keeper.kept l.fn.sites) w → GoesOn (Stands (names l.fn.sites)) (g.I.Source.left l.fn.input) w l.skips (lines_left l.script (g.I.Source.left l.input)) (held g.K.Keeper.kept l.sites) (g.O.Sink.taken l.fn.output) (g.O.Sink.taken l.output) l.refused;
+  servers : KeepsServers g.K.Keeper.kept l.fn.sites l.sites;
   total : total_left l.script (g.I.Source.left l.input) ≡ option_map (λ bytes. length bytes) (g.I.Source.left l.fn.input);
   one_source : HasOneSource l.script (g.I.Source.left l.input);
   input_counts : g.I.Source.faults l.fn.input ≤ g.I.Source.faults l.input;

@@ -1,6 +1,7 @@
 use Rattle.std.proofs.Common.{◌≡◌, ◌<◌, ◌+◌, ℕ, List, ◌∷◌, [], ◌++◌, length, length-append, sym, ap, subst, arith}
 use Rattle.std.specs.Prelude.{Option, Some, None, IfSome}
 use Rattle.std.proofs.lemmas.Result.{err_from_is_err_and}
+use Rattle.repl_types.specs.laws.Lists.{all_append}
 use Rattle.keep_core.specs.Contents.{Contents, IsNextKey, IsLastKey}
 use Rattle.site_store.specs.Views.{sees}
 use Rattle.site_store.specs.Records.{after_key}
@@ -17,6 +18,7 @@ loop-read-init g c = record {
   count = ap length c.new-records.ensures;
   stays = stays_none g.K.Keeper.kept c.args.sites.now (reads_of_one 0 c.args.server g.R.Stored.AREA);
   stand = rw c.new-records.ensures (if_seen (sees g.K.Keeper.kept c.args.sites.now c.args.server) (λ _. Unit {0}) (AllStand g.R.Part.spelling g.R.Stored.AREA (g.R.Table.TableNumber.number c.args.table) []) (λ d _. tt) (any_seen (sees g.K.Keeper.kept c.args.sites.now c.args.server)));
+  fit = rw c.new-records.ensures tt;
   read = rw c.new-records.ensures (if_seen (sees g.K.Keeper.kept c.args.sites.now c.args.server) (λ _. Unit {0}) (HasReadTo g.R.Key.Key.fits g.R.Key.Key.spelling g.R.Part.fits g.R.Part.spelling g.R.Stored.AREA (g.R.Table.TableNumber.number c.args.table) None []) (λ d _. reads_start g.R.Key.Key.fits g.R.Key.Key.spelling g.R.Part.fits g.R.Part.spelling g.R.Stored.AREA (g.R.Table.TableNumber.number c.args.table) d) (any_seen (sees g.K.Keeper.kept c.args.sites.now c.args.server)));
 }
 
@@ -63,6 +65,9 @@ loop-read-preserved g c = record {
       (λ d next stand. stands_on_key g.R.Part.spelling g.R.Stored.AREA t d c.loop-read.records (after_key g.R.Key.Key.spelling c.loop-read.last) (g.R.Key.Key.spelling c.in-Some.key) c.in-Some.record next stand)
       (subst (λ (o : Option Contents). IfSome o (λ d. IsNextKey (d g.R.Stored.AREA t) (after_key g.R.Key.Key.spelling c.loop-read.last) (g.R.Key.Key.spelling c.in-Some.key) (g.R.Part.spelling c.in-Some.record))) saw (rw (c.in-Some.is, c.as_ref.ensures.value) at c.in_ok-row.ensures.row))
       c.loop-read.invariant.stand);
+  fit =
+      let follows = rw (c.in-Some.is, c.as_ref.ensures.value) at c.in_ok-row.ensures.rises in
+      rw c.in_ok-push.ensures.items (all_append g.R.Part.fits c.loop-read.records (c.in-Some.record ∷ []) c.loop-read.invariant.fit (follows.row.fits, tt));
   read =
       let kept = g.K.Keeper.kept in
       let t = g.R.Table.TableNumber.number c.args.table in
