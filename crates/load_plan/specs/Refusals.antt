@@ -1,11 +1,12 @@
 -- Why a load of definitions is refused.
-use Rattle.std.specs.Prelude.{◌+◌, Bool, nat_lt, if◌then◌else◌, List, length, Option, Some}
+use Rattle.std.specs.Prelude.{◌+◌, Bool, ◌||◌, nat_lt, if◌then◌else◌, List, length, Option, Some}
 use Rattle.std.specs.List.{list_any}
 use Rattle.std.specs.Option.{option_map, option_or}
 use Rattle.repl_types.specs.Sizes.{value_limit}
 use Rattle.repl_types.specs.declared.refusal.Refusal.{Refusal}
 use Rattle.repl_types.specs.declared.refusal.Refusal.TheVariants as refusals
 use Rattle.repl_types.specs.declared.refusal.LimitKind.TheVariants as limits
+use Rattle.row_codec.specs.Definitions.{registration_spelling}
 use Rattle.repl_definitions.specs.Sets.{set_def_spelling}
 use Rattle.spelled_defs.specs.declared.defs.Defs.{Defs}
 use Rattle.load_plan.specs.Servers.{missing_server}
@@ -21,7 +22,11 @@ count_refusal defs stored = option_or (option_map refusals.NoSuchServer (missing
 abbrev pub has_long_set : Defs → Bool
 has_long_set defs = list_any (λ def. nat_lt value_limit (length (set_def_spelling def) + 4)) defs.sets
 
--- a set of a text is too long, or a definition stands already with other contents
+-- a registration of a text is, likewise
+abbrev pub has_long_registration : Defs → Bool
+has_long_registration defs = list_any (λ r. nat_lt value_limit (length (registration_spelling r.def) + 4)) defs.registrations
+
+-- a set or a registration of a text is too long, or a definition stands already with other contents
 abbrev pub content_refusal : Defs → List StoredServer → Option Refusal
-content_refusal defs stored = if has_long_set defs then Some (refusals.LimitReached limits.Definition)
+content_refusal defs stored = if has_long_set defs || has_long_registration defs then Some (refusals.LimitReached limits.Definition)
     else option_map refusals.DefinitionDiffers (first_difference defs stored)

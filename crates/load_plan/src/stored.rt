@@ -28,7 +28,7 @@ pub fn same_name(a: &Name, b: &Name) -> bool
 }
 
 /// Whether two sets have the same name.
-fn same_set(a: &SetId, b: &SetId) -> bool
+pub fn same_set(a: &SetId, b: &SetId) -> bool
     ensures { result ≡ same_set_lem a.now b.now }
 {
     same_name(&a.qual, &b.qual) && same_name(&a.name, &b.name)

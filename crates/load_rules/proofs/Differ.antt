@@ -16,16 +16,17 @@ use Rattle.spelled_defs.specs.declared.defs.TableAt.{TableAt}
 use Rattle.checked_defs.specs.Rules.{names_table, names_raw_set, table_stands_once, set_stands_once}
 use Rattle.checked_defs.specs.Broken.{table_breaks, set_breaks}
 use Rattle.checked_defs.specs.declared.rule.Rule.TheVariants.{Once}
-use Rattle.load_rules.proofs.Kept.{rule_kept}
+use Rattle.load_rules.specs.laws.Kept.{rule_kept}
 use Rattle.load_worlds.specs.Loads.{new_tables, fresh_source, fresh_target, new_sources, new_targets, register}
 use Rattle.load_worlds.specs.laws.Members.{In, passes_at, in_map, in_filter}
 use Rattle.load_worlds.specs.laws.Embedded.{embeds_differ}
 use Rattle.load_worlds.specs.laws.Servers.{same_name, name_itself, same_id, id_itself}
 use Rattle.load_worlds.specs.laws.Loaded.{none_is}
 use Rattle.load_rules.specs.Accepted.{Accepted, context_in}
-use Rattle.load_rules.specs.StaysSound.{HoldsLoaded, TableNamesDiffer, SourceNamesDiffer, TargetNamesDiffer}
-use Rattle.load_rules.proofs.Lists.{passes, embeds_given, embeds_kept, counted_differ, differ_image, differ_together, found_some}
-use Rattle.load_rules.proofs.Items.{table_spelled, set_spelled}
+use Rattle.load_rules.specs.StaysSound.{HoldsLoaded}
+use Rattle.load_rules.proofs.PartsOfSound.{TableNamesDiffer, SourceNamesDiffer, TargetNamesDiffer}
+use Rattle.load_rules.specs.laws.Lists.{passes, embeds_given, embeds_kept, counted_differ, differ_image, differ_together, found_some}
+use Rattle.load_rules.specs.laws.Items.{table_spelled, set_spelled}
 use Rattle.load_rules.proofs.Servers.{each_loaded, server_rules}
 
 -- two tables have one name at one server
@@ -91,7 +92,7 @@ set_once raw w defs accepted item i =
     (passes_at (λ (set : RawSet). not (set_breaks raw Once set)) raw.sets item (rule_kept raw (context_in w raw) accepted.kept Once).sets i))
 
 -- no two accepted sets have one name
-sets_once : (raw : RawDefs) (w : World) (defs : Defs) → Accepted raw w defs → all_differ same_def defs.sets ≡ true
+pub sets_once : (raw : RawDefs) (w : World) (defs : Defs) → Accepted raw w defs → all_differ same_def defs.sets ≡ true
 sets_once raw w defs accepted = subst (λ (d : Defs). all_differ same_def d.sets ≡ true) (sym accepted.spelled)
     (embeds_differ (λ def item. spelled_set tables item ≡ Some def) same_def (λ a b. names_raw_set a.qual a.name b)
     (λ x z y v p q e. ap₂ same_def (sym (set_spelled tables y x p)) (sym (set_spelled tables v z q)) ∙ e)

@@ -1,6 +1,19 @@
-mod Kept
-mod Lists
+mod PartsOfSound
 mod Items
 mod Worlds
 mod Servers
 mod Differ
+mod Parts
+mod KnownSets
+mod Unloaded
+mod ByKey
+pub mod Context
+mod TextMembers
+mod Links
+mod TargetsDiffer
+mod Chains
+mod Twins
+mod MembersStand
+mod TablesKeep
+mod SetsKeep
+mod DefinitionsStaySound

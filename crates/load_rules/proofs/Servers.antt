@@ -21,7 +21,8 @@ use Rattle.load_worlds.specs.laws.Servers.{same_name}
 use Rattle.load_worlds.specs.laws.Loaded.{server_loads}
 use Rattle.load_worlds.specs.laws.Stays.{names_stay, limits_stay, unknown_sources, unknown_targets, origin_stays}
 use Rattle.load_rules.specs.Accepted.{IsSetWithin, IsServerWithin, Accepted}
-use Rattle.load_rules.specs.StaysSound.{HoldsLoaded, ServersHaveNames, TablesAreCounted, SetsAreCounted, OriginsAreKnown, SourcesKeepLimits, TargetsKeepLimits}
+use Rattle.load_rules.specs.StaysSound.{HoldsLoaded}
+use Rattle.load_rules.proofs.PartsOfSound.{ServersHaveNames, TablesAreCounted, SetsAreCounted, OriginsAreKnown, SourcesKeepLimits, TargetsKeepLimits}
 use Rattle.load_rules.proofs.Items.{has_members}
 use Rattle.load_rules.proofs.Worlds.{world_loads}
 

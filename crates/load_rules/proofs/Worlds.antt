@@ -10,8 +10,9 @@ use Rattle.load_worlds.specs.Loads.{load_server, load_all}
 use Rattle.load_worlds.specs.laws.Members.{beside_images}
 use Rattle.load_worlds.specs.laws.Servers.{ServerGrows, WorldGrows}
 use Rattle.load_worlds.specs.laws.Loaded.{server_loads}
-use Rattle.load_rules.proofs.Lists.{differ_image}
-use Rattle.load_rules.specs.StaysSound.{HoldsLoaded, AreFew, NamesDiffer}
+use Rattle.load_rules.specs.laws.Lists.{differ_image}
+use Rattle.load_rules.specs.StaysSound.{HoldsLoaded}
+use Rattle.load_rules.proofs.PartsOfSound.{AreFew, NamesDiffer}
 
 -- each server becomes what a load makes of it
 pub world_loads : (defs : Defs) (w : World) → WorldGrows w (load_all defs w)

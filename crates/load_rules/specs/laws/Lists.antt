@@ -2,18 +2,24 @@
 use Rattle.std.proofs.Common.{◌≡◌, suc, ◌+◌, ◌≤◌, Bool, true, false, cond, not, ◌||◌, ◌&&◌, ◌⊎◌, inl, inr, List, [], ◌∷◌, ◌++◌, length, map, Option, Some, None, refl, sym, ap, ap₂, subst, ◌∙◌, arith}
 use Rattle.std.specs.Prelude.{is_some, find, filter}
 use Rattle.std.specs.List.{count_by, filter_map, cons_option, list_all, list_any}
+use Rattle.std.specs.Option.{IfSome}
 use Rattle.std.proofs.Math.Bool.{not-not}
 use Rattle.std.proofs.lemmas.Bool.{false≢true, and_parts, and_from, not-true, not_from_false, false_from_ne_true, both_ways}
 use Rattle.std.proofs.lemmas.List.Sums.{sum_by-cons}
 use Rattle.repl_model.specs.Rules.{all_differ}
-use Rattle.load_worlds.specs.laws.Members.{In, any_from, some_passes, any_image, in_either}
-use Rattle.load_worlds.specs.laws.Embedded.{Embeds}
+use Rattle.load_worlds.specs.laws.Members.{In, any_from, some_passes, any_image, only_one, in_either, found_in, beside_itself}
+use Rattle.load_worlds.specs.laws.Embedded.{Embeds, embeds_differ, embeds_filter_map}
 
 -- ---- tests
 
 -- what doesn't fail passes
 pub passes : (b : Bool) → not (not b) ≡ true → b ≡ true
 passes b e = sym (not-not b) ∙ e
+
+-- if the first fails or the second passes, and the first passes, the second does
+pub or_else : (a b : Bool) → (not a || b) ≡ true → a ≡ true → b ≡ true
+or_else true b e f = e
+or_else false b e f = absurd (false≢true f)
 
 -- ---- what a function gives
 
@@ -47,11 +53,11 @@ differ_image f same (x ∷ xs) = ap₂ (λ (a b : Bool). not a && b) (any_image 
 -- ---- nothing twice
 
 -- the count of a list with one element before
-counted : {X : Type 0} (p : X → Bool) (x : X) (xs : List X) → count_by p (x ∷ xs) ≡ cond (p x) 1 0 + count_by p xs
+pub counted : {X : Type 0} (p : X → Bool) (x : X) (xs : List X) → count_by p (x ∷ xs) ≡ cond (p x) 1 0 + count_by p xs
 counted p x xs = sum_by-cons (λ y. cond (p y) 1 0) x xs
 
 -- an element that passes is counted
-any_counts : {X : Type 0} (p : X → Bool) (xs : List X) → list_any p xs ≡ true → 1 ≤ count_by p xs
+pub any_counts : {X : Type 0} (p : X → Bool) (xs : List X) → list_any p xs ≡ true → 1 ≤ count_by p xs
 any_counts p [] e = absurd (false≢true e)
 any_counts {X} p (x ∷ xs) e = subst (λ n. 1 ≤ n) (sym (counted p x xs)) (by_test (p x) (any_counts p xs) e)
   where
@@ -91,6 +97,15 @@ differ_together {X} same (x ∷ xs) ys one two apart =
     by_list y e none (inl i) = both_ways (list_any (same x) xs) (not-true (list_any (same x) xs) none) (any_from (same x) xs y i e)
     by_list y e none (inr j) = apart x y (inl refl) j e
 
+-- no two that a function gives are alike by their names, if another function gives these names and they differ
+pub named_apart : {E X Y : Type 0} (name : X → Y) (same : Y → Y → Bool) (f : E → Option X) (g : E → Option Y) → ((e : E) (x : X) → f e ≡ Some x → g e ≡ Some (name x)) → (es : List E) → all_differ same (filter_map g es) ≡ true → all_differ (λ a b. same (name a) (name b)) (filter_map f es) ≡ true
+named_apart {E} {X} {Y} name same f g names es = embeds_differ (λ x y. name x ≡ y) (λ a b. same (name a) (name b)) same (λ x z y v p q e. ap₂ same (sym p) (sym q) ∙ e) (filter_map f es) (filter_map g es)
+    (embeds_filter_map (λ x y. name x ≡ y) f g es es (beside_itself (λ a b. IfSome (f a) (λ x. (y : Y) × (g b ≡ Some y) × (name x ≡ y))) (λ e. by_one e (f e) refl) es))
+  where
+    by_one : (e : E) (o : Option X) → f e ≡ o → IfSome o (λ x. (y : Y) × (g e ≡ Some y) × (name x ≡ y))
+    by_one e None is = tt
+    by_one e (Some x) is = (name x, names e x is, refl)
+
 -- what a filter keeps embeds in the elements that pass its test
 pub embeds_kept : {X : Type 0} (p : X → Bool) (xs : List X) → Embeds (λ y x. (y ≡ x) × (p x ≡ true)) (filter p xs) xs
 embeds_kept p [] = tt
@@ -113,3 +128,11 @@ found_some {X} p (y ∷ ys) x (inr i) e = by_test (p y) (found_some p ys x i e)
     by_test : (b : Bool) → is_some (find p ys) ≡ true → is_some (cond b (Some y) (find p ys)) ≡ true
     by_test true h = refl
     by_test false h = h
+
+-- an element that passes is found, if those that pass are alike and no two of the list are
+pub found_alone : {X : Type 0} (p : X → Bool) (same : X → X → Bool) (xs : List X) (x : X) → all_differ same xs ≡ true → ((a b : X) → p a ≡ true → p b ≡ true → same a b ≡ true) → In x xs → p x ≡ true → find p xs ≡ Some x
+found_alone {X} p same xs x differ alike i e = by_found (find p xs) refl
+  where
+    by_found : (o : Option X) → find p xs ≡ o → o ≡ Some x
+    by_found None none = absurd (false≢true (sym (ap (λ (o : Option X). is_some o) none) ∙ found_some p xs x i e))
+    by_found (Some y) found = let r = found_in p xs y found in ap Some (only_one same xs y x differ r.0 i (alike y x r.1 e) (alike x y e r.1))

@@ -1,0 +1,6 @@
+mod Read
+mod Counts
+mod Trees
+mod Typed
+mod Spelled
+mod Storable

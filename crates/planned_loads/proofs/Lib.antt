@@ -1,0 +1,16 @@
+pub mod Lists
+pub mod Tables
+pub mod ByKey
+pub mod Named
+pub mod Stored
+pub mod Added
+pub mod Once
+pub mod Registrations
+pub mod RowsOfTables
+pub mod RowsOfSets
+pub mod RowsOfRegistrations
+pub mod RowsAdded
+pub mod Gains
+pub mod Known
+pub mod Room
+pub mod Seen

@@ -1,0 +1,12 @@
+use Rattle.planned_loads.proofs.Gains.{plans_gains, stays_without_gains}
+use Rattle.planned_loads.proofs.RowsAdded.{adds_planned}
+use Rattle.planned_loads.proofs.planned_rows_load_a_server.Goals as goal
+
+pub returns-clause-rows : goal.returns-clause-rows
+returns-clause-rows c = adds_planned c.accepted_definitions_stay_sound.ensures
+
+pub returns-clause-gains : goal.returns-clause-gains
+returns-clause-gains c = plans_gains c.accepted_definitions_stay_sound.ensures
+
+pub returns-clause-stays : goal.returns-clause-stays
+returns-clause-stays c = stays_without_gains
