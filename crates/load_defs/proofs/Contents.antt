@@ -1,0 +1,119 @@
+-- What contents are after the rows of a load were put.
+use Rattle.std.proofs.Common.{◌≡◌, ℕ, zero, suc, ◌<◌, Bool, cond, List, false, refl, sym, ap, ◌∙◌, arith}
+use Rattle.std.proofs.lemmas.Bool.Decides.{nat_tests}
+use Rattle.std.specs.Prelude.{◌==◌, Option, Some, None}
+use Rattle.std.specs.Option.{option_or}
+use Rattle.repl_types.specs.declared.area.Area.{Area}
+use Rattle.repl_types.specs.declared.area.Area.TheVariants as areas
+use Rattle.keep_core.specs.Contents.{Contents, Table, with_table}
+use Rattle.row_codec.specs.Spelling.{b32, short_text, set_spelling}
+use Rattle.repl_definitions.specs.Defined.{defined_table_spelling, defined_registration_spelling}
+use Rattle.repl_definitions.specs.Sets.{source_set_spelling, target_set_spelling}
+use Rattle.repl_records.specs.Capture.{registration_state_spelling}
+use Rattle.repl_records.specs.Prune.{mark_spelling}
+use Rattle.repl_model.specs.World.{Server, World}
+use Rattle.spelled_defs.specs.declared.defs.Defs.{Defs}
+use Rattle.world_store.specs.Tables.{no_rows, with_first, first_table, definition_table, capture_table, prune_table, tables}
+use Rattle.world_store.specs.Stands.{Holds}
+use Rattle.stored_defs.specs.laws.Standing.{holds_defs}
+use Rattle.load_worlds.specs.Loads.{load_server}
+use Rattle.load_store.specs.LoadedServers.{is_loaded, Loaded}
+use Rattle.load_plan.specs.declared.additions.Additions.{Additions}
+use Rattle.planned_loads.specs.Planned.{with_rows, table_additions, registration_additions, state_additions, source_additions, mark_additions, target_additions}
+use Rattle.planned_loads.specs.PlannedLoads.{AddsRows}
+use Rattle.load_defs.specs.Putting.{added_rows, with_put, with_added}
+use Rattle.load_defs.specs.declared.rows.AddedRows.{AddedRows}
+
+-- if no record stands for a missing one, the table is read as it is
+no_first : (t : Table) → with_first no_rows t ≡ t
+no_first t = λ i k. none (t k) i
+  where
+    none : (o : Option (List ℕ)) → option_or o None ≡ o
+    none None = refl
+    none (Some v) = refl
+
+-- the states of registrations that a server holds are those that the world calls for
+holds_states : (w : World) (s : Server) (c : Contents) → Holds w s c → c areas.Capture 1 ≡ capture_table s 1
+unfolding tables first_table
+holds_states w s c holds = sym (no_first (c areas.Capture 1)) ∙ holds areas.Capture 1
+
+-- so are the marks
+holds_marks : (w : World) (s : Server) (c : Contents) → Holds w s c → c areas.Prune 0 ≡ prune_table s 0
+unfolding tables first_table
+holds_marks w s c holds = sym (no_first (c areas.Prune 0)) ∙ holds areas.Prune 0
+
+module _ (defs : Defs) (w : World) (s : Server) (added : Additions) (c : Contents) (adds : AddsRows defs s added) (holds : Holds w s c) where
+  -- the contents after all rows were put
+  abbrev put : Contents
+  put = with_added (added_rows added) c
+
+  -- the rows, and the contents after some of them were put
+  abbrev rows : AddedRows
+  rows = added_rows added
+
+  abbrev after_tables : Contents
+  after_tables = with_put short_text defined_table_spelling areas.Defs 0 rows.tables c
+
+  abbrev after_states : Contents
+  after_states = with_put b32 registration_state_spelling areas.Capture 1 rows.states (with_put short_text defined_registration_spelling areas.Defs 1 rows.registrations after_tables)
+
+  abbrev after_marks : Contents
+  after_marks = with_put b32 mark_spelling areas.Prune 0 rows.marks (with_put set_spelling source_set_spelling areas.Defs 2 rows.sources after_states)
+
+  -- beyond the tables of definitions nothing is put
+  beyond : (n : ℕ) → put areas.Defs (suc (suc (suc (suc n)))) ≡ c areas.Defs (suc (suc (suc (suc n))))
+  beyond n =
+      other 3 after_marks (with_rows set_spelling target_set_spelling rows.targets (after_marks areas.Defs 3)) (omega arith)
+      ∙ other 2 after_states (with_rows set_spelling source_set_spelling rows.sources (after_states areas.Defs 2)) (omega arith)
+      ∙ other 1 after_tables (with_rows short_text defined_registration_spelling rows.registrations (after_tables areas.Defs 1)) (omega arith)
+      ∙ other 0 c (with_rows short_text defined_table_spelling rows.tables (c areas.Defs 0)) (omega arith)
+    where
+      apart : (m : ℕ) → m < 4 → (m == suc (suc (suc (suc n)))) ≡ false
+      apart m lt = grind (arith, nat_tests, lt)
+
+      other : (m : ℕ) (d : Contents) (t : Table) → m < 4 → with_table d areas.Defs m t areas.Defs (suc (suc (suc (suc n)))) ≡ d areas.Defs (suc (suc (suc (suc n))))
+      other m d t lt = ap (λ (b : Bool). cond b t (d areas.Defs (suc (suc (suc (suc n)))))) (apart m lt)
+
+  -- the definitions are those of the loaded server
+  definitions : (n : ℕ) → put areas.Defs n ≡ definition_table (load_server defs s) n
+  definitions zero = ap (with_rows short_text defined_table_spelling (table_additions added)) (holds_defs w s c holds 0) ∙ adds.tables
+  definitions (suc zero) = ap (with_rows short_text defined_registration_spelling (registration_additions added)) (holds_defs w s c holds 1) ∙ adds.registrations
+  definitions (suc (suc zero)) = ap (with_rows set_spelling source_set_spelling (source_additions added)) (holds_defs w s c holds 2) ∙ adds.sources
+  definitions (suc (suc (suc zero))) = ap (with_rows set_spelling target_set_spelling (target_additions added)) (holds_defs w s c holds 3) ∙ adds.targets
+  definitions (suc (suc (suc (suc n)))) = beyond n ∙ holds_defs w s c holds (suc (suc (suc (suc n))))
+
+  -- a table beyond that of states is another
+  apart_state : (n : ℕ) → (1 == suc (suc n)) ≡ false
+  apart_state n = grind (arith, nat_tests)
+
+  -- a table beyond that of marks is another
+  apart_mark : (n : ℕ) → (0 == suc n) ≡ false
+  apart_mark n = grind (arith, nat_tests)
+
+  -- the tables in which nothing is put are as they were
+  others : (a : Area) (n : ℕ) → is_loaded a n ≡ false → put a n ≡ c a n
+  others areas.Log n e = refl
+  others areas.Source n e = refl
+  others areas.Inflight n e = refl
+  others areas.Head n e = refl
+  others areas.Defs n e = absurd (cc)
+  others areas.Cd n e = refl
+  others areas.Uow n e = refl
+  others areas.Capture zero e = refl
+  others areas.Capture (suc zero) e = absurd (cc)
+  others areas.Capture (suc (suc n)) e = ap (λ (b : Bool). cond b (with_rows b32 registration_state_spelling rows.states (c areas.Capture 1)) (c areas.Capture (suc (suc n)))) (apart_state n)
+  others areas.Prune zero e = absurd (cc)
+  others areas.Prune (suc n) e = ap (λ (b : Bool). cond b (with_rows b32 mark_spelling rows.marks (c areas.Prune 0)) (c areas.Prune (suc n))) (apart_mark n)
+  others areas.Spill n e = refl
+  others areas.Target n e = refl
+  others areas.SetState n e = refl
+  others areas.Trail n e = refl
+
+  -- what the server holds after the rows were put is what the load makes of it
+  pub rows_loaded : Loaded defs s c put
+  rows_loaded = record {
+    definitions = definitions;
+    states = ap (with_rows b32 registration_state_spelling (state_additions added)) (holds_states w s c holds) ∙ adds.states;
+    marks = ap (with_rows b32 mark_spelling (mark_additions added)) (holds_marks w s c holds) ∙ adds.marks;
+    others = others;
+  }

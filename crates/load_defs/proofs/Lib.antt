@@ -1,0 +1,11 @@
+pub mod Worlds
+pub mod Contents
+pub mod Standing
+pub mod Commits
+pub mod Faults
+pub mod Puts
+pub mod Added
+pub mod OneServer
+pub mod AllServers
+pub mod OneText
+pub mod StoredReads

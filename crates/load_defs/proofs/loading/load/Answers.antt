@@ -1,0 +1,61 @@
+use Rattle.std.proofs.Common.{◌≡◌, sym, subst}
+use Rattle.std.specs.List.{AllByRecursion}
+use Rattle.std.proofs.lemmas.Result.{err_from_is_err_and}
+use Rattle.spelled_defs.specs.declared.defs.Defs.{Defs}
+use Rattle.stored_defs.specs.Known.{in_defs, known_reads}
+use Rattle.stored_defs.specs.Rules.{ShowsDamage}
+use Rattle.accepted_texts.specs.Texts.{defs_beside}
+use Rattle.load_defs.specs.Putting.{CanBeLoaded}
+use Rattle.load_defs.proofs.Faults.{blames_after}
+use Rattle.load_defs.proofs.OneText.{IsPlanned, can_be_loaded, blames_some, reading_fails, planning_fails, loading_fails, has_loaded}
+use Rattle.load_defs.proofs.loading.load.Goals as goal
+
+pub returns-in_err-stored-clause-fault : goal.returns-in_err-stored-clause-fault
+returns-in_err-stored-clause-fault g c =
+    let p = err_from_is_err_and c.from_residual.result c.from_residual.ensures.1 in
+    rw (p.1, p.2) (reading_fails g.K.Keeper.kept c.args.sites.now c.args.raw.now c.read_servers.new.sites (in_defs known_reads) (ShowsDamage g.K.Keeper.kept c.args.sites.now) c.in_err-stored.field-0.0 c.in_err-stored.ensures.fault)
+
+pub returns-in_err-plan-clause-fault : goal.returns-in_err-plan-clause-fault
+returns-in_err-plan-clause-fault g c =
+    let p = err_from_is_err_and c.from_residual-in_err-plan.result c.from_residual-in_err-plan.ensures.1 in
+    rw (p.1, p.2) (planning_fails g.K.Keeper.kept c.args.sites.now c.args.raw.now c.in_ok-stored.stored c.in_ok-stored.ensures.stored c.read_servers.new.sites c.in_err-plan.field-0.0 c.in_ok-stored.ensures.ok.held (rw c.as_slice.ensures at c.in_err-plan.ensures.refused))
+
+pub load_servers-requires-clause-loads : goal.load_servers-requires-clause-loads
+load_servers-requires-clause-loads g c =
+    let keeps = rw c.as_slice.ensures at c.in_ok-plan.ensures.keeps in
+    let contents = rw c.as_slice.ensures at c.in_ok-plan.ensures.contents in
+    let planned : c.in_ok-plan.plan.defs ≡ defs_beside c.args.raw.now c.in_ok-stored.stored = rw c.as_slice.ensures at c.in_ok-plan.ensures.defs in
+    rw c.as_slice-2.ensures (subst (λ (d : Defs). AllByRecursion (CanBeLoaded d) c.in_ok-stored.stored) (sym planned) (can_be_loaded c.laws_of_texts.ensures.room c.laws_of_texts.ensures.stored c.args.raw.now c.in_ok-stored.stored keeps contents))
+
+pub returns-in_err-load_servers-clause-fault : goal.returns-in_err-load_servers-clause-fault
+returns-in_err-load_servers-clause-fault g c =
+    let laws = c.laws_of_texts.ensures in
+    let planned : c.in_ok-plan.plan.defs ≡ defs_beside c.args.raw.now c.in_ok-stored.stored = rw c.as_slice.ensures at c.in_ok-plan.ensures.defs in
+    let plan : IsPlanned c.args.raw.now c.in_ok-stored.stored = record {
+      accepted = rw c.as_slice.ensures at c.in_ok-plan.ensures.accepted;
+      keeps = rw c.as_slice.ensures at c.in_ok-plan.ensures.keeps;
+      contents = rw c.as_slice.ensures at c.in_ok-plan.ensures.contents;
+      sets = rw planned at c.in_ok-plan.ensures.typed;
+    } in
+    let p = err_from_is_err_and c.from_residual-in_err-load_servers.result c.from_residual-in_err-load_servers.ensures.1 in
+    rw (p.1, p.2) (loading_fails g.K.Keeper.kept c.args.sites.now c.args.raw.now c.in_ok-stored.stored c.in_ok-stored.ensures.stored plan laws.known laws.typed laws.seen laws.after c.read_servers.new.sites c.load_servers.new.sites (in_defs known_reads) c.in_ok-stored.ensures.ok c.in_err-load_servers.field-0.0 c.in_err-load_servers.ensures.blames (rw (c.as_slice-2.ensures, planned) at c.in_err-load_servers.ensures.stopped))
+
+pub returns-in_err-load_servers-clause-blames : goal.returns-in_err-load_servers-clause-blames
+returns-in_err-load_servers-clause-blames g c =
+    let kept = g.K.Keeper.kept in
+    let damage = ShowsDamage kept c.args.sites.now in
+    let e = c.in_err-load_servers.field-0.0 in
+    let p = err_from_is_err_and c.from_residual-in_err-load_servers.result c.from_residual-in_err-load_servers.ensures.1 in
+    rw (p.1, p.2) (blames_some kept c.args.sites.now c.load_servers.new.sites damage e (blames_after kept c.args.sites.now c.read_servers.new.sites c.load_servers.new.sites (λ s a cause. ⊥) damage e (λ s a cause h. h) c.in_ok-stored.ensures.ok.passes.faults c.in_err-load_servers.ensures.blames))
+
+pub returns-clause-ok : goal.returns-clause-ok
+returns-clause-ok g c =
+    let laws = c.laws_of_texts.ensures in
+    let planned : c.in_ok-plan.plan.defs ≡ defs_beside c.args.raw.now c.in_ok-stored.stored = rw c.as_slice.ensures at c.in_ok-plan.ensures.defs in
+    let plan : IsPlanned c.args.raw.now c.in_ok-stored.stored = record {
+      accepted = rw c.as_slice.ensures at c.in_ok-plan.ensures.accepted;
+      keeps = rw c.as_slice.ensures at c.in_ok-plan.ensures.keeps;
+      contents = rw c.as_slice.ensures at c.in_ok-plan.ensures.contents;
+      sets = rw planned at c.in_ok-plan.ensures.typed;
+    } in
+    has_loaded g.K.Keeper.kept c.args.sites.now c.args.raw.now c.in_ok-stored.stored c.in_ok-stored.ensures.stored plan laws.known laws.typed laws.seen laws.after c.read_servers.new.sites c.load_servers.new.sites (in_defs known_reads) c.in_ok-stored.ensures.ok c.in_ok-plan.plan.loaded (rw (c.as_slice.ensures, planned) at c.in_ok-plan.ensures.loaded) (rw (c.as_slice-2.ensures, planned) at c.in_ok-load_servers.ensures.ok)

@@ -1,0 +1,4 @@
+pub mod Counts
+pub mod Loading
+pub mod Planning
+pub mod Putting

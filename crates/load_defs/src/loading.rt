@@ -1,0 +1,48 @@
+//! The load of a text.
+
+ghost use Rattle.std.specs.Prelude.{IfOk, IfErr};
+ghost use Rattle.repl_model.specs.World.{World};
+ghost use Rattle.site_store.specs.Servers.{AllClosed};
+ghost use Rattle.site_store.specs.Views.{names, held, work};
+ghost use Rattle.world_store.specs.Stands.{Stands};
+ghost use Rattle.stored_defs.specs.Rules.{ShowsDamage};
+ghost use Rattle.accepted_texts.specs.Texts.{IsWhole};
+ghost use Rattle.load_defs.specs.Loading.{HasLoaded, HasNotLoaded, BlamesOrRefuses};
+ghost use Rattle.load_defs.specs.Loading.{LeavesServers};
+
+use crate::counts::Loaded;
+use crate::laws::laws_of_texts;
+use crate::plan::plan_load;
+use crate::reading::read_servers;
+use crate::servers::load_servers;
+use faults::Fault;
+use keep_core::Keeper;
+use repl_commands::RawDefs;
+use site_store::Sites;
+use std::alloc::Global;
+
+/// Loads the definitions of a text at their servers, and answers how many of its items were new.
+///
+/// The text is refused, and nothing is changed, if a rule is broken together with what is known, if
+/// it names a server that isn't there, if a limit is passed, or if a definition stands already with
+/// other contents; the first of these is answered. After another fault the first of the commits may
+/// have taken place, one at each server that got something new.
+pub fn load<K: Keeper>(sites: &mut Sites<K>, alloc: Global, raw: &RawDefs) -> Result<Loaded, Fault>
+    requires closed { AllClosed (work K.kept sites.old) }
+    requires raw { IsWhole raw.now }
+    ensures ok { IfOk result (λ loaded. (w : World)
+        → Stands (names sites.old) (held K.kept sites.old) w
+        → HasLoaded K.kept sites.old sites.new raw.now w loaded) }
+    ensures fault { IfErr result (λ e. (w : World)
+        → Stands (names sites.old) (held K.kept sites.old) w
+        → HasNotLoaded K.kept sites.old sites.new raw.now w e) }
+    ensures blames { IfErr result (BlamesOrRefuses K.kept sites.old sites.new
+        (ShowsDamage K.kept sites.old)) }
+    ensures servers { LeavesServers K.kept sites.old sites.new }
+{
+    laws_of_texts();
+    let stored = read_servers(sites, alloc)?;
+    let plan = plan_load(alloc, raw, stored.as_slice())?;
+    load_servers(sites, alloc, &plan.defs, stored.as_slice())?;
+    Ok(plan.loaded)
+}
