@@ -17,8 +17,8 @@ use Rattle.run_core.specs.Runs.{Event, Went, Stopped}
 use Rattle.run_core.specs.laws.Runs.{stopped_before}
 use Rattle.keep_core.specs.Kept.{Kept}
 use Rattle.site_store.specs.declared.sites.Sites.{Sites}
-use Rattle.site_store.specs.Views.{names, held}
-use Rattle.site_store.specs.Calls.{Bounds, Blames, Stays, Fails}
+use Rattle.site_store.specs.Views.{names, held, fault_counts}
+use Rattle.site_store.specs.Calls.{Bounds, NoneFell, Blames, Stays, Fails}
 use Rattle.spelled_defs.specs.Context.{context_of}
 use Rattle.spelled_defs.specs.declared.defs.Defs.{Defs}
 use Rattle.checked_defs.specs.Broken.{all_rules, first_broken}
@@ -43,6 +43,7 @@ use Rattle.load_defs.specs.Planning.{load_refusal, IsRefusedBy}
 use Rattle.load_defs.specs.Putting.{CanBeLoaded}
 use Rattle.load_defs.specs.declared.counts.Loaded.{Loaded}
 use Rattle.load_defs.proofs.AllServers.{InEach}
+use Rattle.load_defs.proofs.Faults.{blames_after}
 use Rattle.load_defs.proofs.Standing.{stands_held}
 
 -- The load of a text is planned: it isn't refused, and its definitions have spellings.
@@ -93,12 +94,19 @@ may_load knows types sees after raw stored w sound is plan = record { sound = so
     }
 
 module _ {K : Type 0} (kept : K → Kept) (s0 : Sites K) where
-  -- somebody is to blame, if nothing is refused
-  pub blames_some : (s1 : Sites K) (damage : ℕ → Area → DamageCause → Type 0) (e : Fault) → Blames kept s0 s1 damage e → BlamesOrRefuses kept s0 s1 damage e
-  blames_some s1 damage faults.Memory h = tt
-  blames_some s1 damage (faults.Keeper s) h = h
-  blames_some s1 damage (faults.Damaged s a cause) h = h
-  blames_some s1 damage (faults.Refused refusal) h = tt
+  -- who is to blame, if what servers keep can't be read
+  pub blames_reading : (s1 : Sites K) (x : Bounds) (damage : ℕ → Area → DamageCause → Type 0) (e : Fault) → Fails kept s0 s1 x damage e → BlamesOrRefuses kept s0 s1 damage e
+  blames_reading s1 x damage faults.Memory f = tt
+  blames_reading s1 x damage (faults.Keeper s) f = f.blames
+  blames_reading s1 x damage (faults.Damaged s a cause) f = (f.blames, f.closes.held)
+  blames_reading s1 x damage (faults.Refused refusal) f = tt
+
+  -- or if the load stopped at a server
+  pub blames_loading : (s1 s2 : Sites K) (damage : ℕ → Area → DamageCause → Type 0) (e : Fault) → NoneFell (fault_counts kept s0) (fault_counts kept s1) → Blames kept s1 s2 (λ s a cause. ⊥) e → BlamesOrRefuses kept s0 s2 damage e
+  blames_loading s1 s2 damage faults.Memory rose h = tt
+  blames_loading s1 s2 damage (faults.Keeper s) rose h = blames_after kept s0 s1 s2 (λ s a cause. ⊥) damage (faults.Keeper s) (λ s a cause h. h) rose h
+  blames_loading s1 s2 damage (faults.Damaged s a cause) rose h = absurd h.1
+  blames_loading s1 s2 damage (faults.Refused refusal) rose h = tt
 
   module _ (raw : RawDefs) where
     -- the load stopped before its first commit

@@ -86,9 +86,9 @@ module _ {K : Type 0} (kept : K → Kept) (old new : Sites K) where
   HasNotLoaded raw w (faults.Keeper server) = SomeHappened (load_events raw) w
   HasNotLoaded raw w (faults.Damaged server area cause) = SomeHappened (load_events raw) w
 
-  -- who is to blame for a fault of a load, if nothing was refused
+  -- who is to blame for a fault of a load, if nothing was refused; if damage is shown, the servers hold what they held
   abbrev pub BlamesOrRefuses : (ℕ → Area → DamageCause → Type 0) → Fault → Type 0
   BlamesOrRefuses damage (faults.Refused refusal) = Unit {0}
   BlamesOrRefuses damage faults.Memory = Unit {0}
   BlamesOrRefuses damage (faults.Keeper server) = Blames kept old new damage (faults.Keeper server)
-  BlamesOrRefuses damage (faults.Damaged server area cause) = Blames kept old new damage (faults.Damaged server area cause)
+  BlamesOrRefuses damage (faults.Damaged server area cause) = Blames kept old new damage (faults.Damaged server area cause) × (held kept new ≡ held kept old)

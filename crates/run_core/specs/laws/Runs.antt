@@ -98,17 +98,52 @@ module _ {W : Type 0} (Stands : List (Option Contents) → W → Type 0) where
     is_part = (took.rest, took.parts);
   }
 
+  -- ---- two runs in turn
+
+  -- they happened, if each did
+  pub went_both : (w : W) (xs ys : List (Event W)) (h h2 : List (Option Contents)) (t u v : Option (List ℕ)) → Went Stands xs w h t u → Went Stands ys (last_world w xs) h2 u v → Went Stands (xs ++ ys) w h2 t v
+  went_both w xs ys h h2 t u v first second = record {
+    stands = subst (Stands h2) (sym (last_append w xs ys)) second.stands;
+    bytes = subst (Takes t v) (sym (lines_append xs ys)) (takes_both t u v (lines_of xs) (lines_of ys) first.bytes second.bytes);
+  }
+
+  -- they stopped, if the first stopped
+  pub stopped_in_first : (w : W) (xs ys : List (Event W)) (h : List (Option Contents)) (t u : Option (List ℕ)) → Stopped Stands xs w h t u → Stopped Stands (xs ++ ys) w h t u
+  stopped_in_first w xs ys h t u stopped = record {
+    done = stopped.done;
+    rest = stopped.rest ++ ys;
+    part = stopped.part;
+    split = ap (λ (x : List (Event W)). x ++ ys) stopped.split ∙ append_assoc stopped.done stopped.rest ys;
+    stands = stopped.stands;
+    bytes = stopped.bytes;
+    is_part = part_of_more stopped.part stopped.rest ys stopped.is_part;
+  }
+
+  -- or if the first happened and the second stopped
+  pub stopped_in_second : (w : W) (xs ys : List (Event W)) (h h2 : List (Option Contents)) (t u v : Option (List ℕ)) → Went Stands xs w h t u → Stopped Stands ys (last_world w xs) h2 u v → Stopped Stands (xs ++ ys) w h2 t v
+  stopped_in_second w xs ys h h2 t u v first stopped = record {
+    done = xs ++ stopped.done;
+    rest = stopped.rest;
+    part = stopped.part;
+    split = ap (λ (x : List (Event W)). xs ++ x) stopped.split ∙ sym (append_assoc xs stopped.done stopped.rest);
+    stands = subst (Stands h2) (sym (last_append w xs stopped.done)) stopped.stands;
+    bytes = subst (Takes t v) (sym (append_assoc (lines_of xs) (lines_of stopped.done) stopped.part) ∙ ap (λ (x : List ℕ). x ++ stopped.part) (sym (lines_append xs stopped.done)))
+        (takes_both t u v (lines_of xs) (lines_of stopped.done ++ stopped.part) first.bytes stopped.bytes);
+    is_part = stopped.is_part;
+  }
+
   -- ---- one run after another
 
   module _ (events : List (Event W)) (w : W) (h h2 : List (Option Contents)) (before now now2 : Option (List ℕ)) (one : W → List (Event W)) (left : W → List (Event W)) (going : Going Stands events w (λ v. one v ++ left (last_world v (one v))) h before now) where
     -- if the next part of a run happened, fewer events are left
     pub goes_on : Went Stands (one (last_world w going.done)) (last_world w going.done) h2 now now2 → Going Stands events w left h2 before now2
     goes_on went =
-        let v = last_world w going.done in record {
+        let v = last_world w going.done in
+        let both = went_both w going.done (one v) h h2 before now now2 (record { stands = going.stands; bytes = going.bytes }) went in record {
           done = going.done ++ one v;
           split = going.split ∙ sym (append_assoc going.done (one v) (left (last_world v (one v)))) ∙ ap (λ (u : W). (going.done ++ one v) ++ left u) (sym (last_append w going.done (one v)));
-          stands = subst (Stands h2) (sym (last_append w going.done (one v))) went.stands;
-          bytes = subst (Takes before now2) (sym (lines_append going.done (one v))) (takes_both before now now2 (lines_of going.done) (lines_of (one v)) going.bytes went.bytes);
+          stands = both.stands;
+          bytes = both.bytes;
         }
 
     -- what happened then is what had happened before, and that part
@@ -120,15 +155,9 @@ module _ {W : Type 0} (Stands : List (Option Contents) → W → Type 0) where
     pub stops_in : Stopped Stands (one (last_world w going.done)) (last_world w going.done) h2 now now2 → Stopped Stands events w h2 before now2
     stops_in stopped =
         let v = last_world w going.done in
-        let later = left (last_world v (one v)) in record {
-          done = going.done ++ stopped.done;
-          rest = stopped.rest ++ later;
-          part = stopped.part;
-          split = going.split ∙ ap (λ (x : List (Event W)). going.done ++ (x ++ later)) stopped.split ∙ ap (λ (x : List (Event W)). going.done ++ x) (append_assoc stopped.done stopped.rest later) ∙ sym (append_assoc going.done stopped.done (stopped.rest ++ later));
-          stands = subst (Stands h2) (sym (last_append w going.done stopped.done)) stopped.stands;
-          bytes = subst (Takes before now2) (sym (append_assoc (lines_of going.done) (lines_of stopped.done) stopped.part) ∙ ap (λ (x : List ℕ). x ++ stopped.part) (sym (lines_append going.done stopped.done))) (takes_both before now now2 (lines_of going.done) (lines_of stopped.done ++ stopped.part) going.bytes stopped.bytes);
-          is_part = part_of_more stopped.part stopped.rest later stopped.is_part;
-        }
+        let later = left (last_world v (one v)) in
+        subst (λ (x : List (Event W)). Stopped Stands x w h2 before now2) (sym going.split)
+        (stopped_in_second w going.done (one v ++ later) h h2 before now now2 (record { stands = going.stands; bytes = going.bytes }) (stopped_in_first v (one v) later h2 now now2 stopped))
 
   -- if no events are left, the whole run happened
   pub going_end : (events : List (Event W)) (w : W) (h : List (Option Contents)) (before now : Option (List ℕ)) → Going Stands events w (λ v. []) h before now → Went Stands events w h before now

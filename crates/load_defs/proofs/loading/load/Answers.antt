@@ -6,14 +6,18 @@ use Rattle.stored_defs.specs.Known.{in_defs, known_reads}
 use Rattle.stored_defs.specs.Rules.{ShowsDamage}
 use Rattle.accepted_texts.specs.Texts.{defs_beside}
 use Rattle.load_defs.specs.Putting.{CanBeLoaded}
-use Rattle.load_defs.proofs.Faults.{blames_after}
-use Rattle.load_defs.proofs.OneText.{IsPlanned, can_be_loaded, blames_some, reading_fails, planning_fails, loading_fails, has_loaded}
+use Rattle.load_defs.proofs.OneText.{IsPlanned, can_be_loaded, blames_reading, blames_loading, reading_fails, planning_fails, loading_fails, has_loaded}
 use Rattle.load_defs.proofs.loading.load.Goals as goal
 
 pub returns-in_err-stored-clause-fault : goal.returns-in_err-stored-clause-fault
 returns-in_err-stored-clause-fault g c =
     let p = err_from_is_err_and c.from_residual.result c.from_residual.ensures.1 in
     rw (p.1, p.2) (reading_fails g.K.Keeper.kept c.args.sites.now c.args.raw.now c.read_servers.new.sites (in_defs known_reads) (ShowsDamage g.K.Keeper.kept c.args.sites.now) c.in_err-stored.field-0.0 c.in_err-stored.ensures.fault)
+
+pub returns-in_err-stored-clause-blames : goal.returns-in_err-stored-clause-blames
+returns-in_err-stored-clause-blames g c =
+    let p = err_from_is_err_and c.from_residual.result c.from_residual.ensures.1 in
+    rw (p.1, p.2) (blames_reading g.K.Keeper.kept c.args.sites.now c.read_servers.new.sites (in_defs known_reads) (ShowsDamage g.K.Keeper.kept c.args.sites.now) c.in_err-stored.field-0.0 c.in_err-stored.ensures.fault)
 
 pub returns-in_err-plan-clause-fault : goal.returns-in_err-plan-clause-fault
 returns-in_err-plan-clause-fault g c =
@@ -42,11 +46,8 @@ returns-in_err-load_servers-clause-fault g c =
 
 pub returns-in_err-load_servers-clause-blames : goal.returns-in_err-load_servers-clause-blames
 returns-in_err-load_servers-clause-blames g c =
-    let kept = g.K.Keeper.kept in
-    let damage = ShowsDamage kept c.args.sites.now in
-    let e = c.in_err-load_servers.field-0.0 in
     let p = err_from_is_err_and c.from_residual-in_err-load_servers.result c.from_residual-in_err-load_servers.ensures.1 in
-    rw (p.1, p.2) (blames_some kept c.args.sites.now c.load_servers.new.sites damage e (blames_after kept c.args.sites.now c.read_servers.new.sites c.load_servers.new.sites (λ s a cause. ⊥) damage e (λ s a cause h. h) c.in_ok-stored.ensures.ok.passes.faults c.in_err-load_servers.ensures.blames))
+    rw (p.1, p.2) (blames_loading g.K.Keeper.kept c.args.sites.now c.read_servers.new.sites c.load_servers.new.sites (ShowsDamage g.K.Keeper.kept c.args.sites.now) c.in_err-load_servers.field-0.0 c.in_ok-stored.ensures.ok.passes.faults c.in_err-load_servers.ensures.blames)
 
 pub returns-clause-ok : goal.returns-clause-ok
 returns-clause-ok g c =
