@@ -1,0 +1,16 @@
+mod Puts
+mod PutTables
+mod LogTables
+mod LastEnds
+mod OpenEntries
+mod OwnEntries
+mod InFlightRows
+mod Transactions
+mod LoggedChanges
+mod StoredRows
+mod FittingRows
+mod SourceReads
+mod LoggedRows
+mod SourceLogs
+mod InTurn
+mod StorableRows

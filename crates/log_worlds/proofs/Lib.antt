@@ -1,0 +1,8 @@
+mod Lists
+mod Units
+mod LongerServers
+mod SoundUnits
+mod OneLog
+mod LongerWorlds
+mod Definitions
+mod StaysSound

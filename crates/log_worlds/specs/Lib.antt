@@ -1,0 +1,4 @@
+pub mod LongerLogs
+pub mod StaysSound
+pub mod WorkedRecords
+pub mod laws
