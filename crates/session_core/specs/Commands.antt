@@ -11,14 +11,14 @@ use Rattle.repl_model.specs.World.{World}
 use Rattle.run_core.specs.Runs.{Event}
 use Rattle.script_text.specs.Words.{first_word}
 use Rattle.script_text.specs.Asked.{Asked, asks, unknown, bad, asked_by}
-use Rattle.session_core.specs.Refusing.{refused}
-use Rattle.session_core.specs.StatusCommand.{status_events}
+use Rattle.run_parts.specs.Refusing.{refused}
+use Rattle.status_command.specs.StatusEvents.{status_events}
 
 -- ---- which commands are carried out
 
--- what a run does at a command, None if the command isn't carried out yet
+-- what a run does at a command, None if the command isn't carried out yet; the text of a load is loaded at its end
 abbrev pub talk_of : Command → Option (World → List (Event World))
-talk_of Load = None
+talk_of Load = Some (λ w. [])
 talk_of (Feed server) = None
 talk_of (Capture server units every) = None
 talk_of (CaptureCold server) = None
@@ -43,7 +43,7 @@ talk_of (ShowRejected server set) = None
 
 -- the first words of these commands, as `first_words_of_commands` shows
 abbrev pub carried_out_verbs : List (List ℕ)
-carried_out_verbs = codes "status" ∷ []
+carried_out_verbs = codes "load" ∷ codes "status" ∷ []
 
 -- a word is one of them
 abbrev pub is_carried_out_verb : List ℕ → Bool

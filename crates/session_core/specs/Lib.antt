@@ -1,11 +1,6 @@
-pub mod Causes
+pub mod Bodies
 pub mod Commands
 pub mod Copying
-pub mod ExitStatus
 pub mod Lines
-pub mod Parts
-pub mod Refusing
-pub mod RunErrors
 pub mod Session
-pub mod StatusCommand
 pub mod Talk

@@ -10,7 +10,7 @@ use Rattle.repl_model.specs.World.{World}
 use Rattle.world_store.specs.Stands.{Stands}
 use Rattle.run_core.specs.Runs.{Event, Went, is_refused}
 use Rattle.session_core.specs.Copying.{copy_events}
-use Rattle.session_core.specs.ExitStatus.{status_of_done}
+use Rattle.run_parts.specs.ExitStatus.{status_of_done}
 use Rattle.session_core.specs.Talk.{script_events}
 
 -- ---- what the words ask for

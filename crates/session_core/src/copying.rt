@@ -4,13 +4,25 @@ ghost use Rattle.std.specs.Prelude.{◌≡◌, List, Option, is_some, IfOk, IfEr
 ghost use Rattle.keep_core.specs.Contents.{Contents};
 ghost use Rattle.repl_model.specs.World.{World};
 ghost use Rattle.run_core.specs.Runs.{Went, Stopped, is_refused};
-ghost use Rattle.session_core.specs.Causes.{HasEnded, IsNoServers};
-ghost use Rattle.session_core.specs.Copying.{copy_events};
+ghost use Rattle.run_parts.specs.Causes.{HasEnded, IsNoServers};
+ghost use Rattle.session_core.specs.Copying.{copy_events, error_of_copy as error_of_copy_lem};
 
-use crate::run_error::RunError;
-use copy_lists::run_copy;
+use copy_lists::{Early, run_copy};
 use keep_core::{Sink, Source};
+use run_parts::RunError;
 use std::alloc::Global;
+
+/// Why a run of `copy` ends early.
+fn error_of_copy(early: Early) -> RunError
+    ensures { result ≡ error_of_copy_lem early }
+{
+    match early {
+        Early::Memory => RunError::Memory,
+        Early::InputFailed => RunError::InputFailed,
+        Early::InputTooLong => RunError::InputTooLong,
+        Early::OutputFailed => RunError::OutputFailed,
+    }
+}
 
 /// Carries out `copy`, and says whether a line was refused. After an error the run stopped on its
 /// way. What servers hold isn't touched.
@@ -31,6 +43,8 @@ pub fn copy<I: Source, O: Sink>(
         (I.faults input.new) (O.faults output.old) (O.faults output.new) result }
     ensures servers { IfErr result IsNoServers }
 {
-    let refused = run_copy(alloc, input, output)?;
-    Ok(refused.is_some())
+    match run_copy(alloc, input, output) {
+        Ok(refused) => Ok(refused.is_some()),
+        Err(early) => Err(error_of_copy(early)),
+    }
 }

@@ -3,10 +3,11 @@
 //!
 //! Below it are `run_words`, which reads the words, `script_lines`, `script_text` and `reply_text`,
 //! which read the lines of a script and write its replies, `site_store`, which has the servers,
-//! `world_store` and `run_core`, whose definitions say what a run does to them, and `copy_lists`,
-//! which carries out `copy`. Above it, `sqlrep` calls `session` with the standard streams. The
-//! contract of `session` is what the program promises; `docs/MODEL.md` says its definitions in
-//! words.
+//! `world_store` and `run_core`, whose definitions say what a run does to them, `raw_defs` and
+//! `load_defs`, which read the text of a load and load its definitions, `show_rows`, which writes
+//! the lines of `status`, and `copy_lists`, which carries out `copy`. Above it, `sqlrep` calls
+//! `session` with the standard streams. The contract of `session` is what the program promises;
+//! `docs/MODEL.md` says its definitions in words.
 //!
 //! For example, at the word `copy` the input lines `insert 1 items 7 'pen'` and `commit 1 ann 100`
 //! give the output lines `row 7 'pen'` and `ok rows 1`, and the status `Ok`. At the word `hq=:map:`
@@ -22,27 +23,24 @@ ghost use Rattle.run_core.specs.Runs.{Stopped};
 ghost use Rattle.run_words.specs.declared.opening.Opening.{Opening};
 ghost use Rattle.site_store.specs.Servers.{AllClosed};
 ghost use Rattle.site_store.specs.Views.{names, held, work};
-ghost use Rattle.session_core.specs.Causes.{HasCause};
+ghost use Rattle.run_parts.specs.Causes.{HasCause};
 ghost use Rattle.session_core.specs.Session.{Asks, run_events, StandsFor, is_done, Ran};
 
+mod bodies;
 mod commands;
 mod copying;
-mod exit_status;
 mod laws;
 mod opening;
-mod replies;
-mod run_error;
 mod script;
-mod status_command;
 mod words;
 
-use crate::exit_status::{done_status, error_status};
 use crate::opening::run_opening;
 use crate::words::asked_opening;
 use keep_core::{Keeper, Sink, Source};
 pub use laws::first_words_of_commands;
 use repl_commands::WordsError;
 use repl_types::Status;
+use run_parts::{done_status, error_status};
 use run_words::one_opening_of_words;
 use site_store::Sites;
 use std::alloc::Global;
@@ -55,9 +53,12 @@ use std::alloc::Global;
 /// of that log, a line with the count of rows, and then a line that reports the refused line, if
 /// there is one.
 ///
-/// A script is read to its end, line by line. At `status` of a server its lines are written, how
-/// far it is and its registrations and sets among them; for each line that is refused a line with
-/// the cause is written. No other command is carried out yet, so each is refused as unknown.
+/// A script is read to its end, line by line. At `load` the definitions of its body are loaded when
+/// the body ends, at the next line of a command or at the end of the input, and a line says how
+/// many were new; sets of other targets than user copies, or with limits of their steps, aren't
+/// taken yet. At `status` of a server its lines are written, how far it is and its registrations
+/// and sets among them. For each line and each load that is refused a line with the cause is
+/// written. No other command is carried out yet, so each is refused as unknown.
 ///
 /// At `Ok` and `Refused` the whole input was read, and all that the run does happened. At `Usage`
 /// nothing was read or written. At any other status some of it happened, from its beginning on, and

@@ -5,14 +5,14 @@ ghost use Rattle.repl_model.specs.World.{World};
 ghost use Rattle.run_core.specs.Runs.{Went, Stopped, is_refused};
 ghost use Rattle.site_store.specs.Servers.{AllClosed};
 ghost use Rattle.site_store.specs.Views.{names, held, work};
-ghost use Rattle.session_core.specs.Causes.{BlamesServers, HasEnded};
-ghost use Rattle.session_core.specs.ExitStatus.{status_of_error};
+ghost use Rattle.run_parts.specs.Causes.{BlamesServers, HasEnded};
+ghost use Rattle.run_parts.specs.ExitStatus.{status_of_error};
 ghost use Rattle.session_core.specs.Session.{run_events, StandsFor};
 
 use crate::copying::copy;
-use crate::run_error::RunError;
 use crate::script::run_script;
 use keep_core::{Keeper, Sink, Source};
+use run_parts::RunError;
 use run_words::Opening;
 use site_store::Sites;
 use std::alloc::Global;

@@ -1,6 +1,6 @@
 //! The run of a script, line by line.
 
-ghost use Rattle.std.specs.Prelude.{◌≡◌, ◌≤◌, [], IfOk, IfErr, IfSome, OnErr, not};
+ghost use Rattle.std.specs.Prelude.{◌≡◌, ◌≤◌, [], IfOk, IfErr, IfSome, OnErr};
 ghost use Rattle.std.specs.Prelude.{if◌then◌else◌};
 ghost use Rattle.keep_core.specs.Revealed.{Takes, TakesPrefix};
 ghost use Rattle.repl_model.specs.World.{World};
@@ -9,43 +9,134 @@ ghost use Rattle.script_lines.specs.Script.{line_of};
 ghost use Rattle.site_store.specs.Servers.{AllClosed};
 ghost use Rattle.site_store.specs.Views.{names, held, work};
 ghost use Rattle.world_store.specs.Stands.{Stands};
-ghost use Rattle.session_core.specs.Causes.{BlamesServers, HasEnded, IsOfOutput, PartHasCause};
-ghost use Rattle.session_core.specs.ExitStatus.{status_of_error};
-ghost use Rattle.session_core.specs.Parts.{KeepsServers, Happened, StoppedIn};
-ghost use Rattle.session_core.specs.Refusing.{refused as refused_lem};
-ghost use Rattle.session_core.specs.Talk.{line_events, script_events};
-ghost use Rattle.session_core.specs.Talk.{skips_after as skips_after_lem};
+ghost use Rattle.run_parts.specs.Causes.{BlamesServers, HasEnded, IsOfOutput, PartHasCause};
+ghost use Rattle.run_parts.specs.ExitStatus.{status_of_error};
+ghost use Rattle.run_parts.specs.Parts.{KeepsServers, Happened, StoppedIn};
+ghost use Rattle.run_parts.specs.Refusing.{refused as refused_lem};
+ghost use Rattle.session_core.specs.Commands.{command_line_events};
+ghost use Rattle.run_parts.specs.Parts.{then_events};
+ghost use Rattle.session_core.specs.Talk.{end_events, line_events, script_events};
+ghost use Rattle.session_core.specs.Talk.{refuses_body as refuses_body_lem};
+ghost use Rattle.session_core.specs.Talk.{refuses_long_body as refuses_long_body_lem};
 
+use crate::bodies::{Bodies, bodies_after};
 use crate::commands::run_line;
-use crate::replies::refuse;
-use crate::run_error::RunError;
 use keep_core::{Keeper, Sink, Source};
+use load_command::load_text;
 use repl_types::Refusal;
+use run_parts::{RunError, refuse};
 use script_lines::{LineKind, Script};
-use script_text::takes_body;
 use site_store::Sites;
 use std::alloc::Global;
 
-/// Refuses a body line, unless it is skipped, and says whether it was refused. After an error a
-/// prefix of the line that refuses it was taken.
+/// Ends a body: loads the text of a load, and says whether something was refused.
+fn end_bodies<K: Keeper, O: Sink>(
+    alloc: Global,
+    sites: &mut Sites<K>,
+    output: &mut O,
+    bodies: &Bodies,
+) -> Result<bool, RunError>
+    requires { AllClosed (work K.kept sites.old) }
+    ensures ok { IfOk result (Happened K.kept sites.old sites.new (O.taken output.old)
+        (O.taken output.new) (end_events bodies.now)) }
+    ensures stopped { OnErr result (StoppedIn K.kept sites.old sites.new (O.taken output.old)
+        (O.taken output.new) (end_events bodies.now)) }
+    ensures servers { KeepsServers K.kept sites.old sites.new }
+    ensures cause { IfErr result (PartHasCause K.kept sites.old sites.new (O.faults output.old)
+        (O.faults output.new)) }
+    ensures counts { O.faults output.old ≤ O.faults output.new }
+{
+    match bodies {
+        Bodies::Refused | Bodies::Skipped => Ok(false),
+        Bodies::Gathered(text) => load_text(alloc, sites, output, text),
+    }
+}
+
+/// Whether body lines are refused.
+fn refuses_body(bodies: &Bodies) -> bool
+    ensures { result ≡ refuses_body_lem bodies.now }
+{
+    matches!(bodies, Bodies::Refused)
+}
+
+/// Whether body lines over the limit are refused.
+fn refuses_long_body(bodies: &Bodies) -> bool
+    ensures { result ≡ refuses_long_body_lem bodies.now }
+{
+    !matches!(bodies, Bodies::Skipped)
+}
+
+/// Refuses a body line if it is to be refused, and says whether it was. After an error a prefix of
+/// the line that refuses it was taken.
 fn answer_body<O: Sink>(
     alloc: Global,
     output: &mut O,
-    skips: bool,
+    refuses: bool,
     refusal: &Refusal,
 ) -> Result<bool, RunError>
-    ensures ok { IfOk result (λ was_refused. (was_refused ≡ not skips)
+    ensures ok { IfOk result (λ was_refused. (was_refused ≡ refuses)
         × Takes (O.taken output.old) (O.taken output.new)
-        (if skips then [] else lines_of (refused_lem refusal.now))) }
+        (if refuses then lines_of (refused_lem refusal.now) else [])) }
     ensures stopped { OnErr result (TakesPrefix (O.taken output.old) (O.taken output.new)
-        (if skips then [] else lines_of (refused_lem refusal.now))) }
+        (if refuses then lines_of (refused_lem refusal.now) else [])) }
     ensures cause { IfErr result (IsOfOutput (O.faults output.old) (O.faults output.new)) }
     ensures counts { O.faults output.old ≤ O.faults output.new }
 {
-    if skips {
+    if !refuses {
         return Ok(false);
     }
     refuse(alloc, output, refusal)
+}
+
+/// Answers a line of a command: ends the body before it, and then does what it asks for.
+fn answer_command<K: Keeper, O: Sink>(
+    alloc: Global,
+    sites: &mut Sites<K>,
+    output: &mut O,
+    bodies: &Bodies,
+    number: u64,
+    line: &[u8],
+) -> Result<bool, RunError>
+    requires { AllClosed (work K.kept sites.old) }
+    ensures ok { IfOk result (Happened K.kept sites.old sites.new (O.taken output.old)
+        (O.taken output.new)
+        (then_events (end_events bodies.now) (command_line_events number line.now))) }
+    ensures stopped { OnErr result (StoppedIn K.kept sites.old sites.new (O.taken output.old)
+        (O.taken output.new)
+        (then_events (end_events bodies.now) (command_line_events number line.now))) }
+    ensures servers { KeepsServers K.kept sites.old sites.new }
+    ensures cause { IfErr result (PartHasCause K.kept sites.old sites.new (O.faults output.old)
+        (O.faults output.new)) }
+    ensures counts { O.faults output.old ≤ O.faults output.new }
+{
+    let ended = end_bodies(alloc, sites, output, bodies)?;
+    let asked = run_line(alloc, sites, output, number, line)?;
+    Ok(ended | asked)
+}
+
+/// Answers a line of a command over the limit: ends the body before it, and then refuses the line.
+fn answer_long_command<K: Keeper, O: Sink>(
+    alloc: Global,
+    sites: &mut Sites<K>,
+    output: &mut O,
+    bodies: &Bodies,
+    number: u64,
+) -> Result<bool, RunError>
+    requires { AllClosed (work K.kept sites.old) }
+    ensures ok { IfOk result (Happened K.kept sites.old sites.new (O.taken output.old)
+        (O.taken output.new)
+        (then_events (end_events bodies.now) (λ w. refused_lem (Refusal.LineTooLong number)))) }
+    ensures stopped { OnErr result (StoppedIn K.kept sites.old sites.new (O.taken output.old)
+        (O.taken output.new)
+        (then_events (end_events bodies.now) (λ w. refused_lem (Refusal.LineTooLong number)))) }
+    ensures servers { KeepsServers K.kept sites.old sites.new }
+    ensures cause { IfErr result (PartHasCause K.kept sites.old sites.new (O.faults output.old)
+        (O.faults output.new)) }
+    ensures counts { O.faults output.old ≤ O.faults output.new }
+{
+    let ended = end_bodies(alloc, sites, output, bodies)?;
+    let refused = refuse(alloc, output, &Refusal::LineTooLong { line: number })?;
+    Ok(ended | refused)
 }
 
 /// Answers a line, of whose text these bytes are kept, and says whether something was refused.
@@ -53,39 +144,32 @@ fn answer_line<K: Keeper, O: Sink>(
     alloc: Global,
     sites: &mut Sites<K>,
     output: &mut O,
-    skips: bool,
+    bodies: &Bodies,
     number: u64,
     kind: LineKind,
     text: &[u8],
 ) -> Result<bool, RunError>
     requires { AllClosed (work K.kept sites.old) }
     ensures ok { IfOk result (Happened K.kept sites.old sites.new (O.taken output.old)
-        (O.taken output.new) (line_events skips number (line_of kind text.now))) }
+        (O.taken output.new) (line_events bodies.now number (line_of kind text.now))) }
     ensures stopped { OnErr result (StoppedIn K.kept sites.old sites.new (O.taken output.old)
-        (O.taken output.new) (line_events skips number (line_of kind text.now))) }
+        (O.taken output.new) (line_events bodies.now number (line_of kind text.now))) }
     ensures servers { KeepsServers K.kept sites.old sites.new }
     ensures cause { IfErr result (PartHasCause K.kept sites.old sites.new (O.faults output.old)
         (O.faults output.new)) }
     ensures counts { O.faults output.old ≤ O.faults output.new }
 {
     match kind {
-        LineKind::Command => run_line(alloc, sites, output, number, text),
-        LineKind::Body => answer_body(alloc, output, skips, &Refusal::BadLine { line: number }),
-        LineKind::LongBody => {
-            answer_body(alloc, output, skips, &Refusal::LineTooLong { line: number })
+        LineKind::Command => answer_command(alloc, sites, output, bodies, number, text),
+        LineKind::Body => {
+            let refusal = Refusal::BadLine { line: number };
+            answer_body(alloc, output, refuses_body(bodies), &refusal)
         }
-        LineKind::LongCommand => refuse(alloc, output, &Refusal::LineTooLong { line: number }),
-    }
-}
-
-/// Whether body lines after a line are skipped.
-fn skips_after(skips: bool, kind: LineKind, text: &[u8]) -> bool
-    ensures { result ≡ skips_after_lem skips (line_of kind text.now) }
-{
-    match kind {
-        LineKind::Command => takes_body(text),
-        LineKind::Body | LineKind::LongBody => skips,
-        LineKind::LongCommand => false,
+        LineKind::LongCommand => answer_long_command(alloc, sites, output, bodies, number),
+        LineKind::LongBody => {
+            let refusal = Refusal::LineTooLong { line: number };
+            answer_body(alloc, output, refuses_long_body(bodies), &refusal)
+        }
     }
 }
 
@@ -113,7 +197,7 @@ pub fn run_script<K: Keeper, I: Source, O: Sink>(
     ensures closed { AllClosed (work K.kept sites.new) }
 {
     let mut script = Script::new(alloc)?;
-    let mut skips = false;
+    let mut bodies = Bodies::Refused;
     let mut refused = false;
     while let Some(kind) = script.peek(input)? {
         script.take();
@@ -121,12 +205,13 @@ pub fn run_script<K: Keeper, I: Source, O: Sink>(
             alloc,
             sites,
             output,
-            skips,
+            &bodies,
             script.number(),
             kind,
             script.text(),
         )?;
-        skips = skips_after(skips, kind, script.text());
+        bodies = bodies_after(alloc, bodies, kind, script.text())?;
     }
-    Ok(refused)
+    let ended = end_bodies(alloc, sites, output, &bodies)?;
+    Ok(refused | ended)
 }

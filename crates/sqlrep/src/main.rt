@@ -21,6 +21,8 @@ ghost use Rattle.sqlrep.specs.Opened.{on_disk as on_disk_lem};
 
 mod ending;
 mod help;
+#[cfg(test)]
+mod load_tests;
 mod servers;
 mod streams;
 #[cfg(test)]

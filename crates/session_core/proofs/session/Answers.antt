@@ -4,7 +4,7 @@ use Rattle.run_core.specs.Runs.{Stopped}
 use Rattle.run_words.specs.declared.opening.Opening.{Opening}
 use Rattle.site_store.specs.Views.{names, held}
 use Rattle.session_core.specs.Session.{run_events, StandsFor}
-use Rattle.session_core.proofs.Exits.{nothing_yet}
+use Rattle.run_parts.specs.laws.Exits.{nothing_yet}
 use Rattle.session_core.proofs.session.Goals as goal
 
 pub returns-in-Err-Memory-clause-stopped : goal.returns-in-Err-Memory-clause-stopped

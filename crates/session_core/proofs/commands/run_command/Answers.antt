@@ -4,11 +4,11 @@ use Rattle.std.specs.Option.{option_map_or}
 use Rattle.repl_types.specs.declared.refusal.Refusal.TheVariants as refusals
 use Rattle.repl_model.specs.World.{World}
 use Rattle.run_core.specs.Runs.{Event}
+use Rattle.run_parts.specs.Parts.{Happened, StoppedIn}
+use Rattle.run_parts.specs.Refusing.{refused}
+use Rattle.run_parts.specs.laws.Exits.{err_also, ok_also, if_err_also}
+use Rattle.run_parts.specs.laws.Parts.{refusal_written, refusal_begun, untouched, output_cause}
 use Rattle.session_core.specs.Commands.{talk_of}
-use Rattle.session_core.specs.Parts.{Happened, StoppedIn}
-use Rattle.session_core.specs.Refusing.{refused}
-use Rattle.session_core.proofs.Exits.{err_also, ok_also, if_err_also}
-use Rattle.session_core.proofs.Parts.{refusal_written, refusal_begun, untouched, output_cause}
 use Rattle.session_core.proofs.Verbs.{not_carried_out}
 use Rattle.session_core.proofs.commands.run_command.Goals as goal
 
@@ -19,11 +19,11 @@ returns-in_default g c =
     let t = g.O.Sink.taken c.args.output.now in
     let u = g.O.Sink.taken c.refuse.new.output in
     let unknown = refusals.UnknownCommand c.args.number in
-    let none : talk_of c.args.command ≡ None = not_carried_out c.args.command c.in_default.not-StatusServer in
+    let none : talk_of c.args.command ≡ None = not_carried_out c.args.command c.requires.other c.in_default.not-StatusServer in
     record {
       ok = subst (λ (talk : Option (World → List (Event World))). IfOk c.refuse.result (Happened kept sites sites t u (λ w. option_map_or (λ events. events w) talk (refused unknown)))) (sym none) (ok_also c.refuse.result (refusal_written kept sites t u unknown) c.refuse.ensures.ok);
       stopped = subst (λ (talk : Option (World → List (Event World))). OnErr c.refuse.result (StoppedIn kept sites sites t u (λ w. option_map_or (λ events. events w) talk (refused unknown)))) (sym none) (err_also c.refuse.result (refusal_begun kept sites t u unknown) c.refuse.ensures.stopped);
-      servers = untouched kept sites c.requires;
-      cause = if_err_also c.refuse.result (output_cause kept sites (g.O.Sink.faults c.args.output.now) (g.O.Sink.faults c.refuse.new.output)) c.refuse.ensures.cause;
+      servers = untouched kept sites c.requires.closed;
+      cause = if_err_also c.refuse.result (output_cause kept sites sites (g.O.Sink.faults c.args.output.now) (g.O.Sink.faults c.refuse.new.output)) c.refuse.ensures.cause;
       counts = c.refuse.ensures.counts;
     }

@@ -4,10 +4,10 @@ use Rattle.repl_types.specs.declared.refusal.Refusal.{Refusal}
 use Rattle.repl_types.specs.declared.refusal.Refusal.TheVariants as refusals
 use Rattle.script_text.specs.Asked.{Asked, asked_by, unknown, bad}
 use Rattle.session_core.specs.Commands.{command_line_events, asked_events}
-use Rattle.session_core.specs.Parts.{Happened, StoppedIn}
-use Rattle.session_core.specs.Refusing.{refused}
-use Rattle.session_core.proofs.Exits.{err_also, ok_also}
-use Rattle.session_core.proofs.Parts.{refusal_written, refusal_begun, nothing_done}
+use Rattle.run_parts.specs.Parts.{Happened, StoppedIn}
+use Rattle.run_parts.specs.Refusing.{refused}
+use Rattle.run_parts.specs.laws.Exits.{err_also, ok_also}
+use Rattle.run_parts.specs.laws.Parts.{refusal_written, refusal_begun, nothing_done}
 use Rattle.session_core.proofs.commands.run_line.Goals as goal
 
 pub returns-in-Err-Memory-clause-stopped : goal.returns-in-Err-Memory-clause-stopped

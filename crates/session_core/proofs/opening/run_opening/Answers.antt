@@ -1,6 +1,6 @@
 use Rattle.site_store.specs.Views.{held}
-use Rattle.session_core.proofs.Causes.{unblamed}
-use Rattle.session_core.proofs.Exits.{err_also, ok_also, if_err_also}
+use Rattle.run_parts.specs.laws.Causes.{unblamed}
+use Rattle.run_parts.specs.laws.Exits.{err_also, ok_also, if_err_also}
 use Rattle.session_core.proofs.opening.run_opening.Goals as goal
 
 pub returns-in-Copy-clause-ok : goal.returns-in-Copy-clause-ok

@@ -5,12 +5,12 @@ use Rattle.script_lines.specs.Script.{lines_left, total_left, pending, HasOneSou
 use Rattle.site_store.specs.Views.{names, held}
 use Rattle.world_store.specs.Stands.{Stands}
 use Rattle.session_core.specs.Lines.{GoesOn}
-use Rattle.session_core.specs.Parts.{KeepsServers}
+use Rattle.run_parts.specs.Parts.{KeepsServers}
 use Rattle.session_core.proofs.script.run_script.Given as goal
 
-abbrev pub invariant-loop-script : goal.invariant-loop-script
-invariant-loop-script g l = record {
-  going : (w : World) → Stands (names l.fn.sites) (held g.K.Keeper.kept l.fn.sites) w → GoesOn (Stands (names l.fn.sites)) (g.I.Source.left l.fn.input) w l.skips (lines_left l.script (g.I.Source.left l.input)) (held g.K.Keeper.kept l.sites) (g.O.Sink.taken l.fn.output) (g.O.Sink.taken l.output) l.refused;
+abbrev pub invariant-loop-bodies : goal.invariant-loop-bodies
+invariant-loop-bodies g l = record {
+  going : (w : World) → Stands (names l.fn.sites) (held g.K.Keeper.kept l.fn.sites) w → GoesOn (Stands (names l.fn.sites)) (g.I.Source.left l.fn.input) w l.bodies (lines_left l.script (g.I.Source.left l.input)) (held g.K.Keeper.kept l.sites) (g.O.Sink.taken l.fn.output) (g.O.Sink.taken l.output) l.refused;
   servers : KeepsServers g.K.Keeper.kept l.fn.sites l.sites;
   total : total_left l.script (g.I.Source.left l.input) ≡ option_map (λ bytes. length bytes) (g.I.Source.left l.fn.input);
   one_source : HasOneSource l.script (g.I.Source.left l.input);
@@ -18,5 +18,5 @@ invariant-loop-script g l = record {
   output_counts : g.O.Sink.faults l.fn.output ≤ g.O.Sink.faults l.output;
 }
 
-abbrev pub decreases-loop-script : goal.decreases-loop-script
-decreases-loop-script g l = pending l.script
+abbrev pub decreases-loop-bodies : goal.decreases-loop-bodies
+decreases-loop-bodies g l = pending l.script

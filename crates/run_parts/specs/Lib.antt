@@ -1,0 +1,6 @@
+pub mod Causes
+pub mod ExitStatus
+pub mod Parts
+pub mod Refusing
+pub mod RunErrors
+pub mod laws

@@ -1,0 +1,45 @@
+//! The lines that a run of a script writes.
+
+ghost use Rattle.std.specs.Prelude.{◌≡◌, ◌≤◌, IfOk, IfErr, OnOk, OnErr, true};
+ghost use Rattle.reply_text.specs.Replies.{reply_line};
+ghost use Rattle.keep_core.specs.Revealed.{Takes, TakesPrefix};
+ghost use Rattle.run_core.specs.Runs.{lines_of};
+ghost use Rattle.run_parts.specs.Refusing.{refused as refused_lem};
+ghost use Rattle.run_parts.specs.Causes.{IsOfOutput};
+
+use crate::run_error::RunError;
+use keep_core::{Sink, write_line};
+use repl_types::Refusal;
+use reply_text::{Reply, write_refusal, write_reply};
+use std::alloc::Global;
+
+/// Writes the line of a refusal, and says that something was refused. After an error a prefix of
+/// the line was taken.
+pub fn refuse<O: Sink>(alloc: Global, output: &mut O, refusal: &Refusal) -> Result<bool, RunError>
+    ensures ok { IfOk result (λ refused. (refused ≡ true) × Takes (O.taken output.old)
+        (O.taken output.new) (lines_of (refused_lem refusal.now))) }
+    ensures stopped { OnErr result (TakesPrefix (O.taken output.old) (O.taken output.new)
+        (lines_of (refused_lem refusal.now))) }
+    ensures cause { IfErr result (IsOfOutput (O.faults output.old) (O.faults output.new)) }
+    ensures counts { O.faults output.old ≤ O.faults output.new }
+{
+    let mut line = Vec::new(alloc);
+    write_refusal(refusal, &mut line)?;
+    write_line(output, &line)?;
+    Ok(true)
+}
+
+/// Writes the line of a reply. After an error a prefix of the line was taken.
+pub fn reply<O: Sink>(alloc: Global, output: &mut O, reply: &Reply) -> Result<(), RunError>
+    ensures ok { OnOk result (Takes (O.taken output.old) (O.taken output.new)
+        (reply_line reply.now)) }
+    ensures stopped { OnErr result (TakesPrefix (O.taken output.old) (O.taken output.new)
+        (reply_line reply.now)) }
+    ensures cause { IfErr result (IsOfOutput (O.faults output.old) (O.faults output.new)) }
+    ensures counts { O.faults output.old ≤ O.faults output.new }
+{
+    let mut line = Vec::new(alloc);
+    write_reply(reply, &mut line)?;
+    write_line(output, &line)?;
+    Ok(())
+}

@@ -1,0 +1,258 @@
+//! A script that loads definitions at three servers, and what is left there if a call of one of
+//! their keepers fails.
+
+use crate::tests::{source_of, words_of};
+use keep_core::Keeper;
+use keep_map::{BytesSink, MapKeeper};
+use repl_types::{List, Name, Status};
+use session_core::session;
+use site_store::{Site, Sites};
+use std::alloc::{AllocError, Global};
+use std::process::Abort;
+use std::test::Fail;
+
+/// The servers, in the order of the command line.
+const NAMES: [&str; 3] = ["hq", "shop", "branch"];
+
+/// The first text has a set from hq to shop. The second has a set from hq to branch, over the table
+/// of the first text, and one from branch to hq.
+const SCRIPT: &[u8] = b"load
+|[[table]]
+|server = 'hq'
+|name = 'orders'
+|columns = ['id int']
+|key = ['id']
+|fixed = ['id']
+|[[registration]]
+|server = 'hq'
+|table = 'orders'
+|[[set]]
+|qual = 'q'
+|name = 'to_shop'
+|source = 'hq'
+|target = 'shop'
+|[[set.member]]
+|source = 'orders'
+|target = 'shop_copy'
+|type = 'user_copy'
+|columns = ['id = id']
+load
+|[[table]]
+|server = 'branch'
+|name = 'visits'
+|columns = ['id int']
+|key = ['id']
+|fixed = ['id']
+|[[registration]]
+|server = 'branch'
+|table = 'visits'
+|[[set]]
+|qual = 'q'
+|name = 'to_branch'
+|source = 'hq'
+|target = 'branch'
+|[[set.member]]
+|source = 'orders'
+|target = 'branch_copy'
+|type = 'user_copy'
+|columns = ['id = id']
+|[[set]]
+|qual = 'q'
+|name = 'back'
+|source = 'branch'
+|target = 'hq'
+|[[set.member]]
+|source = 'visits'
+|target = 'visits_copy'
+|type = 'user_copy'
+|columns = ['id = id']
+status hq
+status shop
+status branch
+";
+
+/// The replies to the loads, if the servers hold nothing.
+const ALL_NEW: &[u8] = b"ok loaded tables 1 registrations 1 sets 1
+ok loaded tables 1 registrations 1 sets 2
+";
+
+/// The replies to the loads, if the servers hold both texts.
+const NONE_NEW: &[u8] = b"ok loaded tables 0 registrations 0 sets 0
+ok loaded tables 0 registrations 0 sets 0
+";
+
+/// The replies to the `status` of hq, of shop and of branch, once both texts are loaded.
+const STATUSES: &[u8] = b"reg orders inactive 00000000000000000000
+set q/to_shop mark 00000000000000000000 signal 00000000000000000000
+set q/to_branch mark 00000000000000000000 signal 00000000000000000000
+ok last 00000000000000000000 commit 00000000000000000000 time 0 \
+captured 00000000000000000000 restart 00000000000000010000 floor 00000000000000000000
+ok last 00000000000000000000 commit 00000000000000000000 time 0 \
+captured 00000000000000000000 restart 00000000000000010000 floor 00000000000000000000
+reg visits inactive 00000000000000000000
+set q/back mark 00000000000000000000 signal 00000000000000000000
+ok last 00000000000000000000 commit 00000000000000000000 time 0 \
+captured 00000000000000000000 restart 00000000000000010000 floor 00000000000000000000
+";
+
+/// More calls than a run makes at one server.
+const CALLS: u64 = 1_000;
+
+/// These replies to the loads, and the statuses.
+fn with_statuses(alloc: Global, loads: &[u8]) -> Result<Vec<u8>, AllocError> {
+    let mut bytes = Vec::from_slice(alloc, loads)?;
+    bytes.extend_from_slice(STATUSES)?;
+    Ok(bytes)
+}
+
+/// What follows the replies to the loads. These always have the same length, since each count has
+/// one digit.
+fn after_loads(output: &[u8]) -> &[u8] {
+    if output.len() < ALL_NEW.len() {
+        return b"";
+    }
+    &output[ALL_NEW.len()..]
+}
+
+/// A server with this keeper, of which no transaction is open.
+fn server_with(alloc: Global, name: &str, mut keeper: MapKeeper) -> Result<Site<MapKeeper>, Fail> {
+    let name = Name::new(alloc, name)?;
+    keeper.rollback();
+    Ok(Site::open_site(name, keeper))
+}
+
+/// Three servers that hold nothing. At one of them the call of this number fails, from 1 on; if it
+/// is a commit, it may take place nevertheless.
+fn new_servers(
+    alloc: Global,
+    server: u32,
+    call: u64,
+    takes_place: bool,
+) -> Result<Sites<MapKeeper>, Fail> {
+    let mut list = List::new(alloc);
+    for (place, name) in NAMES.into_iter().enumerate() {
+        let mut keeper = MapKeeper::new(alloc);
+        if place == server as usize {
+            keeper.fail_at(List::from_vec(vec![in alloc; call]?));
+            keeper.doubt_new(takes_place);
+        }
+        list.push(server_with(alloc, name, keeper)?)?;
+    }
+    Ok(Sites::new(list)?)
+}
+
+/// The servers with the same keepers, of which no call fails any more.
+fn mended(alloc: Global, sites: Sites<MapKeeper>) -> Result<Sites<MapKeeper>, Fail> {
+    let mut list = List::new(alloc);
+    for (name, site) in NAMES.into_iter().zip(sites.into_list().into_vec()) {
+        let mut keeper = site.into_keeper();
+        keeper.fail_at(List::new(alloc));
+        list.push(server_with(alloc, name, keeper)?)?;
+    }
+    Ok(Sites::new(list)?)
+}
+
+/// Runs the script.
+fn run_loads(
+    alloc: Global,
+    sites: &mut Sites<MapKeeper>,
+    output: &mut BytesSink,
+) -> Result<Status, AllocError> {
+    let words = words_of(alloc, "hq=:map: shop=:map: branch=:map:")?;
+    let mut input = source_of(alloc, SCRIPT)?;
+    sites.rollback_all();
+    Ok(session(alloc, words.as_slice(), sites, &mut input, output))
+}
+
+/// Lets a call of a server fail, and answers the servers that the run leaves, or `None` if it ended
+/// before that call. What it wrote has to be a prefix of what a run without failure writes.
+fn servers_after(
+    rt: &impl Abort,
+    alloc: Global,
+    server: u32,
+    call: u64,
+    takes_place: bool,
+) -> Result<Option<Sites<MapKeeper>>, Fail> {
+    let mut sites = new_servers(alloc, server, call, takes_place)?;
+    let mut output = BytesSink::new(alloc);
+    let status = run_loads(alloc, &mut sites, &mut output)?;
+    let whole = with_statuses(alloc, ALL_NEW)?;
+    if status == Status::Ok {
+        assert_eq!(rt; output.bytes(), whole.as_slice());
+        return Ok(None);
+    }
+    assert_eq!(rt;
+        status,
+        Status::KeeperFault(server),
+        "at call {call} of {server}"
+    );
+    let is_prefix = whole.as_slice().starts_with(output.bytes());
+    assert!(rt; is_prefix, "at call {call} of {server}");
+    Ok(Some(sites))
+}
+
+/// Runs the script at servers that an earlier run left early, and then once more. The first of
+/// these runs may find some of the definitions, and the second finds all of them.
+fn check_next_runs(
+    rt: &impl Abort,
+    alloc: Global,
+    mut sites: Sites<MapKeeper>,
+) -> Result<(), Fail> {
+    let mut output = BytesSink::new(alloc);
+    assert_eq!(rt; run_loads(alloc, &mut sites, &mut output)?, Status::Ok);
+    assert_eq!(rt; after_loads(output.bytes()), STATUSES);
+
+    let mut output = BytesSink::new(alloc);
+    assert_eq!(rt; run_loads(alloc, &mut sites, &mut output)?, Status::Ok);
+    assert_eq!(rt; output.bytes(), with_statuses(alloc, NONE_NEW)?.as_slice());
+    Ok(())
+}
+
+/// Lets each call of a server fail in a run of its own, until a run ends before the call, and
+/// answers how many calls failed.
+fn failing_calls(
+    rt: &impl Abort,
+    alloc: Global,
+    server: u32,
+    takes_place: bool,
+) -> Result<u64, Fail> {
+    for calls in 0..CALLS {
+        match servers_after(rt, alloc, server, calls + 1, takes_place)? {
+            Some(sites) => check_next_runs(rt, alloc, mended(alloc, sites)?)?,
+            None => return Ok(calls),
+        }
+    }
+    Ok(CALLS)
+}
+
+#[test]
+fn two_loads_show_in_the_statuses_and_the_same_loads_add_nothing(
+    rt: HostRuntime,
+) -> Result<(), Fail> {
+    let alloc = rt.alloc();
+    let mut sites = new_servers(alloc, 0, 0, false)?;
+    for loads in [ALL_NEW, NONE_NEW] {
+        let mut output = BytesSink::new(alloc);
+        assert_eq!(rt; run_loads(alloc, &mut sites, &mut output)?, Status::Ok);
+        assert_eq!(rt; output.bytes(), with_statuses(alloc, loads)?.as_slice());
+    }
+    Ok(())
+}
+
+#[test]
+fn a_failed_call_ends_the_run_and_the_next_run_makes_up_for_it(
+    rt: HostRuntime,
+) -> Result<(), Fail> {
+    for (server, takes_place) in [
+        (0, false),
+        (0, true),
+        (1, false),
+        (1, true),
+        (2, false),
+        (2, true),
+    ] {
+        let calls = failing_calls(&rt, rt.alloc(), server, takes_place)?;
+        assert!(rt; 10 < calls && calls < CALLS, "{calls} calls of {server}");
+    }
+    Ok(())
+}
