@@ -15,9 +15,9 @@ A script runs at 1 to 16 servers, each named by a word NAME=PATH:
   PATH   where the server is kept; :map: keeps it in memory for this run, and no
          other path can be opened yet
 
-The script comes on standard input, one command on each line. Only status of a server
-is carried out yet; any other is refused as unknown. These are the commands of the
-whole product:
+The script comes on standard input, one command on each line. Only load, of sets of
+user copies, and status of a server are carried out yet; any other is refused as
+unknown. These are the commands of the whole product:
   load  feed  capture  prune  step  apply  refresh  stop  generate  rounds  audit
   status  show";
 
