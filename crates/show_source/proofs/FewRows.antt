@@ -1,0 +1,128 @@
+-- A table of the source has no more rows than can be counted.
+use Rattle.std.proofs.Common.{ℕ, ◌+◌, ◌-◌, ◌*◌, ◌≤◌, Bool, true, false, cond, List, [], ◌∷◌, length, sym, subst, arith, lit≤}
+use Rattle.std.specs.Prelude.{◌&&◌, nat_lt, nat_le, filter, IfSome}
+use Rattle.std.specs.List.{AllByRecursion, enumerate_from}
+use Rattle.std.specs.FinMap.{empty, entries, insert, remove, contains_key, len, len-empty, len-entries, len-insert, len-remove}
+use Rattle.std.specs.Str.{bytes_eq}
+use Rattle.std.proofs.Math.Nat.{suc-mul}
+use Rattle.std.proofs.lemmas.List.FromFn.{length-enumerate_from}
+use Rattle.std.proofs.lemmas.Nat.{mul-le}
+use Rattle.repl_types.specs.Value.{Values, key_cmp}
+use Rattle.repl_types.specs.laws.Lists.{all_filter}
+use Rattle.repl_types.specs.laws.Order.{key_cmp_total}
+use Rattle.repl_types.specs.declared.record.Change.{Change}
+use Rattle.repl_types.specs.declared.record.Change.TheVariants.{Insert, Update, Delete, Start, Stop}
+use Rattle.repl_types.specs.declared.record.LogRecord.{LogRecord}
+use Rattle.repl_types.specs.declared.record.LogRecord.TheVariants as records
+use Rattle.repl_types.specs.declared.table.TableDef.{TableDef}
+use Rattle.repl_types.specs.declared.unit.Placed.{Placed}
+use Rattle.repl_types.specs.declared.unit.Unit.{Unit as LogUnit}
+use Rattle.keep_core.specs.Revealed.{count_max}
+use Rattle.repl_model.specs.Tables.{Rows, key_of, table_of, effect, after_change, after_changes}
+use Rattle.repl_model.specs.Units.{At, positions, last_end, change_of, changes_up_to, unit_at, units}
+use Rattle.repl_model.specs.SourceAt.{unplaced, after_units, units_up_to, source_at}
+use Rattle.repl_model.specs.SoundLogs.{log_limit}
+use Rattle.stored_defs.specs.laws.Lists.{all_filter_map, filter_map_few}
+
+-- ---- rows that changes add
+
+-- one more, or not
+at_most_more : (b : Bool) (n : ℕ) → cond b n (n + 1) ≤ n + 1
+at_most_more true n = omega arith
+at_most_more false n = omega arith
+
+-- one less, or not
+no_more : (b : Bool) (n : ℕ) → cond b (n - 1) n ≤ n
+no_more true n = omega arith
+no_more false n = omega arith
+
+-- a row that is put is one more at most
+insert_adds : (rows : Rows) (key row : Values) → len (insert rows key row) ≤ len rows + 1
+insert_adds rows key row = subst (λ (n : ℕ). n ≤ len rows + 1) (sym (len-insert key_cmp_total rows key row)) (at_most_more (contains_key rows key) (len rows))
+
+-- a removal adds none
+remove_adds : (rows : Rows) (key : Values) → len (remove rows key) ≤ len rows
+remove_adds rows key = subst (λ (n : ℕ). n ≤ len rows) (sym (len-remove key_cmp_total rows key)) (no_more (contains_key rows key) (len rows))
+
+-- a change of the table adds one row at most
+effect_adds : (def : TableDef) (change : Change) (rows : Rows) → len (effect def change rows) ≤ len rows + 1
+effect_adds def (Insert table row) rows = insert_adds rows (key_of def row) row
+effect_adds def (Update table before after) rows = omega (arith, insert_adds (remove rows (key_of def before)) (key_of def after) after, remove_adds rows (key_of def before))
+effect_adds def (Delete table row) rows = omega (arith, remove_adds rows (key_of def row))
+effect_adds def (Start table) rows = omega arith
+effect_adds def (Stop table) rows = omega arith
+
+-- so does any change
+change_adds : (def : TableDef) (change : Change) (rows : Rows) → len (after_change def change rows) ≤ len rows + 1
+unfolding after_change
+change_adds def change rows = pick (bytes_eq (table_of change) def.name)
+  where
+    pick : (b : Bool) → len (cond b (effect def change rows) rows) ≤ len rows + 1
+    pick true = effect_adds def change rows
+    pick false = omega arith
+
+-- changes add no more rows than they are
+changes_add : (def : TableDef) (placed : List Placed) (rows : Rows) → len (after_changes def (unplaced placed) rows) ≤ len rows + length placed
+changes_add def [] rows = omega arith
+changes_add def (p ∷ ps) rows = omega (arith, changes_add def ps (after_change def p.change rows), change_adds def p.change rows)
+
+-- units that have no more changes than a limit
+units_add : (limit : ℕ) (def : TableDef) (us : List LogUnit) (rows : Rows) → AllByRecursion (λ u. length u.changes ≤ limit) us → len (after_units def us rows) ≤ len rows + length us * limit
+units_add limit def [] rows all = omega arith
+units_add limit def (u ∷ us) rows all =
+    let rest = units_add limit def us (after_changes def (unplaced u.changes) rows) all.1 in
+    let here = changes_add def u.changes rows in
+    let few = all.0 in
+    omega (arith, rest, here, few, suc-mul (length us) limit)
+
+-- ---- the changes of a log
+
+-- what a test leaves is no more
+filter_few : {X : Type 0} (p : X → Bool) (xs : List X) → length (filter p xs) ≤ length xs
+filter_few p [] = omega arith
+filter_few {X} p (x ∷ xs) = pick (p x) (filter_few p xs)
+  where
+    pick : (b : Bool) → length (filter p xs) ≤ length xs → length (cond b (x ∷ filter p xs) (filter p xs)) ≤ length (x ∷ xs)
+    pick true le = omega arith
+    pick false le = omega arith
+
+-- a transaction has no more changes than the log has records
+changes_few : (log : List LogRecord) (tx before : ℕ) → length (changes_up_to tx before log) ≤ length log
+changes_few log tx before =
+    let within : At → Bool = λ r. nat_lt (last_end tx before log) r.0 && nat_lt r.0 before in
+    omega (arith, filter_map_few (change_of tx) (filter within (positions log)), filter_few within (positions log), length-enumerate_from 1 log)
+
+-- so has each unit
+units_small : (log : List LogRecord) → AllByRecursion (λ u. length u.changes ≤ length log) (units log)
+unfolding units
+units_small log = all_filter_map (λ (u : LogUnit). length u.changes ≤ length log) (unit_at log) (positions log) (each 1 log)
+  where
+    one : (pos : ℕ) (r : LogRecord) → IfSome (unit_at log (pos, r)) (λ (u : LogUnit). length u.changes ≤ length log)
+    one pos (records.Change tx change) = tt
+    one pos (records.Commit tx time authid origin) = changes_few log tx pos
+    one pos (records.Abort tx) = tt
+
+    each : (b : ℕ) (rs : List LogRecord) → AllByRecursion (λ (q : At). IfSome (unit_at log q) (λ (u : LogUnit). length u.changes ≤ length log)) (enumerate_from b rs)
+    each b [] = tt
+    each b (r ∷ rs) = (one b r, each (b + 1) rs)
+
+-- and there are no more units
+units_few : (log : List LogRecord) → length (units log) ≤ length log
+unfolding units
+units_few log = omega (arith, filter_map_few (unit_at log) (positions log), length-enumerate_from 1 log)
+
+-- the rows at a point are no more than the square of the records
+source_small : (def : TableDef) (log : List LogRecord) (point : ℕ) → len (source_at def log point) ≤ length log * length log
+unfolding source_at
+source_small def log point =
+    let us : List LogUnit = units_up_to point log in
+    let added = units_add (length log) def us empty (all_filter (λ (u : LogUnit). length u.changes ≤ length log) (λ u. nat_le u.head.seq point) (units log) (units_small log)) in
+    let times = mul-le (length us) (length log) (length log) (length log) (omega (arith, filter_few (λ (u : LogUnit). nat_le u.head.seq point) (units log), units_few log)) (omega arith) in
+    omega (arith, added, times, len-empty key_cmp Values)
+
+-- so they can be counted
+pub source_few : (def : TableDef) (log : List LogRecord) (point : ℕ) → length log ≤ log_limit → length (entries (source_at def log point)) ≤ count_max
+source_few def log point short =
+    let square = mul-le (length log) (length log) log_limit log_limit short short in
+    let counted : log_limit * log_limit ≤ count_max = lit≤ tt in
+    omega (arith, source_small def log point, square, counted, len-entries (source_at def log point))
