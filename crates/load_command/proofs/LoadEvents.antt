@@ -23,10 +23,10 @@ use Rattle.site_store.specs.Views.{names, held}
 use Rattle.site_store.specs.declared.sites.Sites.{Sites}
 use Rattle.world_store.specs.Stands.{Stands}
 use Rattle.planned_loads.specs.Path.{load_path}
-use Rattle.load_defs.specs.Loading.{LeavesServers, defs_in, load_commits, load_events, refusal_in, HasLoaded, HasNotLoaded, SomeHappened}
+use Rattle.load_defs.specs.Loading.{defs_in, load_commits, load_events, refusal_in, HasLoaded, HasNotLoaded, SomeHappened}
 use Rattle.load_defs.specs.declared.counts.Loaded.{Loaded}
 use Rattle.load_command.specs.LoadEvents.{bad_text, counts_line, has_carried_out_sets, load_text_events, loaded_line, raw_events, raw_of, stated_by}
-use Rattle.run_parts.specs.Parts.{KeepsServers, Happened, StoppedIn}
+use Rattle.run_parts.specs.Parts.{Happened, StoppedIn}
 use Rattle.run_parts.specs.Refusing.{refused}
 use Rattle.run_parts.specs.RunErrors.{error_of_fault}
 use Rattle.run_parts.specs.declared.run_error.RunError.{RunError}
@@ -105,10 +105,6 @@ read_events text raw are w = ap (λ (o : Option RawDefs). option_map_or (λ raw.
 -- any other text is refused
 pub unread_events : (text : List ℕ) (refusal : Refusal) → refusal ≡ bad_text → ((raw : RawDefs) → AreRawDefs text raw → ⊥) → (w : World) → refused refusal ≡ load_text_events (Some text) w
 unread_events text refusal is none w = ap refused is ∙ ap (λ (o : Option RawDefs). option_map_or (λ raw. raw_events raw w) o (refused bad_text)) (sym (is_unread text none))
-
--- a load keeps the servers as each part of a run does
-pub leaves : {K : Type 0} (kept : K → Kept) (s0 s1 : Sites K) → LeavesServers kept s0 s1 → KeepsServers kept s0 s1
-leaves kept s0 s1 left = record { names = left.names; faults = left.faults; closed = left.closed }
 
 module _ {K : Type 0} (kept : K → Kept) (s0 s1 : Sites K) (raw : RawDefs) (carried : has_carried_out_sets raw ≡ true) (t u : Option (List ℕ)) where
   -- ---- definitions that were loaded

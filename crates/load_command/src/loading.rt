@@ -4,10 +4,11 @@ ghost use Rattle.std.specs.Prelude.{◌≡◌, ◌≤◌, false, IfOk, IfErr, On
 ghost use Rattle.keep_core.specs.Revealed.{Takes, TakesPrefix};
 ghost use Rattle.site_store.specs.Servers.{AllClosed};
 ghost use Rattle.site_store.specs.Views.{work};
+ghost use Rattle.site_store.specs.Calls.{KeepsServers};
 ghost use Rattle.accepted_texts.specs.Texts.{IsWhole};
 ghost use Rattle.run_parts.specs.Causes.{IsOfOutput, PartHasCause};
 ghost use Rattle.load_command.specs.LoadEvents.{counts_line, raw_events, load_text_events};
-ghost use Rattle.run_parts.specs.Parts.{KeepsServers, Happened, StoppedIn};
+ghost use Rattle.run_parts.specs.Parts.{Happened, StoppedIn};
 
 use crate::kinds::{bad_text, has_carried_out_sets};
 use accepted_texts::a_text_that_is_read_is_whole;

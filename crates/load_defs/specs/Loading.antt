@@ -13,9 +13,8 @@ use Rattle.repl_model.specs.Sound.{IsSound}
 use Rattle.repl_model.specs.SoundDefinitions.{DefinitionsAreSound}
 use Rattle.run_core.specs.Runs.{Event, commits, Went, Stopped}
 use Rattle.spelled_defs.specs.declared.defs.Defs.{Defs}
-use Rattle.site_store.specs.Servers.{AllClosed}
-use Rattle.site_store.specs.Views.{names, held, work, fault_counts}
-use Rattle.site_store.specs.Calls.{NoneFell, Blames}
+use Rattle.site_store.specs.Views.{names, held}
+use Rattle.site_store.specs.Calls.{Blames}
 use Rattle.site_store.specs.declared.sites.Sites.{Sites}
 use Rattle.world_store.specs.Stands.{Stands}
 use Rattle.load_model.specs.Known.{known_defs}
@@ -57,14 +56,6 @@ abbrev pub loaded_in : RawDefs → World → Loaded
 loaded_in raw world = loaded_counts (known_defs world) (defs_in raw world)
 
 module _ {K : Type 0} (kept : K → Kept) (old new : Sites K) where
-  -- ---- what is left of the servers
-
-  -- their names stay, no count of faults falls, and no transaction is open
-  pub record LeavesServers : Type 0 where
-    pub names : names new ≡ names old
-    pub faults : NoneFell (fault_counts kept old) (fault_counts kept new)
-    pub closed : AllClosed (work kept new)
-
   -- from each world that the servers stood for all of this happened
   abbrev pub AllHappened : (World → List (Event World)) → World → Type 0
   AllHappened events w = (t : Option (List ℕ)) → Went (Stands (names old)) (events w) w (held kept new) t t

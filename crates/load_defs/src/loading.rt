@@ -4,11 +4,11 @@ ghost use Rattle.std.specs.Prelude.{IfOk, IfErr};
 ghost use Rattle.repl_model.specs.World.{World};
 ghost use Rattle.site_store.specs.Servers.{AllClosed};
 ghost use Rattle.site_store.specs.Views.{names, held, work};
+ghost use Rattle.site_store.specs.Calls.{KeepsServers};
 ghost use Rattle.world_store.specs.Stands.{Stands};
 ghost use Rattle.stored_defs.specs.Rules.{ShowsDamage};
 ghost use Rattle.accepted_texts.specs.Texts.{IsWhole};
 ghost use Rattle.load_defs.specs.Loading.{HasLoaded, HasNotLoaded, BlamesOrRefuses};
-ghost use Rattle.load_defs.specs.Loading.{LeavesServers};
 
 use crate::counts::Loaded;
 use crate::laws::laws_of_texts;
@@ -40,7 +40,7 @@ pub fn load<K: Keeper>(sites: &mut Sites<K>, alloc: Global, raw: &RawDefs) -> Re
         → HasNotLoaded K.kept sites.old sites.new raw.now w e) }
     ensures blames { IfErr result (BlamesOrRefuses K.kept sites.old sites.new
         (ShowsDamage K.kept sites.old)) }
-    ensures servers { LeavesServers K.kept sites.old sites.new }
+    ensures servers { KeepsServers K.kept sites.old sites.new }
 {
     laws_of_texts();
     let stored = read_servers(sites, alloc)?;

@@ -6,13 +6,13 @@ ghost use Rattle.repl_commands.specs.declared.written.RawDefs.{RawDefs};
 ghost use Rattle.repl_model.specs.World.{World};
 ghost use Rattle.site_store.specs.Servers.{AllClosed};
 ghost use Rattle.site_store.specs.Views.{names, held, work};
-ghost use Rattle.site_store.specs.Calls.{Blames};
+ghost use Rattle.site_store.specs.Calls.{KeepsServers, Blames};
 ghost use Rattle.world_store.specs.Stands.{Stands};
 ghost use Rattle.load_worlds.specs.Loads.{load_first, server_at};
 ghost use Rattle.planned_loads.specs.Planned.{stored_server, stored_servers};
 ghost use Rattle.planned_loads.specs.PlannedLoads.{adds_nothing as adds_nothing_lem};
 ghost use Rattle.load_defs.specs.Putting.{CanBeLoaded};
-ghost use Rattle.load_defs.specs.Loading.{MayLoad, LeavesServers, load_commits};
+ghost use Rattle.load_defs.specs.Loading.{MayLoad, load_commits};
 ghost use Rattle.load_defs.specs.Loading.{AllHappened, SomeHappened};
 
 use crate::laws::laws_of_worlds;
@@ -58,7 +58,7 @@ fn load_server<K: Keeper>(
         → Stands (names sites.old) (held K.kept sites.new) (load_first defs.now server w)
         ⊎ Stands (names sites.old) (held K.kept sites.new) (load_first defs.now (suc server) w)) }
     ensures blames { IfErr result (Blames K.kept sites.old sites.new (λ s a cause. ⊥)) }
-    ensures servers { LeavesServers K.kept sites.old sites.new }
+    ensures servers { KeepsServers K.kept sites.old sites.new }
 {
     laws_of_worlds();
     let added = additions_at(alloc, defs, stored)?;
@@ -90,7 +90,7 @@ pub fn load_servers<K: Keeper>(
         → stored.now ≡ stored_servers w → Stands (names sites.old) (held K.kept sites.old) w
         → SomeHappened K.kept sites.old sites.new (load_commits defs.now) w) }
     ensures blames { IfErr result (Blames K.kept sites.old sites.new (λ s a cause. ⊥)) }
-    ensures servers { LeavesServers K.kept sites.old sites.new }
+    ensures servers { KeepsServers K.kept sites.old sites.new }
 {
     laws_of_worlds();
     for server in 0..sites.len() {

@@ -34,7 +34,8 @@ use Rattle.load_worlds.specs.Loads.{new_tables, fresh_registration, registration
 use Rattle.load_worlds.specs.laws.Members.{In, at_one, some_passes, only_one, in_either, in_first, in_second, in_filter, kept_by, in_filter_map, given_in, listed_in, in_flat_map, in_map, image_in, found_in}
 use Rattle.load_worlds.specs.laws.Servers.{same_name, name_itself}
 use Rattle.load_rules.specs.Accepted.{AgreesWith, Accepted, context_in}
-use Rattle.load_rules.proofs.ByKey.{name_cmp_exact, row_is_entry, entry_has_row, in_numbered, numbered_in}
+use Rattle.row_codec.specs.laws.Orders.{name_cmp_exact}
+use Rattle.load_worlds.specs.laws.Entries.{row_is_entry, entry_has_row, in_numbered, numbered_in}
 use Rattle.load_rules.specs.laws.Lists.{found_some, found_alone}
 use Rattle.load_rules.specs.laws.Items.{from_step, from_image, table_spelled}
 use Rattle.load_rules.proofs.Items.{table_given}

@@ -6,7 +6,6 @@ mod Differ
 mod Parts
 mod KnownSets
 mod Unloaded
-mod ByKey
 pub mod Context
 mod TextMembers
 mod Links

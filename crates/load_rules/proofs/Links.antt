@@ -28,7 +28,8 @@ use Rattle.load_worlds.specs.Loads.{load_all}
 use Rattle.load_worlds.specs.laws.Members.{In, in_filter_map, in_map, kept_by, listed_in, image_in, in_first, in_second}
 use Rattle.load_worlds.specs.laws.KnownSets.{StandsIn, known_stands}
 use Rattle.load_rules.specs.Accepted.{Accepted, context_in}
-use Rattle.load_rules.proofs.ByKey.{name_cmp_exact, entry_has_row, in_numbered, numbered_in}
+use Rattle.row_codec.specs.laws.Orders.{name_cmp_exact}
+use Rattle.load_worlds.specs.laws.Entries.{entry_has_row, in_numbered, numbered_in}
 use Rattle.load_rules.specs.laws.Items.{set_spelled, member_spelled, replica_kind}
 use Rattle.load_rules.proofs.Items.{set_item}
 use Rattle.load_rules.proofs.Servers.{server_rules}

@@ -1,4 +1,5 @@
 pub mod Members
+pub mod Entries
 pub mod Embedded
 pub mod Servers
 pub mod KnownSets

@@ -10,7 +10,7 @@ use Rattle.repl_model.specs.World.{World}
 use Rattle.site_store.specs.Views.{names, held, fault_counts}
 use Rattle.site_store.specs.declared.sites.Sites.{Sites}
 use Rattle.world_store.specs.Stands.{Stands}
-use Rattle.show_rows.specs.Rules.{ShowsDamage}
+use Rattle.run_parts.specs.Damage.{ShowsDamage}
 use Rattle.run_parts.specs.ExitStatus.{status_of_error}
 use Rattle.run_parts.specs.declared.run_error.RunError.{RunError}
 use Rattle.run_parts.specs.declared.run_error.RunError.TheVariants as errors

@@ -1,4 +1,5 @@
 pub mod Causes
+pub mod Damage
 pub mod ExitStatus
 pub mod Parts
 pub mod Refusing

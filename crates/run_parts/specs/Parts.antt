@@ -3,9 +3,7 @@ use Rattle.std.specs.Prelude.{◌≡◌, ℕ, Bool, List, ◌++◌, Option}
 use Rattle.keep_core.specs.Kept.{Kept}
 use Rattle.repl_model.specs.World.{World}
 use Rattle.run_core.specs.Runs.{Event, last_world, Went, Stopped, is_refused}
-use Rattle.site_store.specs.Servers.{AllClosed}
-use Rattle.site_store.specs.Views.{names, held, work, fault_counts}
-use Rattle.site_store.specs.Calls.{NoneFell}
+use Rattle.site_store.specs.Views.{names, held}
 use Rattle.site_store.specs.declared.sites.Sites.{Sites}
 use Rattle.world_store.specs.Stands.{Stands}
 
@@ -14,13 +12,6 @@ abbrev pub then_events : (World → List (Event World)) → (World → List (Eve
 then_events first second w = let events = first w in events ++ second (last_world w events)
 
 module _ {K : Type 0} (kept : K → Kept) (old new : Sites K) where
-  -- What each part of a run leaves of the servers, at Ok and at an error: their names stay, no count of faults falls, and
-  -- no transaction is open.
-  pub record KeepsServers : Type 0 where
-    pub names : names new ≡ names old
-    pub faults : NoneFell (fault_counts kept old) (fault_counts kept new)
-    pub closed : AllClosed (work kept new)
-
   -- All of this happened, from each world that the servers stood for, and the answer says whether something was refused.
   abbrev pub Happened : Option (List ℕ) → Option (List ℕ) → (World → List (Event World)) → Bool → Type 0
   Happened before now events refused = (w : World) → Stands (names old) (held kept old) w → Went (Stands (names old)) (events w) w (held kept new) before now × (refused ≡ is_refused (events w))

@@ -1,3 +1,5 @@
 pub mod Causes
+pub mod Damage
 pub mod Exits
+pub mod Lines
 pub mod Parts

@@ -11,7 +11,7 @@ use Rattle.line_input.specs.declared.input.Next.TheVariants.{Line, LongLine}
 use Rattle.script_lines.specs.Lines.{ScriptLine, long_body, long_command, comment_mark, body_mark, begins_with, short_line, long_line, script_line, script_from}
 use Rattle.line_input.specs.Input.{left_of, budget}
 use Rattle.line_input.specs.declared.input.Input.{Input}
-use Rattle.script_lines.specs.Script.{line_of, line_number, line_text, next_kind, lines_left, pending}
+use Rattle.script_lines.specs.Script.{line_of, line_number, line_text, next_kind, lines_left, pending, waiting}
 use Rattle.script_lines.specs.declared.script.Script.{Script}
 use Rattle.script_lines.specs.declared.kind.LineKind.{LineKind}
 
@@ -93,12 +93,19 @@ waits_long s0 s i later old text input number same is reads =
     ∙ ap (λ (n : ℕ). option_map (λ bytes. script_from n (lines bytes)) old) number
 
 -- at most one line waits
-most_waits : (budget : ℕ) (kind : Option LineKind) → budget + (if is_some kind then 1 else 0) ≤ budget + 1
-most_waits budget None = omega arith
-most_waits budget (Some k) = omega arith
+pub few_wait : (s : Script) → waiting s ≤ 1
+few_wait s = pick s.kind
+  where
+    pick : (kind : Option LineKind) → (if is_some kind then 1 else 0) ≤ 1
+    pick None = omega arith
+    pick (Some k) = omega arith
+
+-- and none does if none was read
+pub nothing_waits : (s : Script) → next_kind s ≡ None → waiting s ≡ 0
+nothing_waits s none = ap (λ (kind : Option LineKind). if is_some kind then 1 else 0) none
 
 -- the budget falls by at least what may wait now
 pub pending_falls : (s0 s : Script) (i : Input) → s.input ≡ i → budget i < budget s0.input → pending s ≤ pending s0
 pending_falls s0 s i input fewer =
     let same : budget s.input ≡ budget i = ap budget input in
-    omega (arith, most_waits (budget s.input) s.kind)
+    omega (arith, few_wait s)

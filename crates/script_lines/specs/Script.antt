@@ -40,9 +40,13 @@ lines_left s later = option_map (λ bytes. next_line s ++ script_from (s.number 
 abbrev pub total_left : Script → Option (List ℕ) → Option ℕ
 total_left s later = total_of s.input later
 
+-- how many lines were read and not taken
+abbrev pub waiting : Script → ℕ
+waiting s = if is_some s.kind then 1 else 0
+
 -- how many lines may still be taken, at most
 abbrev pub pending : Script → ℕ
-pending s = budget s.input + (if is_some s.kind then 1 else 0)
+pending s = budget s.input + waiting s
 
 -- if a read has met the end, the source has no bytes left, if it reveals them
 abbrev pub HasOneSource : Script → Option (List ℕ) → Type 0

@@ -27,7 +27,8 @@ impl Script {
     ghost use Rattle.script_lines.specs.Lines.{script_of, short_line, long_line};
     ghost use Rattle.script_lines.specs.Script.{next_kind, line_number, line_text, line_of};
     ghost use Rattle.script_lines.specs.Script.{next_line};
-    ghost use Rattle.script_lines.specs.Script.{lines_left, total_left, pending, HasOneSource};
+    ghost use Rattle.script_lines.specs.Script.{lines_left, total_left, pending, waiting};
+    ghost use Rattle.script_lines.specs.Script.{HasOneSource};
 
     /// A script of which nothing was read.
     pub fn new(alloc: Global) -> Result<Script, AllocError>
@@ -37,6 +38,7 @@ impl Script {
             total_left script later ≡ option_map (λ bytes. length bytes) later) }
         ensures begins { IfOk result (λ script. (later : Option (List ℕ)) →
             HasOneSource script later) }
+        ensures none { IfOk result (λ script. next_kind script ≡ None) }
     {
         Ok(Script {
             input: Input::new(alloc)?,
@@ -90,6 +92,8 @@ impl Script {
         ensures total { OnOk result (total_left self.new (I.left source.new)
             ≡ total_left self.old (I.left source.old)) }
         ensures pending { OnOk result (pending self.new ≤ pending self.old) }
+        ensures number { OnOk result (line_number self.old + waiting self.new
+            ≤ line_number self.new + waiting self.old) }
         ensures same_source { HasOneSource self.new (I.left source.new) }
         ensures cause { InputHasCause result (total_left self.old (I.left source.old))
             (I.faults source.old) (I.faults source.new) }
@@ -104,9 +108,11 @@ impl Script {
         Ok(self.kind)
     }
 
-    /// The number of the line that was read last.
+    /// The number of the line that was read last. A script has no more lines than an input may have
+    /// bytes.
     pub fn number(&self) -> u64
-        ensures { result ≡ line_number self.now }
+        ensures is { result ≡ line_number self.now }
+        ensures few { result ≤ input_limit }
     {
         self.number
     }
@@ -138,6 +144,7 @@ impl Script {
         ensures pending { pending self.new < pending self.old }
         ensures number { line_number self.new ≡ line_number self.old }
         ensures text { line_text self.new ≡ line_text self.old }
+        ensures none { next_kind self.new ≡ None }
         ensures same_source { (later : Option (List ℕ)) → HasOneSource self.old later
             → HasOneSource self.new later }
     {

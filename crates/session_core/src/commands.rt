@@ -3,11 +3,12 @@
 ghost use Rattle.std.specs.Prelude.{◌≡◌, ◌≢◌, ◌≤◌, IfOk, IfErr, OnErr};
 ghost use Rattle.site_store.specs.Servers.{AllClosed};
 ghost use Rattle.site_store.specs.Views.{work};
+ghost use Rattle.site_store.specs.Calls.{KeepsServers};
 ghost use Rattle.run_parts.specs.Causes.{PartHasCause};
 ghost use Rattle.session_core.specs.Commands.{begins_with_carried_out_verb as begins_with_lem};
 ghost use Rattle.session_core.specs.Commands.{bad_line_refusal as bad_line_refusal_lem};
 ghost use Rattle.session_core.specs.Commands.{command_events, command_line_events};
-ghost use Rattle.run_parts.specs.Parts.{KeepsServers, Happened, StoppedIn};
+ghost use Rattle.run_parts.specs.Parts.{Happened, StoppedIn};
 
 use keep_core::{Keeper, Sink};
 use repl_commands::{Command, LineError};

@@ -1,7 +1,6 @@
 pub mod Blame
 pub mod FewRows
 pub mod LogRecords
-pub mod NamedTables
 pub mod Pieces
 pub mod ShownRows
 pub mod Showing

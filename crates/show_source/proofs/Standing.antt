@@ -44,7 +44,8 @@ use Rattle.show_source.specs.Rules.{rules, ShowsDamage}
 use Rattle.load_worlds.specs.laws.Members.{at_one}
 use Rattle.show_source.proofs.LogRecords.{log_records_are, log_text_is}
 use Rattle.show_source.proofs.SourceRows.{source_rows_fit, source_rows_are, source_text_is}
-use Rattle.show_source.proofs.NamedTables.{at_place_in, table_stands, table_numbered}
+use Rattle.stored_defs.specs.laws.NamedTables.{table_stands, table_numbered}
+use Rattle.load_worlds.specs.laws.Entries.{at_place_in}
 
 -- ---- what a server holds
 
@@ -135,7 +136,7 @@ module _ {K : Type 0} (kept : K → Kept) (s0 : Sites K) (closed : AllClosed (wo
 
       module _ (d : DefinedTable) (fit : IsDefinedTable d) (read : IfSome (sees kept s0 s) (RowIs defined_table_spelling areas.Defs 0 (short_text name) (Some d))) where
         -- the table of the name
-        named : (t : ServerTable) × (slice_get (server_in w s).tables d.number ≡ Some t) × (server_table name (server_in w s) ≡ Some t)
+        named : (t : ServerTable) × (slice_get (server_in w s).tables d.number ≡ Some t) × (server_table name (server_in w s) ≡ Some t) × (t.def ≡ d.def)
         named =
             let server = server_in w s in
             let r = read_at (RowIs defined_table_spelling areas.Defs 0 (short_text name) (Some d)) read in

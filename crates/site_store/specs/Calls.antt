@@ -110,6 +110,13 @@ pub record Commits {K : Type 0} (kept : K → Kept) (old new : Sites K) (s : ℕ
   pub held : held kept new ≡ slice_set (held kept old) s (sees kept old s)
   pub work : work kept new ≡ slice_set (work kept old) s None
 
+-- What each part of a run leaves of the servers, at Ok and at an error: their names stay, no count of faults falls,
+-- and no transaction is open.
+pub record KeepsServers {K : Type 0} (kept : K → Kept) (old new : Sites K) : Type 0 where
+  pub names : names new ≡ names old
+  pub faults : NoneFell (fault_counts kept old) (fault_counts kept new)
+  pub closed : AllClosed (work kept new)
+
 -- ---- faults
 
 -- a cause that is found by a read

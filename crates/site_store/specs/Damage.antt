@@ -21,6 +21,16 @@ pub record Rules : Type 1 where
   -- in these contents a record with this key and this value doesn't fit
   pub is_unfit : Area → ℕ → List ℕ → List ℕ → Contents → Type 0
 
+-- The rules of two layers together: what may stand in a table is what both allow, and what either calls for is called
+-- for, and what either finds unfit doesn't fit.
+abbrev pub joined : Rules → Rules → Rules
+joined r q = record {
+  is_key = λ a t bytes. r.is_key a t bytes × q.is_key a t bytes;
+  is_value = λ a t bytes. r.is_value a t bytes × q.is_value a t bytes;
+  is_needed = λ a t key c. r.is_needed a t key c ⊎ q.is_needed a t key c;
+  is_unfit = λ a t key value c. r.is_unfit a t key value c ⊎ q.is_unfit a t key value c;
+}
+
 -- no record is called for, and each one fits
 abbrev pub AsksForNothing : Rules → Type 0
 AsksForNothing rules = ((a : Area) (t : ℕ) (key : List ℕ) (c : Contents) → rules.is_needed a t key c → ⊥) × ((a : Area) (t : ℕ) (key value : List ℕ) (c : Contents) → rules.is_unfit a t key value c → ⊥)

@@ -10,8 +10,9 @@
 ghost use Rattle.std.specs.Prelude.{◌≤◌, IfOk, IfErr, OnErr};
 ghost use Rattle.site_store.specs.Servers.{AllClosed};
 ghost use Rattle.site_store.specs.Views.{work};
+ghost use Rattle.site_store.specs.Calls.{KeepsServers};
 ghost use Rattle.run_parts.specs.Causes.{PartHasCause};
-ghost use Rattle.run_parts.specs.Parts.{KeepsServers, Happened, StoppedIn};
+ghost use Rattle.run_parts.specs.Parts.{Happened, StoppedIn};
 ghost use Rattle.status_command.specs.StatusEvents.{status_events};
 
 use keep_core::{Keeper, Sink};

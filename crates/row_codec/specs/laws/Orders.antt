@@ -2,6 +2,7 @@
 use Rattle.std.proofs.Common.{◌≡◌, ℕ, ◌+◌, ◌*◌, ◌/◌, ◌%◌, ◌^◌, ◌<◌, ◌≤◌, List, [], ◌∷◌, ◌++◌, length, refl, sym, ap, ◌∙◌, append_assoc, append-nil, arith}
 use Rattle.std.proofs.Math.Nat.{mul-le-mul_left}
 use Rattle.std.specs.Cmp.{nat_cmp_is, ranked}
+use Rattle.std.specs.FinMap.{IsAntisymmetric, nat_cmp-IsAntisymmetric, slice_cmp-IsAntisymmetric}
 use Rattle.std.specs.Ordering.{nat_cmp, ordering_then}
 use Rattle.std.specs.declared.cmp.Ordering.{Ordering}
 use Rattle.std.specs.declared.cmp.Ordering.TheVariants.{Less, Equal, Greater}
@@ -107,3 +108,12 @@ order_set x y a b fx fy = order_pair IsName IsName short_text short_text name_cm
 -- places in a log by position and sub-number
 pub order_sequence : Ordered IsSequence sequence_spelling sequence_cmp
 order_sequence x y = order_pair Is64 Is16 b64 b16 nat_cmp nat_cmp order64 order16 (x.position, x.sub) (y.position, y.sub)
+
+-- names of which neither is before the other are one
+pub name_cmp_exact : IsAntisymmetric name_cmp
+name_cmp_exact x y e = slice_cmp-IsAntisymmetric nat_cmp-IsAntisymmetric x y (second (nat_cmp (length x) (length y)) (bytes_cmp x y) e)
+  where
+    second : (a b : Ordering) → ordering_then a b ≡ Equal → b ≡ Equal
+    second Equal b e = e
+    second Less b e = absurd cc
+    second Greater b e = absurd cc

@@ -12,10 +12,11 @@ use Rattle.run_core.specs.laws.Runs.{refused_append, stopped_before, went_both, 
 use Rattle.run_core.specs.laws.Quiet.{IsQuiet, went_quiet, stopped_quiet}
 use Rattle.site_store.specs.Servers.{AllClosed}
 use Rattle.site_store.specs.Views.{names, held, work}
+use Rattle.site_store.specs.Calls.{KeepsServers}
 use Rattle.site_store.specs.declared.sites.Sites.{Sites}
 use Rattle.world_store.specs.Stands.{Stands}
 use Rattle.run_parts.specs.Causes.{PartHasCause, IsOfOutput}
-use Rattle.run_parts.specs.Parts.{then_events, KeepsServers, Happened, StoppedIn}
+use Rattle.run_parts.specs.Parts.{then_events, Happened, StoppedIn}
 use Rattle.run_parts.specs.Refusing.{refused}
 use Rattle.run_parts.specs.declared.run_error.RunError.{RunError}
 use Rattle.run_parts.specs.declared.run_error.RunError.TheVariants as errors

@@ -21,7 +21,7 @@ use Rattle.site_store.specs.Records.{Misread, Misspelt, MisspeltNext}
 use Rattle.site_store.specs.Views.{held, work, sees, IsOpenAt, IsClosedAt}
 use Rattle.site_store.specs.Works.{Works}
 use Rattle.site_store.specs.Calls.{Bounds, no_access, both, Passes, Stays, Begins, AtServer, Blames, Fails}
-use Rattle.site_store.specs.Damage.{Rules, Shows, ShowsMisspelt, Damages, IsUndamaged, IsNoDamage, IsSpelt, AddsOnlySpelt, ShownBefore, AsksForNothing}
+use Rattle.site_store.specs.Damage.{Rules, joined, Shows, ShowsMisspelt, Damages, IsUndamaged, IsNoDamage, IsSpelt, AddsOnlySpelt, ShownBefore, AsksForNothing}
 use Rattle.site_store.specs.laws.Counts.{IsAtMost, passes_within, passes_then}
 use Rattle.site_store.specs.laws.Transactions.{begun_sees}
 
@@ -34,6 +34,33 @@ shown_unseen rules a (causes.Spelling bytes) saw h = elim h.1 [
 shown_unseen rules a (causes.Absent key) saw h = (h.0, tt)
 shown_unseen rules a (causes.Unfit bytes) saw h = (h.0, tt)
 shown_unseen rules a (causes.NoRest steps) saw h = h
+
+-- ---- the rules of two layers together
+
+-- what is seen to have this has that
+if_saw : (saw : Option Contents) (P Q : Contents → Type 0) → ((c : Contents) → P c → Q c) → IfSome saw P → IfSome saw Q
+if_saw None P Q weaker h = tt
+if_saw (Some c) P Q weaker h = weaker c h
+
+-- what the rules of the first show, both show
+pub shown_first : (r q : Rules) (a : Area) (cause : DamageCause) (saw : Option Contents) → Shows r a cause saw → Shows (joined r q) a cause saw
+shown_first r q a (causes.Spelling bytes) saw h = elim h.1 [
+  | inl k ↦ (h.0, inl ((λ both. k.0 both.0), k.1))
+  | inr v ↦ (h.0, inr ((λ both. v.0 both.0), v.1))
+]
+shown_first r q a (causes.Absent key) saw h = (h.0, if_saw saw (λ c. (c a h.0 key ≡ None) × r.is_needed a h.0 key c) (λ c. (c a h.0 key ≡ None) × (joined r q).is_needed a h.0 key c) (λ c p. (p.0, inl p.1)) h.1)
+shown_first r q a (causes.Unfit bytes) saw h = (h.0, if_saw saw (λ c. (key : List ℕ) × (c a h.0 key ≡ Some bytes) × r.is_unfit a h.0 key bytes c) (λ c. (key : List ℕ) × (c a h.0 key ≡ Some bytes) × (joined r q).is_unfit a h.0 key bytes c) (λ c p. (p.0, p.1, inl p.2)) h.1)
+shown_first r q a (causes.NoRest steps) saw h = h
+
+-- and what those of the second show
+pub shown_second : (r q : Rules) (a : Area) (cause : DamageCause) (saw : Option Contents) → Shows q a cause saw → Shows (joined r q) a cause saw
+shown_second r q a (causes.Spelling bytes) saw h = elim h.1 [
+  | inl k ↦ (h.0, inl ((λ both. k.0 both.1), k.1))
+  | inr v ↦ (h.0, inr ((λ both. v.0 both.1), v.1))
+]
+shown_second r q a (causes.Absent key) saw h = (h.0, if_saw saw (λ c. (c a h.0 key ≡ None) × q.is_needed a h.0 key c) (λ c. (c a h.0 key ≡ None) × (joined r q).is_needed a h.0 key c) (λ c p. (p.0, inr p.1)) h.1)
+shown_second r q a (causes.Unfit bytes) saw h = (h.0, if_saw saw (λ c. (key : List ℕ) × (c a h.0 key ≡ Some bytes) × q.is_unfit a h.0 key bytes c) (λ c. (key : List ℕ) × (c a h.0 key ≡ Some bytes) × (joined r q).is_unfit a h.0 key bytes c) (λ c p. (p.0, p.1, inr p.2)) h.1)
+shown_second r q a (causes.NoRest steps) saw h = h
 
 -- ---- from the bytes of one kind of record
 

@@ -2,7 +2,7 @@ use Rattle.repl_types.specs.declared.refusal.Refusal.TheVariants as refusals
 use Rattle.show_rows.specs.Rules.{reads_at, status_reads}
 use Rattle.run_parts.specs.laws.Exits.{err_also, ok_also}
 use Rattle.run_parts.specs.laws.Parts.{refusal_written, refusal_begun}
-use Rattle.status_command.proofs.StatusEvents.{status_written, status_begun, name_refused, name_begun, fails_holds}
+use Rattle.status_command.proofs.StatusEvents.{status_written, status_begun, name_refused, name_begun, fails_holds, status_cause}
 use Rattle.status_command.proofs.show_status.Goals as goal
 
 pub returns-in_default-clause-ok : goal.returns-in_default-clause-ok
@@ -21,3 +21,6 @@ returns-in-Ok-clause-ok g c = status_written g.K.Keeper.kept c.args.sites.now c.
 pub returns-clause-stopped : goal.returns-clause-stopped
 returns-clause-stopped g c = status_begun g.K.Keeper.kept c.args.sites.now c.requires c.show_server.new.sites (g.O.Sink.taken c.args.output.now) (g.O.Sink.taken c.show_server.new.output) c.args.name c.in-Some.server c.in-Some.ensures
     (fails_holds g.K.Keeper.kept c.args.sites.now c.requires c.show_server.new.sites (reads_at status_reads c.in-Some.server) (g.O.Sink.faults c.args.output.now) (g.O.Sink.faults c.show_server.new.output) c.in-Err.error c.in-Err.ensures.fault) c.in-Err.ensures.err
+
+pub returns-clause-cause : goal.returns-clause-cause
+returns-clause-cause g c = status_cause g.K.Keeper.kept c.args.sites.now c.requires c.show_server.new.sites (reads_at status_reads c.in-Some.server) (g.O.Sink.faults c.args.output.now) (g.O.Sink.faults c.show_server.new.output) c.in-Err.error c.error_of_reply.result c.error_of_reply.ensures c.in-Err.ensures.fault c.in-Err.ensures.undamaged

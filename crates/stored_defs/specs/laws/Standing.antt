@@ -62,7 +62,7 @@ map_again f g [] = refl
 map_again {X} {Y} {Z} f g (x ∷ xs) = ap (λ (l : List Z). f (g x) ∷ l) (map_again f g xs)
 
 -- the name at a place is that of the server there
-name_at_place : (w : World) (n : ℕ) → get_or (map (λ server. server.name) w) n [] ≡ (server_in w n).name
+pub name_at_place : (w : World) (n : ℕ) → get_or (map (λ server. server.name) w) n [] ≡ (server_in w n).name
 name_at_place [] n = refl
 name_at_place (s ∷ ss) zero = refl
 name_at_place (s ∷ ss) (suc n) = name_at_place ss n

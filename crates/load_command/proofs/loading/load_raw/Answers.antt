@@ -9,7 +9,7 @@ use Rattle.run_parts.specs.Refusing.{refused}
 use Rattle.run_parts.specs.laws.Exits.{err_also, ok_also, if_err_also}
 use Rattle.run_parts.specs.laws.Parts.{refusal_written, refusal_begun, happened_as, stopped_as, untouched, output_cause}
 use Rattle.load_command.proofs.Damage.{load_cause}
-use Rattle.load_command.proofs.LoadEvents.{not_carried_out, leaves, load_written, load_begun, refused_load, refused_load_begun, stopped_load}
+use Rattle.load_command.proofs.LoadEvents.{not_carried_out, load_written, load_begun, refused_load, refused_load_begun, stopped_load}
 use Rattle.load_command.proofs.loading.load_raw.Goals as goal
 
 pub returns-then-not-has_carried_out_sets : goal.returns-then-not-has_carried_out_sets
@@ -42,7 +42,7 @@ returns-in-Ok g c =
     record {
       ok = ok_also c.write_counts.result (load_written kept sites after raw carried t u c.in-Ok.loaded c.in-Ok.ensures.ok) c.write_counts.ensures.ok;
       stopped = err_also c.write_counts.result (load_begun kept sites after raw carried t u c.in-Ok.loaded c.in-Ok.ensures.ok) c.write_counts.ensures.stopped;
-      servers = leaves kept sites after c.load.ensures.servers;
+      servers = c.load.ensures.servers;
       cause = if_err_also c.write_counts.result (output_cause kept sites after (g.O.Sink.faults c.args.output.now) (g.O.Sink.faults c.write_counts.new.output)) c.write_counts.ensures.cause;
       counts = c.write_counts.ensures.counts;
     }
@@ -61,7 +61,7 @@ returns-in-Err-Refused g c =
     record {
       ok = ok_also c.refuse-in-Err-Refused.result (refused_load kept sites after raw carried t u refusal has_not) c.refuse-in-Err-Refused.ensures.ok;
       stopped = err_also c.refuse-in-Err-Refused.result (refused_load_begun kept sites after raw carried t u refusal has_not) c.refuse-in-Err-Refused.ensures.stopped;
-      servers = leaves kept sites after c.load.ensures.servers;
+      servers = c.load.ensures.servers;
       cause = if_err_also c.refuse-in-Err-Refused.result (output_cause kept sites after (g.O.Sink.faults c.args.output.now) (g.O.Sink.faults c.refuse-in-Err-Refused.new.output)) c.refuse-in-Err-Refused.ensures.cause;
       counts = c.refuse-in-Err-Refused.ensures.counts;
     }
@@ -74,7 +74,7 @@ returns-in-Err g c =
     let raw = c.args.raw.now in
     let count = g.O.Sink.faults c.args.output.now in
     let carried : has_carried_out_sets raw ≡ true = sym c.has_carried_out_sets.ensures ∙ c.if-not-has_carried_out_sets.false in
-    let keeps = leaves kept sites after c.load.ensures.servers in
+    let keeps = c.load.ensures.servers in
     record {
       ok = tt;
       stopped = stopped_load kept sites after raw carried (g.O.Sink.taken c.args.output.now) c.in-Err.fault c.error_of_fault.result c.error_of_fault.ensures c.in-Err.ensures.fault;

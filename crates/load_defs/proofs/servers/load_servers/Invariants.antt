@@ -1,9 +1,9 @@
-use Rattle.load_defs.specs.Loading.{LeavesServers}
+use Rattle.site_store.specs.Calls.{KeepsServers}
 use Rattle.load_defs.proofs.AllServers.{FirstLoaded}
 use Rattle.load_defs.proofs.servers.load_servers.Given as goal
 
 abbrev pub invariant-loop-server : goal.invariant-loop-server
 invariant-loop-server g l = record {
-  leaves : LeavesServers g.K.Keeper.kept l.fn.sites l.sites;
+  leaves : KeepsServers g.K.Keeper.kept l.fn.sites l.sites;
   loaded : FirstLoaded g.K.Keeper.kept l.fn.sites l.defs l.stored l.sites l.server;
 }

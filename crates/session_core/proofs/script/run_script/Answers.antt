@@ -78,7 +78,7 @@ returns-in_err-refused-clause-stopped g c =
     let line = line_of c.in-Some.kind c.text.result.now in
     let left = lines_left c.take.new.self later in
     let goes : (w : World) → Stands given (held kept c.args.sites.now) w → GoesOn (Stands given) input w bodies (option_map (λ lines. ((number, line) ∷ []) ++ lines) left) h t u any =
-    λ w at. line_first (Stands given) input w h t u bodies any c.peek.new.self c.in-Some.kind number c.text.result.now (lines_left c.loop-bodies.script (g.I.Source.left c.loop-bodies.input)) (lines_left c.peek.new.self later) left (c.loop-bodies.invariant.going w at) c.in_ok-kind.ensures.lines (sym c.in_ok-kind.ensures.kind ∙ c.in-Some.is) (c.number.ensures ∙ c.take.ensures.number) (c.text.ensures ∙ c.take.ensures.text) (c.take.ensures.lines later) in
+    λ w at. line_first (Stands given) input w h t u bodies any c.peek.new.self c.in-Some.kind number c.text.result.now (lines_left c.loop-bodies.script (g.I.Source.left c.loop-bodies.input)) (lines_left c.peek.new.self later) left (c.loop-bodies.invariant.going w at) c.in_ok-kind.ensures.lines (sym c.in_ok-kind.ensures.kind ∙ c.in-Some.is) (c.number.ensures.is ∙ c.take.ensures.number) (c.text.ensures ∙ c.take.ensures.text) (c.take.ensures.lines later) in
     on_err c.from_residual-in_err-refused.result (λ w at. stops_at_line (Stands given) input w h h2 t u u2 bodies any number line left (goes w at)
     (stopped_since kept c.args.sites.now c.loop-bodies.sites c.answer_line.new.sites c.loop-bodies.invariant.servers.names u u2 (line_events bodies number line) c.in_err-refused.ensures.stopped))
 
@@ -99,7 +99,7 @@ returns-in_err-bodies-clause-stopped g c =
     let line = line_of c.in-Some.kind c.text.result.now in
     let left = lines_left c.take.new.self later in
     let goes : (w : World) → Stands given (held kept c.args.sites.now) w → GoesOn (Stands given) input w bodies (option_map (λ lines. ((number, line) ∷ []) ++ lines) left) h t u any =
-    λ w at. line_first (Stands given) input w h t u bodies any c.peek.new.self c.in-Some.kind number c.text.result.now (lines_left c.loop-bodies.script (g.I.Source.left c.loop-bodies.input)) (lines_left c.peek.new.self later) left (c.loop-bodies.invariant.going w at) c.in_ok-kind.ensures.lines (sym c.in_ok-kind.ensures.kind ∙ c.in-Some.is) (c.number.ensures ∙ c.take.ensures.number) (c.text.ensures ∙ c.take.ensures.text) (c.take.ensures.lines later) in
+    λ w at. line_first (Stands given) input w h t u bodies any c.peek.new.self c.in-Some.kind number c.text.result.now (lines_left c.loop-bodies.script (g.I.Source.left c.loop-bodies.input)) (lines_left c.peek.new.self later) left (c.loop-bodies.invariant.going w at) c.in_ok-kind.ensures.lines (sym c.in_ok-kind.ensures.kind ∙ c.in-Some.is) (c.number.ensures.is ∙ c.take.ensures.number) (c.text.ensures ∙ c.take.ensures.text) (c.take.ensures.lines later) in
     on_err c.from_residual-in_err-bodies.result (λ w at. stops_here (Stands given) input left w h2 t u2 (bodies_after bodies line) (any || c.in_ok-refused.field-0)
     (takes_line (Stands given) input w h h2 t u u2 bodies any number line left c.in_ok-refused.field-0 (goes w at)
     (happened_since kept c.args.sites.now c.loop-bodies.sites c.answer_line.new.sites c.loop-bodies.invariant.servers.names u u2 (line_events bodies number line) c.in_ok-refused.field-0 c.in_ok-refused.ensures.ok)))
@@ -121,7 +121,7 @@ loop-bodies-preserved g c =
     let line = line_of c.in-Some.kind c.text.result.now in
     let left = lines_left c.take.new.self later in
     let goes : (w : World) → Stands given (held kept c.args.sites.now) w → GoesOn (Stands given) input w bodies (option_map (λ lines. ((number, line) ∷ []) ++ lines) left) h t u any =
-    λ w at. line_first (Stands given) input w h t u bodies any c.peek.new.self c.in-Some.kind number c.text.result.now (lines_left c.loop-bodies.script (g.I.Source.left c.loop-bodies.input)) (lines_left c.peek.new.self later) left (c.loop-bodies.invariant.going w at) c.in_ok-kind.ensures.lines (sym c.in_ok-kind.ensures.kind ∙ c.in-Some.is) (c.number.ensures ∙ c.take.ensures.number) (c.text.ensures ∙ c.take.ensures.text) (c.take.ensures.lines later) in
+    λ w at. line_first (Stands given) input w h t u bodies any c.peek.new.self c.in-Some.kind number c.text.result.now (lines_left c.loop-bodies.script (g.I.Source.left c.loop-bodies.input)) (lines_left c.peek.new.self later) left (c.loop-bodies.invariant.going w at) c.in_ok-kind.ensures.lines (sym c.in_ok-kind.ensures.kind ∙ c.in-Some.is) (c.number.ensures.is ∙ c.take.ensures.number) (c.text.ensures ∙ c.take.ensures.text) (c.take.ensures.lines later) in
     let before = c.loop-bodies.invariant.servers in
     let after = c.answer_line.ensures.servers in
     let next : c.in_ok-bodies.bodies ≡ bodies_after bodies line = c.in_ok-bodies.ensures ∙ ap (λ (t : List ℕ). bodies_after bodies (line_of c.in-Some.kind t)) (c.text-in-Some.ensures ∙ sym c.text.ensures) in

@@ -2,10 +2,10 @@ use Rattle.std.proofs.Common.{◌≡◌, ◌≤◌, length}
 use Rattle.std.specs.Option.{option_map}
 use Rattle.repl_model.specs.World.{World}
 use Rattle.script_lines.specs.Script.{lines_left, total_left, pending, HasOneSource}
+use Rattle.site_store.specs.Calls.{KeepsServers}
 use Rattle.site_store.specs.Views.{names, held}
 use Rattle.world_store.specs.Stands.{Stands}
 use Rattle.session_core.specs.Lines.{GoesOn}
-use Rattle.run_parts.specs.Parts.{KeepsServers}
 use Rattle.session_core.proofs.script.run_script.Given as goal
 
 abbrev pub invariant-loop-bodies : goal.invariant-loop-bodies

@@ -1,6 +1,6 @@
-use Rattle.std.proofs.Common.{◌≡◌, ◌≤◌}
+use Rattle.std.proofs.Common.{◌≡◌, ◌≤◌, ◌+◌}
 use Rattle.line_input.specs.Input.{budget}
-use Rattle.script_lines.specs.Script.{lines_left, total_left, pending, HasOneSource}
+use Rattle.script_lines.specs.Script.{line_number, lines_left, total_left, pending, waiting, HasOneSource}
 use Rattle.script_lines.proofs.script.Script.peek.Given as goal
 
 abbrev pub invariant-loop-self : goal.invariant-loop-self
@@ -8,6 +8,7 @@ invariant-loop-self g l = record {
   lines : lines_left l.self (g.I.Source.left l.source) ≡ lines_left l.fn.self (g.I.Source.left l.fn.source);
   total : total_left l.self (g.I.Source.left l.source) ≡ total_left l.fn.self (g.I.Source.left l.fn.source);
   pending : pending l.self ≤ pending l.fn.self;
+  number : line_number l.fn.self + waiting l.self ≤ line_number l.self + waiting l.fn.self;
   one_source : HasOneSource l.self (g.I.Source.left l.source);
   counts : g.I.Source.faults l.fn.source ≤ g.I.Source.faults l.source;
 }

@@ -1,13 +1,9 @@
 -- The table of a name among the stored definitions of a server.
-use Rattle.std.proofs.Common.{◌≡◌, ℕ, zero, suc, ◌+◌, ◌-◌, ◌≤◌, Bool, true, false, cond, List, [], ◌∷◌, length, map, refl, sym, ap, subst, ◌∙◌, arith, inl, inr}
-use Rattle.std.specs.Prelude.{◌⊎◌, ◌||◌, fold, find, Option, Some, None, is_some, slice_get}
+use Rattle.std.proofs.Common.{◌≡◌, ℕ, ◌+◌, Bool, true, false, cond, List, [], ◌∷◌, length, map, refl, sym, ap, subst, ◌∙◌, arith, inl}
+use Rattle.std.specs.Prelude.{◌||◌, find, Option, Some, None, is_some, slice_get}
 use Rattle.std.specs.List.{AllByRecursion, enumerate_from, list_all, list_any}
-use Rattle.std.specs.FinMap.{IsAntisymmetric, nat_cmp-IsAntisymmetric, slice_cmp-IsAntisymmetric}
-use Rattle.std.specs.FinMap.Entries.{by_order, put}
-use Rattle.std.specs.Ordering.{nat_cmp, ordering_then, is_eq, eq_by_cmp}
+use Rattle.std.specs.Ordering.{is_eq, eq_by_cmp}
 use Rattle.std.specs.Str.{bytes_eq}
-use Rattle.std.specs.declared.cmp.Ordering.{Ordering}
-use Rattle.std.specs.declared.cmp.Ordering.TheVariants.{Less, Equal, Greater}
 use Rattle.std.proofs.lemmas.Bool.{false≢true}
 use Rattle.repl_types.specs.Bytes.{bytes_cmp}
 use Rattle.repl_types.specs.Name.{is_name}
@@ -15,18 +11,18 @@ use Rattle.repl_types.specs.declared.table.ColumnDef.{ColumnDef}
 use Rattle.row_codec.specs.Order.{name_cmp}
 use Rattle.row_codec.specs.Spelling.{Any, IsName, short_text}
 use Rattle.row_codec.specs.laws.Ones.{one_whole}
-use Rattle.row_codec.specs.laws.Orders.{whole_order, order_name}
+use Rattle.row_codec.specs.laws.Orders.{whole_order, order_name, name_cmp_exact}
 use Rattle.repl_definitions.specs.declared.defined.DefinedTable.{DefinedTable}
 use Rattle.repl_definitions.specs.Defined.{defined_table_spelling, IsDefinedTable}
 use Rattle.repl_definitions.specs.laws.Defined.{one_defined_table}
 use Rattle.repl_model.specs.Rules.{all_differ}
-use Rattle.repl_model.specs.Summaries.{by_key}
 use Rattle.repl_model.specs.SoundDefinitions.{KeepsTable, ServerKeepsRules, table_limit}
 use Rattle.repl_model.specs.World.{ServerTable, Server, World, server_table}
 use Rattle.rows_in_order.specs.Rows.{table_from_rows}
 use Rattle.rows_in_order.specs.laws.Found.{row_of}
 use Rattle.rows_in_order.specs.laws.Fitting.{fits_each}
 use Rattle.rows_in_order.specs.laws.Rising.{same_itself, same_is}
+use Rattle.load_worlds.specs.laws.Entries.{row_is_entry, numbered_place, at_place_in}
 use Rattle.load_worlds.specs.laws.Members.{In, in_map, in_second, found_in, only_one}
 use Rattle.load_worlds.specs.laws.Servers.{same_name, name_itself}
 use Rattle.world_store.specs.DefinitionRows.{numbered_tables, table_rows}
@@ -34,89 +30,6 @@ use Rattle.stored_defs.specs.Reading.{RowFits}
 use Rattle.stored_defs.specs.laws.ByKey.{spelled_cmp, by_key_has}
 use Rattle.stored_defs.specs.laws.Lists.{alike, all_map, all_numbered, both_true}
 use Rattle.stored_defs.specs.laws.Rows.{table_rows_are}
-
--- ---- rows by their keys
-
--- names of which neither is before the other are one
-name_cmp_exact : IsAntisymmetric name_cmp
-name_cmp_exact x y e = slice_cmp-IsAntisymmetric nat_cmp-IsAntisymmetric x y (second (nat_cmp (length x) (length y)) (bytes_cmp x y) e)
-  where
-    second : (a b : Ordering) → ordering_then a b ≡ Equal → b ≡ Equal
-    second Equal b e = e
-    second Less b e = absurd cc
-    second Greater b e = absurd cc
-
-module _ {K X : Type 0} (cmp : K → K → Ordering) (exact : IsAntisymmetric cmp) where
-  -- a row after a put is the one that is put, or one from before
-  put_row : (k : K) (v : X) (rows : List (K × X)) (r : K × X) → In r (put cmp k v rows) → (r ≡ (k, v)) ⊎ In r rows
-  put_row k v [] r i = i
-  put_row k v (e ∷ es) r i = by_cmp (cmp k e.0) refl (put_row k v es r) i
-    where
-      later : (r ≡ (k, v)) ⊎ In r es → (r ≡ (k, v)) ⊎ In r (e ∷ es)
-      later (inl is) = inl is
-      later (inr j) = inr (inr j)
-
-      by_cmp : (o : Ordering) → cmp k e.0 ≡ o → (In r (put cmp k v es) → (r ≡ (k, v)) ⊎ In r es) → In r (by_order o ((k, v) ∷ e ∷ es) ((e.0, v) ∷ es) (e ∷ put cmp k v es)) → (r ≡ (k, v)) ⊎ In r (e ∷ es)
-      by_cmp Less same rest j = j
-      by_cmp Equal same rest (inl is) = inl (is ∙ ap (λ (x : K). (x, v)) (sym (exact k e.0 same)))
-      by_cmp Equal same rest (inr j) = inr (inr j)
-      by_cmp Greater same rest (inl is) = inr (inl is)
-      by_cmp Greater same rest (inr j) = later (rest j)
-
-  -- a row after puts is one of the entries, or one from before
-  row_from : (entries rows : List (K × X)) (r : K × X) → In r (fold (λ sorted e. put cmp e.0 e.1 sorted) rows entries) → In r entries ⊎ In r rows
-  row_from [] rows r i = inr i
-  row_from (e ∷ es) rows r i = by_case (row_from es (put cmp e.0 e.1 rows) r i)
-    where
-      by_put : (r ≡ e) ⊎ In r rows → In r (e ∷ es) ⊎ In r rows
-      by_put (inl is) = inl (inl is)
-      by_put (inr j) = inr j
-
-      by_case : In r es ⊎ In r (put cmp e.0 e.1 rows) → In r (e ∷ es) ⊎ In r rows
-      by_case (inl j) = inl (inr j)
-      by_case (inr j) = by_put (put_row e.0 e.1 rows r j)
-
-  -- each row is one of the entries
-  row_is_entry : (entries : List (K × X)) (r : K × X) → In r (by_key cmp entries) → In r entries
-  unfolding by_key
-  row_is_entry entries r i = by_case (row_from entries [] r i)
-    where
-      by_case : In r entries ⊎ In r [] → In r entries
-      by_case (inl j) = j
-      by_case (inr j) = absurd j
-
--- ---- numbered things
-
--- what stands with a number is the thing at its place
-numbered_at_place : {X : Type 0} (b : ℕ) (xs : List X) (p : ℕ × X) → In p (enumerate_from b xs) → (b ≤ p.0) × (slice_get xs (p.0 - b) ≡ Some p.1)
-numbered_at_place b [] p i = absurd i
-numbered_at_place {X} b (x ∷ xs) p (inl is) =
-    let number : p.0 ≡ b = ap (λ (q : ℕ × X). q.0) is in
-    let none : p.0 - b ≡ 0 = omega (arith, number) in
-    (omega (arith, number), ap (slice_get (x ∷ xs)) none ∙ ap (λ (q : ℕ × X). Some q.1) (sym is))
-numbered_at_place {X} b (x ∷ xs) p (inr i) =
-    let rest = numbered_at_place (b + 1) xs p i in
-    let above : b + 1 ≤ p.0 = rest.0 in
-    let more : p.0 - b ≡ suc (p.0 - (b + 1)) = omega (arith, above) in
-    (omega (arith, above), ap (slice_get (x ∷ xs)) more ∙ rest.1)
-
--- at its number, if the numbers begin with 0
-numbered_place : {X : Type 0} (xs : List X) (p : ℕ × X) → In p (enumerate_from 0 xs) → slice_get xs p.0 ≡ Some p.1
-numbered_place xs p i = ap (slice_get xs) (no_less p.0) ∙ (numbered_at_place 0 xs p i).1
-  where
-    no_less : (n : ℕ) → n ≡ n - 0
-    no_less n = omega arith
-
--- what is at a place is in the list
-pub at_place_in : {X : Type 0} (xs : List X) (n : ℕ) (x : X) → slice_get xs n ≡ Some x → In x xs
-at_place_in [] n x e = absurd cc
-at_place_in {X} (y ∷ ys) zero x e = inl (inside y x e)
-  where
-    inside : (a b : X) → ◌≡◌ {A = Option X} (Some a) (Some b) → b ≡ a
-    inside a b e = cc
-at_place_in (y ∷ ys) (suc n) x e = inr (at_place_in ys n x e)
-
--- ---- tables by their names
 
 -- the entry of a table
 abbrev entry : ℕ × ServerTable → List ℕ × DefinedTable
@@ -171,7 +84,7 @@ module _ (world : World) (server : Server) (keeps : ServerKeepsRules world serve
   table_stands name = by_key_has short_text IsName Any name_cmp (whole_order IsName short_text name_cmp order_name) defined_table_spelling name (map entry (numbered_tables server)) entries_named ∙ any_table name 0 server.tables
 
   -- the table of the name is the one with the number of the definition that stands under the name
-  pub table_numbered : (name : List ℕ) (d : DefinedTable) → IsDefinedTable d → table_from_rows short_text defined_table_spelling (table_rows server) (short_text name) ≡ Some (defined_table_spelling d) → (t : ServerTable) × (slice_get server.tables d.number ≡ Some t) × (server_table name server ≡ Some t)
+  pub table_numbered : (name : List ℕ) (d : DefinedTable) → IsDefinedTable d → table_from_rows short_text defined_table_spelling (table_rows server) (short_text name) ≡ Some (defined_table_spelling d) → (t : ServerTable) × (slice_get server.tables d.number ≡ Some t) × (server_table name server ≡ Some t) × (t.def ≡ d.def)
   table_numbered name d fit has =
       let r = row_of short_text defined_table_spelling (table_rows server) (short_text name) (defined_table_spelling d) has in
       let row : List ℕ × DefinedTable = r.0 in
@@ -182,7 +95,7 @@ module _ (world : World) (server : Server) (keeps : ServerKeepsRules world serve
       let number : t.0.0 ≡ d.number = ap (λ (q : List ℕ × DefinedTable). q.1.number) (sym t.2) ∙ ap (λ (q : DefinedTable). q.number) same in
       let named : t.0.1.def.name ≡ name = ap (λ (q : List ℕ × DefinedTable). q.0) (sym t.2) ∙ tail_is (length row.0) (length name) row.0 name r.2 in
       let some : is_some (server_table name server) ≡ true = sym (table_stands name) ∙ ap (λ (o : Option (List ℕ)). is_some o) has in
-      (t.0.1, ap (slice_get server.tables) (sym number) ∙ at, table_alone name server.tables t.0.1 keeps.differ (at_place_in server.tables t.0.0 t.0.1 at) named some)
+      (t.0.1, ap (slice_get server.tables) (sym number) ∙ at, table_alone name server.tables t.0.1 keeps.differ (at_place_in server.tables t.0.0 t.0.1 at) named some, ap (λ (q : List ℕ × DefinedTable). q.1.def) (sym t.2) ∙ ap (λ (q : DefinedTable). q.def) same)
     where
       tail_is : (m n : ℕ) (x y : List ℕ) → ◌≡◌ {A = List ℕ} (m ∷ x) (n ∷ y) → x ≡ y
       tail_is m n x y e = cc

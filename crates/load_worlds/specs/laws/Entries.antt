@@ -1,25 +1,13 @@
--- The rows that entries make in the order of their keys.
-use Rattle.std.proofs.Common.{◌≡◌, ℕ, ◌+◌, ◌⊎◌, inl, inr, List, [], ◌∷◌, refl, sym, ap, ◌∙◌}
-use Rattle.std.specs.Prelude.{fold, length}
+-- The rows that entries make in the order of their keys, and elements with their numbers: proofs.
+use Rattle.std.proofs.Common.{◌≡◌, ℕ, zero, suc, ◌+◌, ◌-◌, ◌≤◌, ◌⊎◌, inl, inr, List, [], ◌∷◌, refl, sym, ap, ◌∙◌, arith}
+use Rattle.std.specs.Prelude.{fold, Option, Some, slice_get}
 use Rattle.std.specs.List.{enumerate_from}
-use Rattle.std.specs.FinMap.{IsAntisymmetric, nat_cmp-IsAntisymmetric, slice_cmp-IsAntisymmetric}
+use Rattle.std.specs.FinMap.{IsAntisymmetric}
 use Rattle.std.specs.FinMap.Entries.{by_order, put}
-use Rattle.std.specs.Ordering.{nat_cmp, ordering_then}
 use Rattle.std.specs.declared.cmp.Ordering.{Ordering}
 use Rattle.std.specs.declared.cmp.Ordering.TheVariants.{Less, Equal, Greater}
-use Rattle.repl_types.specs.Bytes.{bytes_cmp}
-use Rattle.row_codec.specs.Order.{name_cmp}
 use Rattle.repl_model.specs.Summaries.{by_key}
 use Rattle.load_worlds.specs.laws.Members.{In}
-
--- names of which neither is before the other are one
-pub name_cmp_exact : IsAntisymmetric name_cmp
-name_cmp_exact x y e = slice_cmp-IsAntisymmetric nat_cmp-IsAntisymmetric x y (second (nat_cmp (length x) (length y)) (bytes_cmp x y) e)
-  where
-    second : (a b : Ordering) → ordering_then a b ≡ Equal → b ≡ Equal
-    second Equal b e = e
-    second Less b e = absurd cc
-    second Greater b e = absurd cc
 
 module _ {K X : Type 0} (cmp : K → K → Ordering) (exact : IsAntisymmetric cmp) where
   -- ---- one put
@@ -138,3 +126,32 @@ pub numbered_in : {X : Type 0} (n : ℕ) (xs : List X) (p : ℕ × X) → In p (
 numbered_in n [] p i = absurd i
 numbered_in {X} n (y ∷ ys) p (inl is) = inl (ap (λ (q : ℕ × X). q.1) is)
 numbered_in n (y ∷ ys) p (inr i) = inr (numbered_in (n + 1) ys p i)
+
+-- what stands with a number is the element at its place
+numbered_at_place : {X : Type 0} (b : ℕ) (xs : List X) (p : ℕ × X) → In p (enumerate_from b xs) → (b ≤ p.0) × (slice_get xs (p.0 - b) ≡ Some p.1)
+numbered_at_place b [] p i = absurd i
+numbered_at_place {X} b (x ∷ xs) p (inl is) =
+    let number : p.0 ≡ b = ap (λ (q : ℕ × X). q.0) is in
+    let none : p.0 - b ≡ 0 = omega (arith, number) in
+    (omega (arith, number), ap (slice_get (x ∷ xs)) none ∙ ap (λ (q : ℕ × X). Some q.1) (sym is))
+numbered_at_place {X} b (x ∷ xs) p (inr i) =
+    let rest = numbered_at_place (b + 1) xs p i in
+    let above : b + 1 ≤ p.0 = rest.0 in
+    let more : p.0 - b ≡ suc (p.0 - (b + 1)) = omega (arith, above) in
+    (omega (arith, above), ap (slice_get (x ∷ xs)) more ∙ rest.1)
+
+-- at its number, if the numbers begin with 0
+pub numbered_place : {X : Type 0} (xs : List X) (p : ℕ × X) → In p (enumerate_from 0 xs) → slice_get xs p.0 ≡ Some p.1
+numbered_place xs p i = ap (slice_get xs) (no_less p.0) ∙ (numbered_at_place 0 xs p i).1
+  where
+    no_less : (n : ℕ) → n ≡ n - 0
+    no_less n = omega arith
+
+-- what is at a place is in the list
+pub at_place_in : {X : Type 0} (xs : List X) (n : ℕ) (x : X) → slice_get xs n ≡ Some x → In x xs
+at_place_in [] n x e = absurd cc
+at_place_in {X} (y ∷ ys) zero x e = inl (inside y x e)
+  where
+    inside : (a b : X) → ◌≡◌ {A = Option X} (Some a) (Some b) → b ≡ a
+    inside a b e = cc
+at_place_in (y ∷ ys) (suc n) x e = inr (at_place_in ys n x e)

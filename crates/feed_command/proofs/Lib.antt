@@ -1,0 +1,4 @@
+pub mod Batches
+pub mod BodyLines
+pub mod Feeds
+pub mod Records

@@ -1,0 +1,20 @@
+-- What shows that a server is damaged, by the rules of all parts of a run.
+use Rattle.std.specs.Prelude.{ℕ, ◌<◌, length}
+use Rattle.repl_types.specs.declared.area.Area.{Area}
+use Rattle.repl_types.specs.declared.status.DamageCause.{DamageCause}
+use Rattle.keep_core.specs.Kept.{Kept}
+use Rattle.site_store.specs.declared.sites.Sites.{Sites}
+use Rattle.site_store.specs.Views.{names}
+use Rattle.site_store.specs.Damage.{Rules, joined, Damages}
+use Rattle.stored_defs.specs.Rules.{rules as stored_rules}
+use Rattle.show_rows.specs.Rules.{rules as status_rules}
+use Rattle.show_source.specs.Rules.{rules as source_rules}
+use Rattle.source_log.specs.Rules.{all_rules as append_rules}
+
+-- the rules of what is read of definitions, of how far a server is, of its source, and before its log is made longer
+abbrev pub rules : Rules
+rules = joined stored_rules (joined status_rules (joined source_rules append_rules))
+
+-- what one of the servers was seen to have shows damage by these rules
+abbrev pub ShowsDamage : {K : Type 0} → (K → Kept) → Sites K → ℕ → Area → DamageCause → Type 0
+ShowsDamage kept sites = Damages (λ s. s < length (names sites)) rules kept sites

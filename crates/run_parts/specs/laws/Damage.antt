@@ -1,0 +1,86 @@
+-- Damage that a part of a run met, by the rules of one of its layers, and why the run ends.
+use Rattle.std.proofs.Common.{◌≡◌, ◌∙◌, ℕ, List, ◌<◌, length, refl, sym, ap, subst}
+use Rattle.std.specs.Prelude.{Option, Some, None, slice_index_or}
+use Rattle.std.proofs.lemmas.Option.{same_Some}
+use Rattle.repl_types.specs.declared.area.Area.{Area}
+use Rattle.repl_types.specs.declared.status.DamageCause.{DamageCause}
+use Rattle.faults.specs.declared.fault.Fault.{Fault}
+use Rattle.faults.specs.declared.fault.Fault.TheVariants as faults
+use Rattle.keep_core.specs.Contents.{Contents}
+use Rattle.keep_core.specs.Kept.{Kept, seen_of}
+use Rattle.repl_model.specs.World.{World}
+use Rattle.site_store.specs.Servers.{AllClosed}
+use Rattle.site_store.specs.Views.{names, held, work, sees}
+use Rattle.site_store.specs.Calls.{Bounds, KeepsServers, Blames, Fails}
+use Rattle.site_store.specs.Damage.{Rules, joined, Shows, Damages, IsNoDamage}
+use Rattle.site_store.specs.laws.Damage.{shown_first, shown_second}
+use Rattle.site_store.specs.declared.sites.Sites.{Sites}
+use Rattle.world_store.specs.Stands.{Stands}
+use Rattle.stored_defs.specs.Rules.{rules as stored_rules}
+use Rattle.show_rows.specs.Rules.{rules as status_rules}
+use Rattle.show_source.specs.Rules.{rules as source_rules}
+use Rattle.source_log.specs.Rules.{all_rules as append_rules}
+use Rattle.run_parts.specs.Causes.{PartHasCause}
+use Rattle.run_parts.specs.Damage.{rules, ShowsDamage}
+use Rattle.run_parts.specs.RunErrors.{error_of_fault}
+use Rattle.run_parts.specs.declared.run_error.RunError.{RunError}
+use Rattle.run_parts.specs.declared.run_error.RunError.TheVariants as errors
+
+-- ---- what the rules of one layer show, those of a run show
+
+-- of definitions
+pub stored_shown : (a : Area) (cause : DamageCause) (saw : Option Contents) → Shows stored_rules a cause saw → Shows rules a cause saw
+stored_shown a cause saw shows = shown_first stored_rules (joined status_rules (joined source_rules append_rules)) a cause saw shows
+
+-- of how far a server is
+pub status_shown : (a : Area) (cause : DamageCause) (saw : Option Contents) → Shows status_rules a cause saw → Shows rules a cause saw
+status_shown a cause saw shows =
+    shown_second stored_rules (joined status_rules (joined source_rules append_rules)) a cause saw
+    (shown_first status_rules (joined source_rules append_rules) a cause saw shows)
+
+-- of a source
+pub source_shown : (a : Area) (cause : DamageCause) (saw : Option Contents) → Shows source_rules a cause saw → Shows rules a cause saw
+source_shown a cause saw shows =
+    shown_second stored_rules (joined status_rules (joined source_rules append_rules)) a cause saw
+    (shown_second status_rules (joined source_rules append_rules) a cause saw
+    (shown_first source_rules append_rules a cause saw shows))
+
+-- of what is read before a log is made longer
+pub append_shown : (a : Area) (cause : DamageCause) (saw : Option Contents) → Shows append_rules a cause saw → Shows rules a cause saw
+append_shown a cause saw shows =
+    shown_second stored_rules (joined status_rules (joined source_rules append_rules)) a cause saw
+    (shown_second status_rules (joined source_rules append_rules) a cause saw
+    (shown_second source_rules append_rules a cause saw shows))
+
+-- ---- why a part ends
+
+module _ {K : Type 0} (kept : K → Kept) (s0 s1 : Sites K) (closed : AllClosed (work kept s0)) (keeps : KeepsServers kept s0 s1) where
+  -- with no transaction open, what is seen is what is held
+  sees_held : (s : Sites K) → AllClosed (work kept s) → (n : ℕ) → sees kept s n ≡ slice_index_or (held kept s) n None
+  sees_held s none n = ap (seen_of (slice_index_or (held kept s) n None)) (none n)
+
+  -- so the same is seen where the same is held
+  seen_after : held kept s1 ≡ held kept s0 → (n : ℕ) → sees kept s0 n ≡ sees kept s1 n
+  seen_after same n = sees_held s0 closed n ∙ ap (λ (h : List (Option Contents)). slice_index_or h n None) (sym same) ∙ sym (sees_held s1 keeps.closed n)
+
+  module _ (layer : Rules) (all : (a : Area) (cause : DamageCause) (saw : Option Contents) → Shows layer a cause saw → Shows rules a cause saw) (at : ℕ → Type 0) (below : (n : ℕ) → at n → n < length (names s0)) where
+    -- damage that a layer found is shown at the end of the part
+    shown_after : held kept s1 ≡ held kept s0 → (n : ℕ) (a : Area) (cause : DamageCause) → Damages at layer kept s0 n a cause → ShowsDamage kept s1 n a cause
+    shown_after same n a cause shows = (subst (λ (l : List (List ℕ)). n < length l) (sym keeps.names) (below n shows.0), subst (Shows rules a cause) (seen_after same n) (all a cause (sees kept s0 n) shows.1))
+
+    -- why a part ends at a fault: if it is damage, the servers hold what they held, and they stand for no world
+    pub fault_cause : (before now : ℕ) (e : Fault) (error : RunError) → Some error ≡ error_of_fault e → Blames kept s0 s1 (Damages at layer kept s0) e → ((n : ℕ) (a : Area) (cause : DamageCause) → e ≡ faults.Damaged n a cause → held kept s1 ≡ held kept s0) → ((w : World) → Stands (names s0) (held kept s0) w → IsNoDamage e) → PartHasCause kept s0 s1 before now error
+    fault_cause before now faults.Memory error is blames same none = rw (same_Some error errors.Memory is) (record { streams = tt; servers = tt })
+    fault_cause before now (faults.Keeper n) error is blames same none = rw (same_Some error (errors.KeeperFailed n) is) (record { streams = tt; servers = blames })
+    fault_cause before now (faults.Damaged n a cause) error is blames same none = rw (same_Some error (errors.Damaged n a cause) is) (record {
+      streams = tt;
+      servers = (shown_after (same n a cause refl) n a cause blames.1, none);
+    })
+    fault_cause before now (faults.Refused refusal) error is blames same none = absurd cc
+
+module _ {K : Type 0} (kept : K → Kept) (s0 s1 : Sites K) (closed : AllClosed (work kept s0)) (layer : Rules) (all : (a : Area) (cause : DamageCause) (saw : Option Contents) → Shows layer a cause saw → Shows rules a cause saw) where
+  -- why a part ends at a call that failed and left the servers as they were
+  pub failed_cause : (most : Bounds) (before now : ℕ) (e : Fault) (error : RunError) → Some error ≡ error_of_fault e → Fails kept s0 s1 most (Damages (λ s. s < length (names s0)) layer kept s0) e → ((w : World) → Stands (names s0) (held kept s0) w → IsNoDamage e) → PartHasCause kept s0 s1 before now error
+  failed_cause most before now e error is fails none =
+      let closes = fails.closes in
+      fault_cause kept s0 s1 closed (record { names = closes.passes.names; faults = closes.passes.faults; closed = closes.closed }) layer all (λ s. s < length (names s0)) (λ n lt. lt) before now e error is fails.blames (λ n a cause same. closes.held) none

@@ -1,0 +1,290 @@
+-- What an append leaves of the servers, if they stood for a world: proofs.
+use Rattle.std.proofs.Common.{◌≡◌, ◌⊎◌, inl, inr, ℕ, zero, suc, ◌<◌, ◌≤◌, Bool, true, false, cond, List, [], ◌∷◌, length, set, drop, get_or, refl, sym, ap, subst, ◌∙◌, arith}
+use Rattle.std.specs.Prelude.{Option, Some, None, IsSome, Result, Ok, Err, IfOk, IfErr}
+use Rattle.std.specs.List.{AllByRecursion}
+use Rattle.std.proofs.lemmas.List.{length-map, get_or-set_same}
+use Rattle.std.proofs.lemmas.Option.{same_Some}
+use Rattle.repl_types.specs.declared.area.Area.{Area}
+use Rattle.repl_types.specs.declared.area.Area.TheVariants as areas
+use Rattle.repl_types.specs.declared.record.LogRecord.{LogRecord}
+use Rattle.faults.specs.declared.call_errors.AppendError.{AppendError}
+use Rattle.faults.specs.declared.call_errors.AppendError.TheVariants as errors
+use Rattle.faults.specs.declared.fault.Fault.{Fault}
+use Rattle.faults.specs.declared.fault.Fault.TheVariants as faults
+use Rattle.keep_core.specs.Contents.{Contents, set_key, put_at}
+use Rattle.keep_core.specs.Kept.{Kept, seen_of}
+use Rattle.repl_records.specs.RecordKeys.{single_spelling}
+use Rattle.repl_records.specs.SourceSide.{head_spelling}
+use Rattle.repl_records.specs.declared.source_side.Head.{Head}
+use Rattle.repl_model.specs.Applicable.{is_applicable}
+use Rattle.repl_model.specs.Longer.{with_more, grown}
+use Rattle.repl_model.specs.Sound.{IsSound, empty_server}
+use Rattle.repl_model.specs.SoundLogs.{LogIsSound}
+use Rattle.repl_model.specs.World.{Server, World, tables_of}
+use Rattle.load_worlds.specs.laws.Members.{In}
+use Rattle.log_rows.specs.InFlight.{InFlightRowsStand, OpenChangesAreRows, OpenChangesAreStored}
+use Rattle.log_rows.specs.LongerTables.{HeadFits, head_table}
+use Rattle.log_rows.specs.SourceLogs.{SourceRowsStand}
+use Rattle.log_store.specs.LongerServers.{is_of_log, Logged, LoggedHolds, OthersHold}
+use Rattle.log_worlds.specs.LongerLogs.{AllFollow}
+use Rattle.log_worlds.specs.StaysSound.{UsersRecordsStaySound}
+use Rattle.rows_in_order.specs.laws.Written.{put_here, put_other_table}
+use Rattle.site_store.specs.declared.sites.Sites.{Sites}
+use Rattle.site_store.specs.Servers.{AllClosed}
+use Rattle.site_store.specs.Views.{names, held, work, sees, IsOpenAt}
+use Rattle.site_store.specs.Calls.{Bounds, no_access, Passes, Begins, ClosesOne, KeepsServers, Blames}
+use Rattle.site_store.specs.Damage.{Shows, IsUndamaged, IsNoDamage}
+use Rattle.site_store.specs.laws.Damage.{no_damage}
+use Rattle.site_store.specs.laws.Transactions.{begun_sees, took, closed_again}
+use Rattle.stored_defs.specs.Known.{server_in}
+use Rattle.stored_defs.specs.laws.Standing.{all_at_place, same_count, keeps_at, seen_at}
+use Rattle.world_store.specs.Stands.{shown, Holds, Stands}
+use Rattle.world_store.specs.Tables.{tables}
+use Rattle.source_log.specs.Appending.{taken, error_at, append_error, stop_at, HasTaken, TakesAll, PutsEnd, CommitsEnd, MayCommitEnd, StandGrown, HasAppended, HasNotAppended}
+use Rattle.source_log.specs.Calls.{GoesOn, BreaksFirst}
+use Rattle.source_log.specs.Rules.{all_rules, ShowsDamage}
+use Rattle.source_log.specs.Storing.{IsKept, MayAppend}
+use Rattle.source_log.specs.declared.progress.Progress.{Progress}
+use Rattle.source_log.proofs.Calls.{goes_then, stops_as, stops_after}
+use Rattle.source_log.proofs.Drops.{take_whole}
+use Rattle.source_log.proofs.Grown.{in_at, end_put, grown_nothing, found_there, stands_grown}
+use Rattle.source_log.proofs.HeldTables.{held_tables, held_end}
+use Rattle.source_log.proofs.TakenFirst.{taken_follow}
+use Rattle.source_log.proofs.Undamaged.{undamaged}
+
+-- ---- answers
+
+-- what holds of a value, if something that follows from it is asked
+pub ok_as : {T E : Type 0} {P Q : T → Type 0} (r : Result T E) → ((x : T) → P x → Q x) → IfOk r P → IfOk r Q
+ok_as (Ok x) also p = also x p
+ok_as (Err e) also p = tt
+
+-- the same of an error
+pub err_as : {T E : Type 0} {P Q : E → Type 0} (r : Result T E) → ((e : E) → P e → Q e) → IfErr r P → IfErr r Q
+err_as (Ok x) also p = tt
+err_as (Err e) also p = also e p
+
+-- ---- which records were taken
+
+-- a list of no length is empty
+no_length : {X : Type 0} (xs : List X) → length xs ≡ 0 → xs ≡ []
+no_length [] e = refl
+no_length (x ∷ xs) e = absurd (omega (arith, e))
+
+-- if nothing is left after some, there are no more
+none_left : {X : Type 0} (n : ℕ) (xs : List X) → drop n xs ≡ [] → length xs ≤ n
+none_left zero [] e = omega arith
+none_left zero (x ∷ xs) e = absurd cc
+none_left (suc n) [] e = omega arith
+none_left (suc n) (x ∷ xs) e = let le = none_left n xs e in omega (arith, le)
+
+-- no fault says why a record isn't taken
+no_fault : (place : ℕ) (server : Server) (rs : List LogRecord) (e : Fault) → error_at place server rs ≡ Some (errors.Fault e) → ⊥
+no_fault place server [] e is = absurd cc
+no_fault place server (r ∷ rs) e is = pick (is_applicable (tables_of server) server.log r) is
+  where
+    pick : (b : Bool) → ◌≡◌ {A = Option AppendError} (Some (cond b (errors.LogFull place) (errors.NotApplicable place))) (Some (errors.Fault e)) → ⊥
+    pick true is = cc
+    pick false is = cc
+
+-- if nothing stopped the append, none is left
+nothing_stopped : (place : ℕ) (server : Server) (rs : List LogRecord) → error_at place server rs ≡ None → rs ≡ []
+nothing_stopped place server [] is = refl
+nothing_stopped place server (r ∷ rs) is = absurd cc
+
+-- so all were taken
+all_taken : (server : Server) (records : List LogRecord) (progress : Progress) (d : Contents) → HasTaken server records progress d → append_error server records ≡ None → taken server records ≡ records
+all_taken server records progress d has none =
+    let first = taken server records in
+    let left : drop (length first) records ≡ [] = nothing_stopped (length first) (with_more first server) (drop (length first) records) none in
+    let le : length records ≤ length first = none_left (length first) records left in
+    sym has.first ∙ take_whole records progress.taken (omega (arith, le, has.count))
+
+-- ---- what the server holds
+
+-- a put of the end of the log leaves the tables that aren't of the log
+end_apart : (d : Contents) (k : List ℕ) (v : Option (List ℕ)) (a : Area) (m : ℕ) → is_of_log a m ≡ false → put_at d areas.Head 0 k v a m ≡ d a m
+end_apart d k v areas.Head zero e = absurd cc
+end_apart d k v areas.Head (suc m) e = put_other_table d areas.Head 0 (suc m) k v (λ is. omega arith)
+end_apart d k v a m e = refl
+
+-- the end that a server holds is that of its log
+end_held : (w : World) (server : Server) (c : Contents) → Holds w server c → shown server areas.Head 0 (c areas.Head 0) ≡ head_table server
+unfolding tables
+end_held w server c holds = holds areas.Head 0
+
+-- a call that only writes shows no damage
+no_write_damages : {K : Type 0} (kept : K → Kept) (s1 s2 : Sites K) (e : Fault) → Blames kept s1 s2 (λ s a cause. ⊥) e → IsNoDamage e
+no_write_damages kept s1 s2 faults.Memory h = tt
+no_write_damages kept s1 s2 (faults.Keeper s) h = tt
+no_write_damages kept s1 s2 (faults.Damaged s a cause) h = h.1
+no_write_damages kept s1 s2 (faults.Refused refusal) h = h
+
+-- ---- the servers
+
+module _ {K : Type 0} (kept : K → Kept) (s0 s1 s2 : Sites K) (closed : AllClosed (work kept s0)) (n : ℕ) (begun : Begins kept s0 s1 n) where
+  -- its transaction is open
+  pub opened : n < length (names s0) → IsOpenAt (work kept s1) n
+  opened lt =
+      let within : n < length (work kept s0) = rw length-map (simp length-map at lt) in
+      subst (λ (o : Option (Option Contents)). IsSome o) (sym (ap (λ (l : List (Option (Option Contents))). get_or l n None) begun.work ∙ get_or-set_same (work kept s0) n (Some (get_or (held kept s0) n None)) None within)) refl
+
+  -- a read that failed inside the transaction failed as if it had been made before
+  pub stops_begun : (e : Fault) → n < length (names s0) → BreaksFirst kept s1 s2 n e → BreaksFirst kept s0 s2 n e
+  stops_begun e lt stops =
+      let within : n < length (work kept s0) = rw length-map (simp length-map at lt) in
+      stops_after kept s0 s1 s2 no_access (ShowsDamage kept s0 n) e begun.passes begun.held (stops_as kept s1 s2 (ShowsDamage kept s1 n) (ShowsDamage kept s0 n) e (λ s a cause h. (h.0, subst (Shows all_rules a cause) (begun_sees kept s0 s1 n within (closed n) begun s) h.1)) stops)
+
+  module _ (records : List LogRecord) (progress : Progress) (open_at : IsOpenAt (work kept s1) n) (goes : GoesOn kept s1 s2 n (TakesAll records progress)) (s3 : Sites K) where
+    -- after the transaction was ended, the servers are kept
+    pub keeps_ended : (progress.taken ≡ 0 → ClosesOne kept s2 s3 n) → ((0 < progress.taken) → CommitsEnd kept s2 s3 n progress.end) → KeepsServers kept s0 s3
+    keeps_ended none some = pick progress.taken refl
+      where
+        keeps : (s4 : Sites K) (P : Contents → Contents → Type 0) → GoesOn kept s1 s4 n P → (x : Bounds) → Passes kept s4 s3 x → work kept s3 ≡ set (work kept s4) n None → KeepsServers kept s0 s3
+        keeps s4 P on x passes ends = record {
+          names = passes.names ∙ on.works.passes.names ∙ begun.passes.names;
+          faults = λ q. omega (arith, passes.faults q, on.works.passes.faults q, begun.passes.faults q);
+          closed = closed_again kept s0 s1 s4 n P begun on.works.works (work kept s3) closed ends;
+        }
+
+        pick : (t : ℕ) → progress.taken ≡ t → KeepsServers kept s0 s3
+        pick zero is = let ended = none is in keeps s2 (TakesAll records progress) goes no_access ended.passes ended.work
+        pick (suc t) is =
+            let ended = some (omega (arith, is)) in
+            keeps ended.before (λ c e. (d : Contents) × TakesAll records progress c d × PutsEnd progress.end d e) (goes_then kept s1 s2 ended.before n (TakesAll records progress) (PutsEnd progress.end) (λ c e. (d : Contents) × TakesAll records progress c d × PutsEnd progress.end d e) open_at goes ended.puts (λ c d e all put. (d, all, put))) no_access ended.commits.passes ended.commits.work
+
+-- ---- a world
+
+module _ {K : Type 0} (kept : K → Kept) (s0 : Sites K) (closed : AllClosed (work kept s0)) (w : World) (stands : Stands (names s0) (held kept s0) w) (n : ℕ) (lt : n < length (names s0)) where
+  -- the server of the world
+  abbrev server : Server
+  server = server_in w n
+
+  -- its name
+  abbrev name : List ℕ
+  name = get_or (names s0) n []
+
+  -- there are as many servers
+  within : n < length w
+  within = omega (arith, lt, same_count kept s0 closed w stands)
+
+  -- it is one of them
+  member : In server w
+  member = in_at w n (empty_server []) within
+
+  -- its log is sound
+  sound_log : LogIsSound server
+  sound_log = all_at_place LogIsSound w n (empty_server []) stands.sound.logs within
+
+  -- it is one of a sound world
+  kept_server : IsKept server
+  kept_server = record { log = sound_log; world = w; before = server; keeps = keeps_at kept s0 closed w stands n lt; tables = refl }
+
+  -- what it holds
+  holds : (c : Contents) × (get_or (held kept s0) n None ≡ Some c) × Holds w server c
+  holds = let r = seen_at kept s0 closed w stands n lt in (r.0, sym (ap (seen_of (get_or (held kept s0) n None)) (closed n)) ∙ r.1, r.2)
+
+  -- no damage is reported of it
+  none_damaged : InFlightRowsStand → OpenChangesAreRows → OpenChangesAreStored → SourceRowsStand → HeadFits → (s1 : Sites K) (e : Fault) → Blames kept s0 s1 (ShowsDamage kept s0 n) e → IsNoDamage e
+  none_damaged in_flight are_rows stored source fits s1 e blames = no_damage kept s0 s1 (λ s. s ≡ n) all_rules e (λ s is.
+      let r = seen_at kept s0 closed w stands n lt in
+      subst (λ (k : ℕ). (c : Contents) × (sees kept s0 k ≡ Some c) × IsUndamaged all_rules c) (sym is) (r.0, r.1, undamaged in_flight are_rows stored source fits w server r.0 stands.sound member r.2)) blames
+
+  -- after a read failed, the servers stand for the world as before
+  pub stands_broken : InFlightRowsStand → OpenChangesAreRows → OpenChangesAreStored → SourceRowsStand → HeadFits → (s1 s2 : Sites K) (e : Fault) → Begins kept s0 s1 n → BreaksFirst kept s1 s2 n e → (h : List (Option Contents)) → h ≡ held kept s2 → IsNoDamage e × Stands (names s0) h w
+  stands_broken in_flight are_rows stored source fits s1 s2 e begun stops h same =
+      let since = stops_begun kept s0 s1 s2 closed n begun e lt stops in
+      (none_damaged in_flight are_rows stored source fits s2 e since.blames, subst (λ (l : List (Option Contents)). Stands (names s0) l w) (sym (same ∙ since.held)) stands)
+
+  module _ (fits : HeadFits) (records : List LogRecord) (s1 s2 : Sites K) (progress : Progress) (begun : Begins kept s0 s1 n) (goes : GoesOn kept s1 s2 n (TakesAll records progress)) where
+    -- what was taken there
+    has_taken : (d : Contents) → TakesAll records progress holds.0 d → HasTaken server records progress d
+    has_taken d all = all.has server kept_server (held_end w server holds.0 holds.2 fits sound_log all.head all.fits all.is) (held_tables w server holds.0 holds.2)
+
+    -- what the transaction sees then
+    took_in : (d : Contents) × TakesAll records progress holds.0 d
+    took_in = let r = took kept s0 s1 s2 n (TakesAll records progress) begun goes.works.works (set (held kept s2) n (sees kept s2 n)) holds.0 lt goes.works.held refl holds.1 in (r.0, r.2)
+
+    -- what they are
+    has : HasTaken server records progress took_in.0
+    has = has_taken took_in.0 took_in.1
+
+    -- if none was taken, the servers stand for the world as before
+    stands_idle : progress.taken ≡ 0 → (h : List (Option Contents)) → h ≡ held kept s0 → Stands (names s0) h (grown name (taken server records) w)
+    stands_idle none h same =
+        let empty : taken server records ≡ [] = no_length (taken server records) (omega (arith, none, has.count)) in
+        let idle : grown name (taken server records) w ≡ w = ap (λ (rs : List LogRecord). grown name rs w) empty ∙ grown_nothing name w in
+        subst (λ (v : World). Stands (names s0) h v) (sym idle) (subst (λ (l : List (Option Contents)). Stands (names s0) l w) (sym same) stands)
+
+    module _ (sound : UsersRecordsStaySound) (logged : LoggedHolds) (others : OthersHold) (may : AllByRecursion MayAppend records) (s3 : Sites K) (open_at : IsOpenAt (work kept s1) n) (puts : GoesOn kept s2 s3 n (PutsEnd progress.end)) where
+      -- the world with them is sound
+      sound_grown : IsSound (grown name (taken server records) w)
+      sound_grown = sound name (taken server records) w stands.sound (λ s found.
+          let same : server ≡ s = same_Some server s (sym (found_there kept s0 closed w stands n lt) ∙ found) in
+          subst (λ (x : Server). AllFollow x (taken server records)) same (taken_follow server records may))
+
+      -- what the server holds once they are committed
+      holds_longer : (d e : Contents) → TakesAll records progress holds.0 d → PutsEnd progress.end d e → Logged (taken server records) server holds.0 e
+      holds_longer d e all put =
+          let h = has_taken d all in
+          let longer = with_more (taken server records) server in
+          let key = single_spelling (record {}) in
+          let row = λ (end : Head). Some (head_spelling end) in
+          record {
+            log = ap (λ (x : Contents). x areas.Log 0) put ∙ h.stores.log;
+            source = λ m. ap (λ (x : Contents). x areas.Source m) put ∙ h.stores.source m;
+            in_flight = ap (λ (x : Contents). x areas.Inflight 0) put ∙ h.stores.in_flight;
+            head =
+                ap (shown server areas.Head 0) (ap (λ (x : Contents). x areas.Head 0) put ∙ put_here d areas.Head 0 key (row progress.end) ∙ (λ i. set_key (all.end 0 i) key (row (h.end i))))
+                ∙ end_put server longer (holds.0 areas.Head 0) (end_held w server holds.0 holds.2);
+            others = λ a m o. ap (λ (x : Contents). x a m) put ∙ end_apart d key (row progress.end) a m o ∙ all.others a m o;
+          }
+
+      -- once they are committed, the servers stand for the world with them
+      stands_committed : (h : List (Option Contents)) → h ≡ set (held kept s3) n (sees kept s3 n) → Stands (names s0) h (grown name (taken server records) w)
+      stands_committed h commit =
+          let P = λ (c e : Contents). (d : Contents) × TakesAll records progress c d × PutsEnd progress.end d e in
+          let whole = goes_then kept s1 s2 s3 n (TakesAll records progress) (PutsEnd progress.end) P open_at goes puts (λ c d e all put. (d, all, put)) in
+          let after = took kept s0 s1 s3 n P begun whole.works.works h holds.0 lt whole.works.held commit holds.1 in
+          subst (λ (l : List (Option Contents)). Stands (names s0) l (grown name (taken server records) w)) (sym after.1)
+          (stands_grown kept s0 closed w stands n lt logged others (taken server records) holds.0 after.0 sound_grown holds.2 (holds_longer after.2.0 after.0 after.2.1 after.2.2))
+
+    module _ (sound : UsersRecordsStaySound) (logged : LoggedHolds) (others : OthersHold) (may : AllByRecursion MayAppend records) (s3 : Sites K) (open_at : IsOpenAt (work kept s1) n) where
+      -- after the transaction was ended, the servers stand for the world with what was taken
+      pub stands_ended : (progress.taken ≡ 0 → ClosesOne kept s2 s3 n) → ((0 < progress.taken) → CommitsEnd kept s2 s3 n progress.end) → StandGrown kept s0 s3 n (taken server records) w
+      stands_ended none some = pick progress.taken refl
+        where
+          pick : (t : ℕ) → progress.taken ≡ t → StandGrown kept s0 s3 n (taken server records) w
+          pick zero is = stands_idle is (held kept s3) ((none is).held ∙ goes.works.held ∙ begun.held)
+          pick (suc t) is = let ended = some (omega (arith, is)) in stands_committed sound logged others may ended.before open_at ended.puts (held kept s3) ended.commits.held
+
+      -- after its commit failed, they stand for the world as before, or for that
+      pub stands_doubted : (e : Fault) → MayCommitEnd kept s2 s3 n progress.end e → IsNoDamage e × (Stands (names s0) (held kept s3) w ⊎ StandGrown kept s0 s3 n (taken server records) w)
+      stands_doubted e may_be = (
+        no_write_damages kept s2 s3 e may_be.blames,
+        elim may_be.held [
+          | inl same ↦ inl (subst (λ (h : List (Option Contents)). Stands (names s0) h w) (sym (same ∙ goes.works.held ∙ begun.held)) stands)
+          | inr took ↦ inr (stands_committed sound logged others may took.1.before open_at took.1.puts (held kept s3) took.1.held)
+        ],
+      )
+
+    -- ---- the answer
+
+    module _ (s3 : Sites K) (stand : StandGrown kept s0 s3 n (taken server records) w) where
+      -- all records were appended
+      pub has_appended : (last : ℕ) → (stop_at progress.taken progress.outcome ≡ None) × (last ≡ progress.end.last) → HasAppended kept s0 s3 n records w last
+      has_appended last told =
+          let none : append_error server records ≡ None = sym has.stop ∙ told.0 in
+          let whole = all_taken server records progress took_in.0 has none in
+          record {
+            all = none;
+            whole = whole;
+            stands = subst (λ (rs : List LogRecord). StandGrown kept s0 s3 n rs w) whole stand;
+            last = told.1 ∙ ap (λ (end : Head). end.last) has.end ∙ ap (λ (rs : List LogRecord). length (with_more rs server).log) whole;
+          }
+
+      -- or not all were
+      pub has_not_appended : (e : AppendError) → stop_at progress.taken progress.outcome ≡ Some e → HasNotAppended kept s0 s3 n records w e
+      has_not_appended (errors.Fault e) told = absurd (no_fault (length (taken server records)) (with_more (taken server records) server) (drop (length (taken server records)) records) e (sym has.stop ∙ told))
+      has_not_appended (errors.NotApplicable place) told = (sym has.stop ∙ told, stand)
+      has_not_appended (errors.LogFull place) told = (sym has.stop ∙ told, stand)

@@ -1,0 +1,29 @@
+//! Records are appended at the log of a server, in one commit.
+//!
+//! `append` takes records one after another, as long as each is applicable after the log and those
+//! before it, and the log has room for it. A change gets a row in the log, and one among the
+//! changes in flight; a commit makes the changes of its transaction in the tables of the source,
+//! and removes them from the changes in flight; an abort only removes them. A commit of which one
+//! change doesn't apply is undone, and isn't taken. `specs/Appending.antt` says which records are
+//! taken and why the others aren't, and `specs/Rules.antt` what shows that a server is damaged. It
+//! stands on `site_store`, whose records it reads and puts, on `row_changes`, which says whether a
+//! change fits its table, on `log_rows`, which says what one more record makes of stored tables,
+//! and on `log_worlds` and `log_store`, which show what that makes of a world.
+//!
+//! For example, transaction 5 inserts a row, and so does transaction 6 with the same key. Both
+//! changes are applicable. If 5 commits first, the commit of 6 isn't applicable.
+#![tactic(auto)]
+
+mod appending;
+mod fitting;
+mod in_flight;
+mod laws;
+mod making;
+mod outcome;
+mod progress;
+mod source;
+mod step;
+mod steps;
+mod taking;
+
+pub use appending::append;

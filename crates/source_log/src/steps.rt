@@ -1,0 +1,124 @@
+//! The changes that a transaction has in flight, read from the log.
+
+ghost use Rattle.std.specs.Prelude.{◌≡◌, ◌<◌, true, None, length, OnOk, IfOk, IfErr, IfSome};
+ghost use Rattle.std.specs.List.{AllByRecursion};
+ghost use Rattle.row_codec.specs.LogRecords.{IsLogRecord};
+ghost use Rattle.site_store.specs.Views.{names, sees};
+ghost use Rattle.source_log.specs.Calls.{Looks, Breaks};
+ghost use Rattle.source_log.specs.Fitting.{may_stand as may_stand_lem};
+ghost use Rattle.source_log.specs.Making.{StepCanBeMade, IsStepAt, AreSteps};
+ghost use Rattle.source_log.specs.Rules.{IsInFlight, IsLogged, HasTable, IsKeptChange};
+
+use crate::fitting::may_stand;
+use crate::laws::laws_of_changes;
+use crate::step::Step;
+use faults::Fault;
+use keep_core::Keeper;
+use repl_definitions::DefinedTable;
+use repl_records::{InFlight, InFlightKey};
+use repl_types::{Change, List, LogRecord};
+use row_changes::table_of;
+use row_codec::Table0;
+use site_store::Sites;
+use std::alloc::Global;
+
+/// The change of a transaction that a record is, if it is one.
+fn change_of(tx: u32, logged: LogRecord) -> Option<Change>
+    ensures some { IfSome result (λ change. logged ≡ LogRecord.Change tx change) }
+    ensures none { result ≡ None → (change : Change) → logged ≡ LogRecord.Change tx change → ⊥ }
+{
+    match logged {
+        LogRecord::Change { tx: own, change } => { if own == tx { Some(change) } else { None } }
+        LogRecord::Commit { .. } | LogRecord::Abort { .. } => None,
+    }
+}
+
+/// The fault of a change in flight for which the log has no change that may stand at its table.
+fn stray<K: Keeper>(sites: &mut Sites<K>, alloc: Global, server: u32, tx: u32, pos: u64) -> Fault
+    requires server { server < length (names sites.old) }
+    requires stray { IfSome (sees K.kept sites.old server) (λ c. IsInFlight tx c pos
+        × ((change : Change) → IsKeptChange tx c pos change → ⊥)) }
+    ensures { Breaks K.kept sites.old sites.new server result }
+{
+    let key = InFlightKey { tx, pos };
+    match sites.get::<InFlight>(alloc, server, Table0, &key) {
+        Ok(_) => sites.unfit::<InFlight>(alloc, server, &InFlight),
+        Err(e) => e,
+    }
+}
+
+/// The table of a change that a transaction has in flight at a position.
+fn read_table<K: Keeper>(
+    sites: &mut Sites<K>,
+    alloc: Global,
+    server: u32,
+    tx: u32,
+    pos: u64,
+    change: &Change,
+) -> Result<DefinedTable, Fault>
+    requires server { server < length (names sites.old) }
+    requires in_flight { IfSome (sees K.kept sites.old server) (λ c. IsInFlight tx c pos
+        × IsLogged tx c pos change.now) }
+    requires typed { IsLogRecord (LogRecord.Change tx change.now) }
+    ensures ok { OnOk result (Looks K.kept sites.old sites.new) }
+    ensures table { IfOk result (λ table. IfSome (sees K.kept sites.old server)
+        (λ c. HasTable c change.now table)) }
+    ensures can { IfOk result (λ table. may_stand_lem table.def change.now ≡ true) }
+    ensures fault { IfErr result (Breaks K.kept sites.old sites.new server) }
+{
+    let table = sites.get_needed::<DefinedTable>(alloc, server, Table0, table_of(change))?;
+    let fit = may_stand(alloc, &table.def, change)?;
+    if !fit {
+        return Err(stray(sites, alloc, server, tx, pos));
+    }
+    Ok(table)
+}
+
+/// The change that a transaction has in flight at a position, with its table.
+fn read_step<K: Keeper>(
+    sites: &mut Sites<K>,
+    alloc: Global,
+    server: u32,
+    tx: u32,
+    pos: u64,
+) -> Result<Step, Fault>
+    requires server { server < length (names sites.old) }
+    requires in_flight { IfSome (sees K.kept sites.old server) (λ c. IsInFlight tx c pos) }
+    ensures ok { OnOk result (Looks K.kept sites.old sites.new) }
+    ensures step { IfOk result (λ step. IfSome (sees K.kept sites.old server)
+        (λ c. IsStepAt tx c pos step)) }
+    ensures can { IfOk result StepCanBeMade }
+    ensures fault { IfErr result (Breaks K.kept sites.old sites.new server) }
+{
+    laws_of_changes();
+    let logged = sites.get_needed::<LogRecord>(alloc, server, Table0, &pos)?;
+    let Some(change) = change_of(tx, logged) else {
+        return Err(stray(sites, alloc, server, tx, pos));
+    };
+    let table = read_table(sites, alloc, server, tx, pos, &change)?;
+    Ok(Step { table, change })
+}
+
+/// The changes that a transaction has in flight at these positions, with their tables.
+pub fn read_steps<K: Keeper>(
+    sites: &mut Sites<K>,
+    alloc: Global,
+    server: u32,
+    tx: u32,
+    positions: &[u64],
+) -> Result<List<Step>, Fault>
+    requires server { server < length (names sites.old) }
+    requires in_flight { IfSome (sees K.kept sites.old server)
+        (λ c. AllByRecursion (IsInFlight tx c) positions.now) }
+    ensures ok { OnOk result (Looks K.kept sites.old sites.new) }
+    ensures steps { IfOk result (λ steps. IfSome (sees K.kept sites.old server)
+        (AreSteps tx positions.now steps)) }
+    ensures can { IfOk result (AllByRecursion StepCanBeMade) }
+    ensures fault { IfErr result (Breaks K.kept sites.old sites.new server) }
+{
+    let mut steps = List::new(alloc);
+    'positions: for pos in positions {
+        steps.push(read_step(sites, alloc, server, tx, *pos)?)?;
+    }
+    Ok(steps)
+}
