@@ -7,14 +7,14 @@ use Rattle.keep_core.specs.Contents.{Contents}
 use Rattle.keep_core.specs.Revealed.{Takes}
 use Rattle.keep_core.specs.laws.Revealed.{takes_nothing}
 use Rattle.repl_model.specs.World.{World}
-use Rattle.run_core.specs.Runs.{Event, last_world, lines_of, is_refused, Went, Stopped}
+use Rattle.run_core.specs.Runs.{Event, last_world, lines_of, is_refused, Going, Went, Stopped}
 use Rattle.run_core.specs.laws.Runs.{refused_append, stopped_before, went_both, stopped_in_second, goes_on, done_after, stops_in, no_part}
 use Rattle.script_lines.specs.Lines.{ScriptLine, script_of}
 use Rattle.script_lines.specs.Script.{next_kind, line_number, line_text, next_line, line_of, lines_left}
 use Rattle.script_lines.specs.declared.kind.LineKind.{LineKind}
 use Rattle.script_lines.specs.declared.script.Script.{Script}
-use Rattle.session_core.specs.Bodies.{bodies_after}
-use Rattle.session_core.specs.Talk.{line_events, end_events, talk, script_events}
+use Rattle.run_parts.specs.Parts.{then_events}
+use Rattle.session_core.specs.Talk.{line_events, bodies_after, end_events, talk, script_events}
 use Rattle.session_core.specs.Lines.{IsGoing, GoesOn}
 use Rattle.session_core.specs.declared.bodies.Bodies.{Bodies}
 use Rattle.session_core.specs.declared.bodies.Bodies.TheVariants.{Refused}
@@ -60,13 +60,14 @@ module _ (Means : List (Option Contents) → World → Type 0) where
     abbrev events : World → List (Event World)
     events v = line_events bodies number line v
 
-    -- a line was taken and answered
-    pub takes_line : (left : Option (List (ℕ × ScriptLine))) (was : Bool) → GoesOn Means input w bodies (option_map (λ lines. ((number, line) ∷ []) ++ lines) left) h t u any
+    -- a line was taken and answered, and the program does with body lines what a run does
+    pub takes_line : (next : Bodies) (left : Option (List (ℕ × ScriptLine))) (was : Bool) → GoesOn Means input w bodies (option_map (λ lines. ((number, line) ∷ []) ++ lines) left) h t u any
+        → ((v : World) → Means h v → next ≡ bodies_after bodies number line v)
         → ((v : World) → Means h v → Went Means (events v) v h2 u u2 × (was ≡ is_refused (events v)))
-        → GoesOn Means input w (bodies_after bodies line) left h2 t u2 (any || was)
-    takes_line left was goes happened = pick input left goes
+        → GoesOn Means input w next left h2 t u2 (any || was)
+    takes_line next left was goes after happened = pick input left goes
       where
-        pick : (input : Option (List ℕ)) (left : Option (List (ℕ × ScriptLine))) → GoesOn Means input w bodies (option_map (λ lines. ((number, line) ∷ []) ++ lines) left) h t u any → GoesOn Means input w (bodies_after bodies line) left h2 t u2 (any || was)
+        pick : (input : Option (List ℕ)) (left : Option (List (ℕ × ScriptLine))) → GoesOn Means input w bodies (option_map (λ lines. ((number, line) ∷ []) ++ lines) left) h t u any → GoesOn Means input w next left h2 t u2 (any || was)
         pick None None goes = let v = goes.1.0 in (refl, (last_world v (events v), (happened v goes.1.1).0.stands))
         pick None (Some left) goes = absurd (some_lines goes.0)
           where
@@ -74,13 +75,19 @@ module _ (Means : List (Option Contents) → World → Type 0) where
             some_lines e = cc
         pick (Some input) None goes = absurd goes
         pick (Some input) (Some left) goes =
-            let going = goes.going in
-            let v = last_world w going.done in
-            let here = happened v going.stands in
+            let was_going = goes.going in
+            let v = last_world w was_going.done in
+            let here = happened v was_going.stands in
+            let going : Going Means (script_events input w) w (then_events events (talk next left)) h t u = record {
+              done = was_going.done;
+              split = was_going.split ∙ ap (λ (b : Bodies). was_going.done ++ then_events events (talk b left) v) (sym (after v was_going.stands));
+              stands = was_going.stands;
+              bytes = was_going.bytes;
+            } in
             record {
-              going = goes_on Means (script_events input w) w h h2 t u u2 events (talk (bodies_after bodies line) left) going here.0;
-              refused = ap₂ (λ (a b : Bool). a || b) goes.refused here.1 ∙ sym (refused_append going.done (events v))
-                  ∙ ap is_refused (sym (done_after Means (script_events input w) w h h2 t u u2 events (talk (bodies_after bodies line) left) going here.0));
+              going = goes_on Means (script_events input w) w h h2 t u u2 events (talk next left) going here.0;
+              refused = ap₂ (λ (a b : Bool). a || b) goes.refused here.1 ∙ sym (refused_append was_going.done (events v))
+                  ∙ ap is_refused (sym (done_after Means (script_events input w) w h h2 t u u2 events (talk next left) going here.0));
             }
 
     -- the run stopped in the answer to a line
@@ -93,8 +100,16 @@ module _ (Means : List (Option Contents) → World → Type 0) where
         pick None left goes = tt
         pick (Some input) None goes = absurd goes
         pick (Some input) (Some left) goes =
-            let going = goes.going in
-            stops_in Means (script_events input w) w h h2 t u u2 events (talk (bodies_after bodies line) left) going (stopped (last_world w going.done) going.stands)
+            let was_going = goes.going in
+            let v = last_world w was_going.done in
+            let later = talk (bodies_after bodies number line v) left in
+            let going : Going Means (script_events input w) w (then_events events later) h t u = record {
+              done = was_going.done;
+              split = was_going.split;
+              stands = was_going.stands;
+              bytes = was_going.bytes;
+            } in
+            stops_in Means (script_events input w) w h h2 t u u2 events later going (stopped v was_going.stands)
 
   -- the run stopped between two lines
   pub stops_here : (input : Option (List ℕ)) (left : Option (List (ℕ × ScriptLine))) (w : World) (h : List (Option Contents)) (t u : Option (List ℕ)) (bodies : Bodies) (any : Bool)

@@ -1,10 +1,14 @@
 -- What a run does with body lines before the next line of a command.
-use Rattle.std.specs.Prelude.{ℕ, ◌+◌, Bool, true, false, nat_lt, if◌then◌else◌, List, [], ◌∷◌, ◌++◌, length, Option, Some, None}
-use Rattle.repl_commands.specs.declared.command.Command.TheVariants.{Load}
-use Rattle.script_lines.specs.Lines.{ScriptLine, command, body, long_command, long_body}
-use Rattle.script_text.specs.Asked.{Asked, asks, unknown, bad, asked_by, takes_body}
+use Rattle.std.specs.Prelude.{ℕ, ◌+◌, ◌<◌, nat_lt, if◌then◌else◌, List, [], ◌++◌, ◌∷◌, length, Option, Some, None}
+use Rattle.std.specs.Option.{option_map_or}
+use Rattle.repl_commands.specs.declared.command.Command.TheVariants as commands
+use Rattle.repl_model.specs.World.{World}
+use Rattle.script_text.specs.Asked.{Asked, asks, unknown, bad, takes_body}
+use Rattle.feed_command.specs.Feeds.{IsFeed}
+use Rattle.feed_command.specs.FeedEvents.{begun, feed_after}
+use Rattle.feed_command.specs.declared.feed.Feed.{Feed}
 use Rattle.session_core.specs.declared.bodies.Bodies.{Bodies}
-use Rattle.session_core.specs.declared.bodies.Bodies.TheVariants.{Refused, Skipped, Gathered}
+use Rattle.session_core.specs.declared.bodies.Bodies.TheVariants.{Refused, Skipped, Gathered, Fed}
 
 -- ---- the text of a load
 
@@ -19,32 +23,42 @@ gather (Some text) line = if nat_lt load_limit (length text + length line + 1) t
 
 -- ---- after a line
 
--- what is asked for is a load
-abbrev pub is_load : Asked → Bool
-is_load (asks Load) = true
-is_load (asks other) = false
-is_load unknown = false
-is_load bad = false
+-- after a line of a command that begins no body: body lines are skipped with a load or feed, or refused
+abbrev pub unfed : List ℕ → Bodies
+unfed text = if takes_body text then Skipped else Refused
 
--- after a line of a command: body lines are the text of a load, or skipped with the command that takes them
-abbrev pub after_command : List ℕ → Bodies
-after_command text = if is_load (asked_by text) then Gathered (Some []) else if takes_body text then Skipped else Refused
+-- after a line of a command, in the world that it leaves: body lines are the text of a load, or the records of a feed,
+-- whose server is there
+abbrev pub after_asked : List ℕ → Asked → World → Bodies
+after_asked text (asks commands.Load) w = Gathered (Some [])
+after_asked text (asks (commands.Feed server)) w = option_map_or Fed (begun server w) Skipped
+after_asked text (asks other) w = unfed text
+after_asked text unknown w = unfed text
+after_asked text bad w = unfed text
 
--- after a body line: one more line of a load is gathered
-abbrev pub after_body : Bodies → List ℕ → Bodies
-after_body Refused line = Refused
-after_body Skipped line = Skipped
-after_body (Gathered text) line = Gathered (gather text line)
+-- after a body line with its number, from a world on: one more line of a load is gathered, or one more of a feed taken
+abbrev pub after_body : Bodies → ℕ → List ℕ → World → Bodies
+after_body Refused number line w = Refused
+after_body Skipped number line w = Skipped
+after_body (Gathered text) number line w = Gathered (gather text line)
+after_body (Fed feed) number line w = option_map_or Fed (feed_after feed number line w) Skipped
 
--- after a body line over the limit: the rest of a load is skipped
+-- after a body line over the limit: the rest of a load or of a feed is skipped
 abbrev pub after_long_body : Bodies → Bodies
 after_long_body Refused = Refused
 after_long_body Skipped = Skipped
 after_long_body (Gathered text) = Skipped
+after_long_body (Fed feed) = Skipped
 
--- after any line
-abbrev pub bodies_after : Bodies → ScriptLine → Bodies
-bodies_after bodies (command text) = after_command text
-bodies_after bodies (body text) = after_body bodies text
-bodies_after bodies long_command = Refused
-bodies_after bodies long_body = after_long_body bodies
+-- ---- what the program keeps
+
+-- something holds of the feed, if body lines are the records of one
+abbrev pub IfFeed : Bodies → (Feed → Type 0) → Type 0
+IfFeed Refused P = Unit {0}
+IfFeed Skipped P = Unit {0}
+IfFeed (Gathered text) P = Unit {0}
+IfFeed (Fed feed) P = P feed
+
+-- it has read fewer records than lines were read before the one with this number
+abbrev pub KeepsBodies : ℕ → Bodies → Type 0
+KeepsBodies number bodies = IfFeed bodies (λ feed. IsFeed feed × (feed.fed + length feed.records < number))

@@ -12,6 +12,8 @@ use Rattle.run_core.specs.Runs.{Event}
 use Rattle.script_text.specs.Words.{first_word}
 use Rattle.script_text.specs.Asked.{Asked, asks, unknown, bad, asked_by}
 use Rattle.run_parts.specs.Refusing.{refused}
+use Rattle.feed_command.specs.FeedEvents.{begin_events}
+use Rattle.show_command.specs.ShowEvents.{source_events, log_events}
 use Rattle.status_command.specs.StatusEvents.{status_events}
 
 -- ---- which commands are carried out
@@ -19,7 +21,7 @@ use Rattle.status_command.specs.StatusEvents.{status_events}
 -- what a run does at a command, None if the command isn't carried out yet; the text of a load is loaded at its end
 abbrev pub talk_of : Command → Option (World → List (Event World))
 talk_of Load = Some (λ w. [])
-talk_of (Feed server) = None
+talk_of (Feed server) = Some (begin_events server)
 talk_of (Capture server units every) = None
 talk_of (CaptureCold server) = None
 talk_of (Prune server minutes) = None
@@ -33,17 +35,17 @@ talk_of (Rounds qual) = None
 talk_of (Audit set) = None
 talk_of (StatusServer server) = Some (status_events server)
 talk_of (StatusSet set) = None
-talk_of (ShowSource server table) = None
+talk_of (ShowSource server table) = Some (source_events server table)
 talk_of (ShowCd server table) = None
 talk_of (ShowUow server) = None
-talk_of (ShowLog server) = None
+talk_of (ShowLog server) = Some (log_events server)
 talk_of (ShowTarget server table) = None
 talk_of (ShowTrail server set) = None
 talk_of (ShowRejected server set) = None
 
 -- the first words of these commands, as `first_words_of_commands` shows
 abbrev pub carried_out_verbs : List (List ℕ)
-carried_out_verbs = codes "load" ∷ codes "status" ∷ []
+carried_out_verbs = codes "load" ∷ codes "feed" ∷ codes "show" ∷ codes "status" ∷ []
 
 -- a word is one of them
 abbrev pub is_carried_out_verb : List ℕ → Bool
@@ -52,6 +54,12 @@ is_carried_out_verb word = list_any (bytes_eq word) carried_out_verbs
 -- the first word of a line is one of them
 abbrev pub begins_with_carried_out_verb : List ℕ → Bool
 begins_with_carried_out_verb line = option_map_or is_carried_out_verb (first_word line) false
+
+-- the command takes no body
+abbrev pub takes_no_body : Command → Type 0
+takes_no_body Load = ⊥
+takes_no_body (Feed server) = ⊥
+takes_no_body other = Unit {0}
 
 -- ---- a line
 

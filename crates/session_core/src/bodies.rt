@@ -1,18 +1,15 @@
 //! What a run does with body lines.
 
-ghost use Rattle.std.specs.Prelude.{◌≡◌, ◌∷◌, ◌++◌, [], drop, IfOk};
-ghost use Rattle.script_lines.specs.Script.{line_of};
-ghost use Rattle.script_text.specs.Asked.{asks, asked_by};
-ghost use Rattle.session_core.specs.Bodies.{gather as gather_lem, is_load as is_load_lem};
-ghost use Rattle.session_core.specs.Bodies.{after_command, after_body as after_body_lem};
+ghost use Rattle.std.specs.Prelude.{◌≡◌, drop, IfOk};
+ghost use Rattle.std.specs.Option.{option_map_or};
+ghost use Rattle.session_core.specs.Bodies.{gather as gather_lem, unfed as unfed_lem};
 ghost use Rattle.session_core.specs.Bodies.{after_long_body as after_long_body_lem};
-ghost use Rattle.session_core.specs.Bodies.{bodies_after as bodies_after_lem};
+ghost use Rattle.session_core.specs.declared.bodies.Bodies.TheVariants.{Fed as FedBody, Skipped};
 
-use repl_commands::{Command, LineError};
+use feed_command::Feed;
 use repl_types::List;
-use script_lines::LineKind;
-use script_text::{read_line, takes_body};
-use std::alloc::{AllocError, Global};
+use script_text::takes_body;
+use std::alloc::AllocError;
 
 /// How many bytes the text of a load may have.
 const LOAD_LIMIT: usize = 1_048_576;
@@ -26,11 +23,20 @@ pub enum Bodies {
     Skipped,
     /// They are the text of a load, `None` once it has more bytes than it may have.
     Gathered(Option<List<u8>>),
+    /// They are the records of a feed.
+    Fed(Feed),
+}
+
+/// Whether something was refused at a line, and what a run does with body lines after it.
+#[derive(Debug, Drop)]
+pub struct Answer {
+    pub refused: bool,
+    pub bodies: Bodies,
 }
 
 /// The text of a load with one more line and a line feed, `None` if it has more bytes than it may
 /// have.
-fn gather(text: Option<List<u8>>, line: &[u8]) -> Result<Option<List<u8>>, AllocError>
+pub fn gather(text: Option<List<u8>>, line: &[u8]) -> Result<Option<List<u8>>, AllocError>
     ensures { IfOk result (λ gathered. gathered ≡ gather_lem text line.now) }
 {
     let Some(text) = text else {
@@ -46,7 +52,7 @@ fn gather(text: Option<List<u8>>, line: &[u8]) -> Result<Option<List<u8>>, Alloc
 }
 
 /// A body line without its first byte, the mark.
-fn without_mark(line: &[u8]) -> &[u8]
+pub fn without_mark(line: &[u8]) -> &[u8]
     ensures { result.now ≡ drop 1 line.now }
 {
     match line {
@@ -55,71 +61,33 @@ fn without_mark(line: &[u8]) -> &[u8]
     }
 }
 
-/// Whether a command is a load.
-fn is_load(command: &Command) -> bool
-    ensures { result ≡ is_load_lem (asks command.now) }
+/// What a run does with body lines after a line of a command that begins no body.
+pub fn unfed(line: &[u8]) -> Bodies
+    ensures { result ≡ unfed_lem line.now }
 {
-    matches!(command, Command::Load)
-}
-
-/// Whether a line asks for a load.
-fn asks_for_load(alloc: Global, line: &[u8]) -> Result<bool, AllocError>
-    ensures { IfOk result (λ is. is ≡ is_load_lem (asked_by line.now)) }
-{
-    match read_line(alloc, line) {
-        Ok(command) => Ok(is_load(&command)),
-        Err(LineError::Memory) => Err(AllocError),
-        Err(LineError::UnknownCommand) | Err(LineError::BadLine) => Ok(false),
-    }
-}
-
-/// What a run does with body lines after a line of a command.
-fn bodies_after_command(alloc: Global, line: &[u8]) -> Result<Bodies, AllocError>
-    ensures { IfOk result (λ bodies. bodies ≡ after_command line.now) }
-{
-    if asks_for_load(alloc, line)? {
-        return Ok(Bodies::Gathered(Some(List::new(alloc))));
-    }
     if takes_body(line) {
-        return Ok(Bodies::Skipped);
+        return Bodies::Skipped;
     }
-    Ok(Bodies::Refused)
+    Bodies::Refused
 }
 
-/// What a run does with body lines after one with this text.
-fn bodies_after_body(bodies: Bodies, line: &[u8]) -> Result<Bodies, AllocError>
-    ensures { IfOk result (λ after. after ≡ after_body_lem bodies line.now) }
+/// What a run does with body lines after a feed answered so: the rest is skipped if something was
+/// refused.
+pub fn fed(feed: Option<Feed>) -> Bodies
+    ensures { result ≡ option_map_or FedBody feed Skipped }
 {
-    match bodies {
-        Bodies::Refused => Ok(Bodies::Refused),
-        Bodies::Skipped => Ok(Bodies::Skipped),
-        Bodies::Gathered(text) => Ok(Bodies::Gathered(gather(text, line)?)),
+    match feed {
+        Some(feed) => Bodies::Fed(feed),
+        None => Bodies::Skipped,
     }
 }
 
 /// What a run does with body lines after one over the limit.
-fn bodies_after_long_body(bodies: Bodies) -> Bodies
-    ensures { result ≡ after_long_body_lem bodies }
+pub fn after_long_body(bodies: &Bodies) -> Bodies
+    ensures { result ≡ after_long_body_lem bodies.now }
 {
     match bodies {
         Bodies::Refused => Bodies::Refused,
-        Bodies::Skipped | Bodies::Gathered(_) => Bodies::Skipped,
-    }
-}
-
-/// What a run does with body lines after a line, of which these bytes are kept.
-pub fn bodies_after(
-    alloc: Global,
-    bodies: Bodies,
-    kind: LineKind,
-    text: &[u8],
-) -> Result<Bodies, AllocError>
-    ensures { IfOk result (λ after. after ≡ bodies_after_lem bodies (line_of kind text.now)) }
-{
-    match kind {
-        LineKind::Command => bodies_after_command(alloc, text),
-        LineKind::Body => bodies_after_body(bodies, without_mark(text)),
-        LineKind::LongCommand => Ok(Bodies::Refused),
-        LineKind::LongBody => Ok(bodies_after_long_body(bodies)),
+        Bodies::Skipped | Bodies::Gathered(_) | Bodies::Fed(_) => Bodies::Skipped,
     }
 }

@@ -1,6 +1,8 @@
 //! The lines that ask for commands.
 
-ghost use Rattle.std.specs.Prelude.{◌≡◌, ◌≢◌, ◌≤◌, IfOk, IfErr, OnErr};
+ghost use Rattle.std.specs.Prelude.{◌≡◌, ◌≤◌, IfOk, IfErr, OnErr};
+ghost use Rattle.std.specs.Option.{option_map_or};
+ghost use Rattle.script_text.specs.Asked.{asked_by};
 ghost use Rattle.site_store.specs.Servers.{AllClosed};
 ghost use Rattle.site_store.specs.Views.{work};
 ghost use Rattle.site_store.specs.Calls.{KeepsServers};
@@ -8,13 +10,22 @@ ghost use Rattle.run_parts.specs.Causes.{PartHasCause};
 ghost use Rattle.session_core.specs.Commands.{begins_with_carried_out_verb as begins_with_lem};
 ghost use Rattle.session_core.specs.Commands.{bad_line_refusal as bad_line_refusal_lem};
 ghost use Rattle.session_core.specs.Commands.{command_events, command_line_events};
+ghost use Rattle.session_core.specs.Commands.{takes_no_body};
+ghost use Rattle.session_core.specs.Answers.{Answers};
+ghost use Rattle.session_core.specs.Bodies.{after_asked, unfed as unfed_lem};
+ghost use Rattle.session_core.specs.declared.bodies.Bodies.TheVariants.{Fed as FedBody, Skipped};
 ghost use Rattle.run_parts.specs.Parts.{Happened, StoppedIn};
+ghost use Rattle.run_parts.specs.Refusing.{refused as refused_lem};
+ghost use Rattle.feed_command.specs.FeedEvents.{begin_events, begun};
 
+use crate::bodies::{Answer, Bodies, fed, unfed};
+use feed_command::begin_feed;
 use keep_core::{Keeper, Sink};
 use repl_commands::{Command, LineError};
-use repl_types::Refusal;
+use repl_types::{List, Name, Refusal};
 use run_parts::{RunError, refuse};
 use script_text::{first_word, read_line};
+use show_command::{show_log_records, show_source_rows};
 use site_store::Sites;
 use status_command::show_status;
 use std::alloc::Global;
@@ -25,7 +36,12 @@ fn begins_with_carried_out_verb(line: &[u8]) -> bool
     ensures { result ≡ begins_with_lem line.now }
 {
     match first_word(line) {
-        Some(word) => word == b"load".as_slice() || word == b"status".as_slice(),
+        Some(word) => {
+            word == b"load".as_slice()
+                || word == b"feed".as_slice()
+                || word == b"show".as_slice()
+                || word == b"status".as_slice()
+        }
         None => false,
     }
 }
@@ -43,7 +59,7 @@ fn bad_line_refusal(number: u64, line: &[u8]) -> Refusal
     Refusal::UnknownCommand { line: number }
 }
 
-/// Carries out a command that isn't a load, the one of the line with this number.
+/// Carries out a command that takes no body, the one of the line with this number.
 fn run_command<K: Keeper, O: Sink>(
     alloc: Global,
     sites: &mut Sites<K>,
@@ -52,7 +68,7 @@ fn run_command<K: Keeper, O: Sink>(
     command: Command,
 ) -> Result<bool, RunError>
     requires closed { AllClosed (work K.kept sites.old) }
-    requires other { command ≢ Command.Load }
+    requires bodiless { takes_no_body command }
     ensures ok { IfOk result (Happened K.kept sites.old sites.new (O.taken output.old)
         (O.taken output.new) (command_events number command)) }
     ensures stopped { OnErr result (StoppedIn K.kept sites.old sites.new (O.taken output.old)
@@ -62,24 +78,106 @@ fn run_command<K: Keeper, O: Sink>(
         (O.faults output.new)) }
     ensures counts { O.faults output.old ≤ O.faults output.new }
 {
-    let Command::StatusServer { server } = command else {
-        return refuse(alloc, output, &Refusal::UnknownCommand { line: number });
-    };
-    show_status(alloc, sites, output, server)
+    match command {
+        Command::StatusServer { server } => show_status(alloc, sites, output, server),
+        Command::ShowSource { server, table } => {
+            show_source_rows(alloc, sites, output, server, table)
+        }
+        Command::ShowLog { server } => show_log_records(alloc, sites, output, server),
+        _ => refuse(alloc, output, &Refusal::UnknownCommand { line: number }),
+    }
 }
 
-/// Does what a line asks for that is no body line, and says whether something was refused. The text
-/// of a load is loaded at its end, so nothing is done at its line.
+/// Begins a feed at the server of a name: the body lines after it are its records, or are skipped
+/// if there is no such server.
+fn run_feed<K: Keeper, O: Sink>(
+    alloc: Global,
+    sites: &mut Sites<K>,
+    output: &mut O,
+    server: Name,
+) -> Result<Answer, RunError>
+    requires { AllClosed (work K.kept sites.old) }
+    ensures ok { IfOk result (Answers K.kept sites.old sites.new (O.taken output.old)
+        (O.taken output.new) (begin_events server)
+        (λ w. option_map_or FedBody (begun server w) Skipped) 1) }
+    ensures stopped { OnErr result (StoppedIn K.kept sites.old sites.new (O.taken output.old)
+        (O.taken output.new) (begin_events server)) }
+    ensures servers { KeepsServers K.kept sites.old sites.new }
+    ensures cause { IfErr result (PartHasCause K.kept sites.old sites.new (O.faults output.old)
+        (O.faults output.new)) }
+    ensures counts { O.faults output.old ≤ O.faults output.new }
+{
+    let feed = begin_feed(alloc, sites, output, server)?;
+    Ok(Answer {
+        refused: feed.is_none(),
+        bodies: fed(feed),
+    })
+}
+
+/// Carries out the command of a line that begins no body.
+fn run_unfed<K: Keeper, O: Sink>(
+    alloc: Global,
+    sites: &mut Sites<K>,
+    output: &mut O,
+    number: u64,
+    line: &[u8],
+    command: Command,
+) -> Result<Answer, RunError>
+    requires closed { AllClosed (work K.kept sites.old) }
+    requires bodiless { takes_no_body command }
+    ensures ok { IfOk result (Answers K.kept sites.old sites.new (O.taken output.old)
+        (O.taken output.new) (command_events number command) (λ w. unfed_lem line.now) 1) }
+    ensures stopped { OnErr result (StoppedIn K.kept sites.old sites.new (O.taken output.old)
+        (O.taken output.new) (command_events number command)) }
+    ensures servers { KeepsServers K.kept sites.old sites.new }
+    ensures cause { IfErr result (PartHasCause K.kept sites.old sites.new (O.faults output.old)
+        (O.faults output.new)) }
+    ensures counts { O.faults output.old ≤ O.faults output.new }
+{
+    let refused = run_command(alloc, sites, output, number, command)?;
+    Ok(Answer {
+        refused,
+        bodies: unfed(line),
+    })
+}
+
+/// Refuses a line that asks for no command. Nothing is done at the servers.
+fn refuse_unfed<K: Keeper, O: Sink>(
+    alloc: Global,
+    sites: &Sites<K>,
+    output: &mut O,
+    line: &[u8],
+    refusal: &Refusal,
+) -> Result<Answer, RunError>
+    requires { AllClosed (work K.kept sites.now) }
+    ensures ok { IfOk result (Answers K.kept sites.now sites.now (O.taken output.old)
+        (O.taken output.new) (λ w. refused_lem refusal.now) (λ w. unfed_lem line.now) 1) }
+    ensures stopped { OnErr result (StoppedIn K.kept sites.now sites.now (O.taken output.old)
+        (O.taken output.new) (λ w. refused_lem refusal.now)) }
+    ensures cause { IfErr result (PartHasCause K.kept sites.now sites.now (O.faults output.old)
+        (O.faults output.new)) }
+    ensures counts { O.faults output.old ≤ O.faults output.new }
+{
+    let refused = refuse(alloc, output, refusal)?;
+    Ok(Answer {
+        refused,
+        bodies: unfed(line),
+    })
+}
+
+/// Does what a line asks for that is no body line. The text of a load is loaded at its end, so
+/// nothing is done at its line.
 pub fn run_line<K: Keeper, O: Sink>(
     alloc: Global,
     sites: &mut Sites<K>,
     output: &mut O,
     number: u64,
     line: &[u8],
-) -> Result<bool, RunError>
+) -> Result<Answer, RunError>
     requires { AllClosed (work K.kept sites.old) }
-    ensures ok { IfOk result (Happened K.kept sites.old sites.new (O.taken output.old)
-        (O.taken output.new) (command_line_events number line.now)) }
+    ensures ok { IfOk result (Answers K.kept sites.old sites.new (O.taken output.old)
+        (O.taken output.new) (command_line_events number line.now)
+        (after_asked line.now (asked_by line.now)) 1) }
     ensures stopped { OnErr result (StoppedIn K.kept sites.old sites.new (O.taken output.old)
         (O.taken output.new) (command_line_events number line.now)) }
     ensures servers { KeepsServers K.kept sites.old sites.new }
@@ -88,12 +186,20 @@ pub fn run_line<K: Keeper, O: Sink>(
     ensures counts { O.faults output.old ≤ O.faults output.new }
 {
     match read_line(alloc, line) {
-        Ok(Command::Load) => Ok(false),
-        Ok(command) => run_command(alloc, sites, output, number, command),
+        Ok(Command::Load) => Ok(Answer {
+            refused: false,
+            bodies: Bodies::Gathered(Some(List::new(alloc))),
+        }),
+        Ok(Command::Feed { server }) => run_feed(alloc, sites, output, server),
+        Ok(command) => run_unfed(alloc, sites, output, number, line, command),
         Err(LineError::Memory) => Err(RunError::Memory),
         Err(LineError::UnknownCommand) => {
-            refuse(alloc, output, &Refusal::UnknownCommand { line: number })
+            let refusal = Refusal::UnknownCommand { line: number };
+            refuse_unfed(alloc, sites, output, line, &refusal)
         }
-        Err(LineError::BadLine) => refuse(alloc, output, &bad_line_refusal(number, line)),
+        Err(LineError::BadLine) => {
+            let refusal = bad_line_refusal(number, line);
+            refuse_unfed(alloc, sites, output, line, &refusal)
+        }
     }
 }

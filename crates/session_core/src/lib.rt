@@ -1,13 +1,12 @@
 //! The run of the program: it takes the words of the command line, the servers, the input and the
 //! output, and answers the status of the run.
 //!
-//! Below it are `run_words`, which reads the words, `script_lines`, `script_text` and `reply_text`,
-//! which read the lines of a script and write its replies, `site_store`, which has the servers,
-//! `world_store` and `run_core`, whose definitions say what a run does to them, `raw_defs` and
-//! `load_defs`, which read the text of a load and load its definitions, `show_rows`, which writes
-//! the lines of `status`, and `copy_lists`, which carries out `copy`. Above it, `sqlrep` calls
-//! `session` with the standard streams. The contract of `session` is what the program promises;
-//! `docs/MODEL.md` says its definitions in words.
+//! Below it are `run_words`, which reads the words, `script_lines` and `script_text`, which read the
+//! lines of a script, the commands, each in a crate of its own (`load_command`, `feed_command`,
+//! `show_command`, `status_command`), `run_parts`, which has the contract that they share, and
+//! `copy_lists`, which carries out `copy`. `world_store` and `run_core` have the definitions that say
+//! what a run does to the servers. Above it, `sqlrep` calls `session` with the standard streams. The
+//! contract of `session` is what the program promises; `docs/MODEL.md` says its definitions in words.
 //!
 //! For example, at the word `copy` the input lines `insert 1 items 7 'pen'` and `commit 1 ann 100`
 //! give the output lines `row 7 'pen'` and `ok rows 1`, and the status `Ok`. At the word `hq=:map:`
@@ -27,6 +26,7 @@ ghost use Rattle.run_parts.specs.Causes.{HasCause};
 ghost use Rattle.session_core.specs.Session.{Asks, run_events, StandsFor, is_done, Ran};
 
 mod bodies;
+mod body_lines;
 mod commands;
 mod copying;
 mod laws;

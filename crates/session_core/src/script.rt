@@ -1,93 +1,31 @@
 //! The run of a script, line by line.
 
-ghost use Rattle.std.specs.Prelude.{◌≡◌, ◌≤◌, [], IfOk, IfErr, IfSome, OnErr};
-ghost use Rattle.std.specs.Prelude.{if◌then◌else◌};
-ghost use Rattle.keep_core.specs.Revealed.{Takes, TakesPrefix};
+ghost use Rattle.std.specs.Prelude.{◌≡◌, ◌≤◌, ◌+◌, IfOk, IfErr, IfSome, OnErr};
+ghost use Rattle.line_input.specs.Limits.{input_limit};
 ghost use Rattle.repl_model.specs.World.{World};
-ghost use Rattle.run_core.specs.Runs.{Went, Stopped, lines_of, is_refused};
+ghost use Rattle.run_core.specs.Runs.{Went, Stopped, is_refused};
+ghost use Rattle.script_lines.specs.Lines.{command, long_command};
 ghost use Rattle.script_lines.specs.Script.{line_of};
 ghost use Rattle.site_store.specs.Servers.{AllClosed};
 ghost use Rattle.site_store.specs.Views.{names, held, work};
 ghost use Rattle.site_store.specs.Calls.{KeepsServers};
 ghost use Rattle.world_store.specs.Stands.{Stands};
-ghost use Rattle.run_parts.specs.Causes.{BlamesServers, HasEnded, IsOfOutput, PartHasCause};
+ghost use Rattle.run_parts.specs.Causes.{BlamesServers, HasEnded, PartHasCause};
 ghost use Rattle.run_parts.specs.ExitStatus.{status_of_error};
-ghost use Rattle.run_parts.specs.Parts.{Happened, StoppedIn};
-ghost use Rattle.run_parts.specs.Refusing.{refused as refused_lem};
-ghost use Rattle.session_core.specs.Commands.{command_line_events};
-ghost use Rattle.run_parts.specs.Parts.{then_events};
-ghost use Rattle.session_core.specs.Talk.{end_events, line_events, script_events};
-ghost use Rattle.session_core.specs.Talk.{refuses_body as refuses_body_lem};
-ghost use Rattle.session_core.specs.Talk.{refuses_long_body as refuses_long_body_lem};
+ghost use Rattle.run_parts.specs.Parts.{StoppedIn};
+ghost use Rattle.session_core.specs.Answers.{Answers};
+ghost use Rattle.session_core.specs.Bodies.{KeepsBodies};
+ghost use Rattle.session_core.specs.Talk.{line_events, bodies_after, script_events};
 
-use crate::bodies::{Bodies, bodies_after};
+use crate::bodies::{Answer, Bodies};
+use crate::body_lines::{answer_body, answer_long_body, end_bodies};
 use crate::commands::run_line;
 use keep_core::{Keeper, Sink, Source};
-use load_command::load_text;
 use repl_types::Refusal;
 use run_parts::{RunError, refuse};
 use script_lines::{LineKind, Script};
 use site_store::Sites;
 use std::alloc::Global;
-
-/// Ends a body: loads the text of a load, and says whether something was refused.
-fn end_bodies<K: Keeper, O: Sink>(
-    alloc: Global,
-    sites: &mut Sites<K>,
-    output: &mut O,
-    bodies: &Bodies,
-) -> Result<bool, RunError>
-    requires { AllClosed (work K.kept sites.old) }
-    ensures ok { IfOk result (Happened K.kept sites.old sites.new (O.taken output.old)
-        (O.taken output.new) (end_events bodies.now)) }
-    ensures stopped { OnErr result (StoppedIn K.kept sites.old sites.new (O.taken output.old)
-        (O.taken output.new) (end_events bodies.now)) }
-    ensures servers { KeepsServers K.kept sites.old sites.new }
-    ensures cause { IfErr result (PartHasCause K.kept sites.old sites.new (O.faults output.old)
-        (O.faults output.new)) }
-    ensures counts { O.faults output.old ≤ O.faults output.new }
-{
-    match bodies {
-        Bodies::Refused | Bodies::Skipped => Ok(false),
-        Bodies::Gathered(text) => load_text(alloc, sites, output, text),
-    }
-}
-
-/// Whether body lines are refused.
-fn refuses_body(bodies: &Bodies) -> bool
-    ensures { result ≡ refuses_body_lem bodies.now }
-{
-    matches!(bodies, Bodies::Refused)
-}
-
-/// Whether body lines over the limit are refused.
-fn refuses_long_body(bodies: &Bodies) -> bool
-    ensures { result ≡ refuses_long_body_lem bodies.now }
-{
-    !matches!(bodies, Bodies::Skipped)
-}
-
-/// Refuses a body line if it is to be refused, and says whether it was. After an error a prefix of
-/// the line that refuses it was taken.
-fn answer_body<O: Sink>(
-    alloc: Global,
-    output: &mut O,
-    refuses: bool,
-    refusal: &Refusal,
-) -> Result<bool, RunError>
-    ensures ok { IfOk result (λ was_refused. (was_refused ≡ refuses)
-        × Takes (O.taken output.old) (O.taken output.new)
-        (if refuses then lines_of (refused_lem refusal.now) else [])) }
-    ensures stopped { OnErr result (TakesPrefix (O.taken output.old) (O.taken output.new)
-        (if refuses then lines_of (refused_lem refusal.now) else [])) }
-    ensures cause { IfErr result (IsOfOutput (O.faults output.old) (O.faults output.new)) }
-    ensures counts { O.faults output.old ≤ O.faults output.new }
-{
-    if !refuses {
-        return Ok(false);
-    }
-    refuse(alloc, output, refusal)
-}
 
 /// Answers a line of a command: ends the body before it, and then does what it asks for.
 fn answer_command<K: Keeper, O: Sink>(
@@ -97,22 +35,26 @@ fn answer_command<K: Keeper, O: Sink>(
     bodies: &Bodies,
     number: u64,
     line: &[u8],
-) -> Result<bool, RunError>
-    requires { AllClosed (work K.kept sites.old) }
-    ensures ok { IfOk result (Happened K.kept sites.old sites.new (O.taken output.old)
-        (O.taken output.new)
-        (then_events (end_events bodies.now) (command_line_events number line.now))) }
+) -> Result<Answer, RunError>
+    requires closed { AllClosed (work K.kept sites.old) }
+    requires bodies { KeepsBodies number bodies.now }
+    ensures ok { IfOk result (Answers K.kept sites.old sites.new (O.taken output.old)
+        (O.taken output.new) (line_events bodies.now number (command line.now))
+        (bodies_after bodies.now number (command line.now)) (number + 1)) }
     ensures stopped { OnErr result (StoppedIn K.kept sites.old sites.new (O.taken output.old)
-        (O.taken output.new)
-        (then_events (end_events bodies.now) (command_line_events number line.now))) }
+        (O.taken output.new) (line_events bodies.now number (command line.now))) }
     ensures servers { KeepsServers K.kept sites.old sites.new }
     ensures cause { IfErr result (PartHasCause K.kept sites.old sites.new (O.faults output.old)
         (O.faults output.new)) }
     ensures counts { O.faults output.old ≤ O.faults output.new }
 {
     let ended = end_bodies(alloc, sites, output, bodies)?;
-    let asked = run_line(alloc, sites, output, number, line)?;
-    Ok(ended | asked)
+    let answer = run_line(alloc, sites, output, number, line)?;
+    let Answer { refused, bodies } = answer;
+    Ok(Answer {
+        refused: ended | refused,
+        bodies,
+    })
 }
 
 /// Answers a line of a command over the limit: ends the body before it, and then refuses the line.
@@ -122,14 +64,14 @@ fn answer_long_command<K: Keeper, O: Sink>(
     output: &mut O,
     bodies: &Bodies,
     number: u64,
-) -> Result<bool, RunError>
-    requires { AllClosed (work K.kept sites.old) }
-    ensures ok { IfOk result (Happened K.kept sites.old sites.new (O.taken output.old)
-        (O.taken output.new)
-        (then_events (end_events bodies.now) (λ w. refused_lem (Refusal.LineTooLong number)))) }
+) -> Result<Answer, RunError>
+    requires closed { AllClosed (work K.kept sites.old) }
+    requires bodies { KeepsBodies number bodies.now }
+    ensures ok { IfOk result (Answers K.kept sites.old sites.new (O.taken output.old)
+        (O.taken output.new) (line_events bodies.now number long_command)
+        (bodies_after bodies.now number long_command) (number + 1)) }
     ensures stopped { OnErr result (StoppedIn K.kept sites.old sites.new (O.taken output.old)
-        (O.taken output.new)
-        (then_events (end_events bodies.now) (λ w. refused_lem (Refusal.LineTooLong number)))) }
+        (O.taken output.new) (line_events bodies.now number long_command)) }
     ensures servers { KeepsServers K.kept sites.old sites.new }
     ensures cause { IfErr result (PartHasCause K.kept sites.old sites.new (O.faults output.old)
         (O.faults output.new)) }
@@ -137,40 +79,40 @@ fn answer_long_command<K: Keeper, O: Sink>(
 {
     let ended = end_bodies(alloc, sites, output, bodies)?;
     let refused = refuse(alloc, output, &Refusal::LineTooLong { line: number })?;
-    Ok(ended | refused)
+    Ok(Answer {
+        refused: ended | refused,
+        bodies: Bodies::Refused,
+    })
 }
 
-/// Answers a line, of whose text these bytes are kept, and says whether something was refused.
+/// Answers a line, of whose text these bytes are kept.
 fn answer_line<K: Keeper, O: Sink>(
     alloc: Global,
     sites: &mut Sites<K>,
     output: &mut O,
-    bodies: &Bodies,
+    bodies: Bodies,
     number: u64,
     kind: LineKind,
     text: &[u8],
-) -> Result<bool, RunError>
-    requires { AllClosed (work K.kept sites.old) }
-    ensures ok { IfOk result (Happened K.kept sites.old sites.new (O.taken output.old)
-        (O.taken output.new) (line_events bodies.now number (line_of kind text.now))) }
+) -> Result<Answer, RunError>
+    requires closed { AllClosed (work K.kept sites.old) }
+    requires bodies { KeepsBodies number bodies }
+    requires few { number ≤ input_limit }
+    ensures ok { IfOk result (Answers K.kept sites.old sites.new (O.taken output.old)
+        (O.taken output.new) (line_events bodies number (line_of kind text.now))
+        (bodies_after bodies number (line_of kind text.now)) (number + 1)) }
     ensures stopped { OnErr result (StoppedIn K.kept sites.old sites.new (O.taken output.old)
-        (O.taken output.new) (line_events bodies.now number (line_of kind text.now))) }
+        (O.taken output.new) (line_events bodies number (line_of kind text.now))) }
     ensures servers { KeepsServers K.kept sites.old sites.new }
     ensures cause { IfErr result (PartHasCause K.kept sites.old sites.new (O.faults output.old)
         (O.faults output.new)) }
     ensures counts { O.faults output.old ≤ O.faults output.new }
 {
     match kind {
-        LineKind::Command => answer_command(alloc, sites, output, bodies, number, text),
-        LineKind::Body => {
-            let refusal = Refusal::BadLine { line: number };
-            answer_body(alloc, output, refuses_body(bodies), &refusal)
-        }
-        LineKind::LongCommand => answer_long_command(alloc, sites, output, bodies, number),
-        LineKind::LongBody => {
-            let refusal = Refusal::LineTooLong { line: number };
-            answer_body(alloc, output, refuses_long_body(bodies), &refusal)
-        }
+        LineKind::Command => answer_command(alloc, sites, output, &bodies, number, text),
+        LineKind::Body => answer_body(alloc, sites, output, bodies, number, text),
+        LineKind::LongCommand => answer_long_command(alloc, sites, output, &bodies, number),
+        LineKind::LongBody => answer_long_body(alloc, sites, output, &bodies, number),
     }
 }
 
@@ -202,16 +144,14 @@ pub fn run_script<K: Keeper, I: Source, O: Sink>(
     let mut refused = false;
     while let Some(kind) = script.peek(input)? {
         script.take();
-        refused |= answer_line(
-            alloc,
-            sites,
-            output,
-            &bodies,
-            script.number(),
-            kind,
-            script.text(),
-        )?;
-        bodies = bodies_after(alloc, bodies, kind, script.text())?;
+        let number = script.number();
+        let answer = answer_line(alloc, sites, output, bodies, number, kind, script.text())?;
+        let Answer {
+            refused: was_refused,
+            bodies: next,
+        } = answer;
+        refused |= was_refused;
+        bodies = next;
     }
     let ended = end_bodies(alloc, sites, output, &bodies)?;
     Ok(refused | ended)

@@ -1,11 +1,15 @@
-use Rattle.std.proofs.Common.{arith}
+use Rattle.std.proofs.Common.{refl, arith}
 use Rattle.std.proofs.lemmas.Result.{err_from_is_err_and}
 use Rattle.repl_types.specs.declared.refusal.Refusal.TheVariants as refusals
 use Rattle.run_parts.specs.Refusing.{refused}
 use Rattle.run_parts.specs.laws.Exits.{on_err}
 use Rattle.run_parts.specs.laws.Parts.{later_cause, happened_both, stopped_first, stopped_second, stands_after, refusal_written, refusal_begun, output_cause}
 use Rattle.session_core.specs.Talk.{end_events}
+use Rattle.session_core.proofs.Feeding.{is_feed}
 use Rattle.session_core.proofs.script.answer_long_command.Goals as goal
+
+pub end_bodies-requires : goal.end_bodies-requires
+end_bodies-requires g c = record { closed = c.requires.closed; bodies = is_feed c.args.number c.args.bodies.now c.requires.bodies }
 
 pub returns-in_err-ended : goal.returns-in_err-ended
 returns-in_err-ended g c =
@@ -57,7 +61,11 @@ returns g c =
     let refusal = refusals.LineTooLong c.args.number in
     let keeps = c.end_bodies.ensures.servers in
     record {
-      ok = happened_both kept s0 s1 s1 keeps.names t u v first (λ w. refused refusal) c.in_ok-ended.ended c.in_ok-refused.refused c.in_ok-ended.ensures.ok (refusal_written kept s1 u v refusal c.in_ok-refused.refused c.in_ok-refused.ensures.ok);
+      ok = record {
+        happened = happened_both kept s0 s1 s1 keeps.names t u v first (λ w. refused refusal) c.in_ok-ended.ended c.in_ok-refused.refused c.in_ok-ended.ensures.ok (refusal_written kept s1 u v refusal c.in_ok-refused.refused c.in_ok-refused.ensures.ok);
+        bodies = λ w at. refl;
+        keeps = tt;
+      };
       stopped = tt;
       servers = keeps;
       cause = tt;

@@ -1,10 +1,12 @@
-use Rattle.std.proofs.Common.{◌≡◌, ◌≤◌, length}
+use Rattle.std.proofs.Common.{◌≡◌, ◌≤◌, ◌+◌, length}
+use Rattle.std.specs.Prelude.{None}
 use Rattle.std.specs.Option.{option_map}
 use Rattle.repl_model.specs.World.{World}
-use Rattle.script_lines.specs.Script.{lines_left, total_left, pending, HasOneSource}
+use Rattle.script_lines.specs.Script.{lines_left, total_left, pending, next_kind, line_number, HasOneSource}
 use Rattle.site_store.specs.Calls.{KeepsServers}
 use Rattle.site_store.specs.Views.{names, held}
 use Rattle.world_store.specs.Stands.{Stands}
+use Rattle.session_core.specs.Bodies.{KeepsBodies}
 use Rattle.session_core.specs.Lines.{GoesOn}
 use Rattle.session_core.proofs.script.run_script.Given as goal
 
@@ -12,6 +14,8 @@ abbrev pub invariant-loop-bodies : goal.invariant-loop-bodies
 invariant-loop-bodies g l = record {
   going : (w : World) → Stands (names l.fn.sites) (held g.K.Keeper.kept l.fn.sites) w → GoesOn (Stands (names l.fn.sites)) (g.I.Source.left l.fn.input) w l.bodies (lines_left l.script (g.I.Source.left l.input)) (held g.K.Keeper.kept l.sites) (g.O.Sink.taken l.fn.output) (g.O.Sink.taken l.output) l.refused;
   servers : KeepsServers g.K.Keeper.kept l.fn.sites l.sites;
+  none : next_kind l.script ≡ None;
+  keeps : KeepsBodies (line_number l.script + 1) l.bodies;
   total : total_left l.script (g.I.Source.left l.input) ≡ option_map (λ bytes. length bytes) (g.I.Source.left l.fn.input);
   one_source : HasOneSource l.script (g.I.Source.left l.input);
   input_counts : g.I.Source.faults l.fn.input ≤ g.I.Source.faults l.input;

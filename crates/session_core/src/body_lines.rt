@@ -1,0 +1,154 @@
+//! The body lines of a script, and the end of a body.
+
+ghost use Rattle.std.specs.Prelude.{◌≡◌, ◌≤◌, ◌+◌, drop, IfOk, IfErr, OnErr};
+ghost use Rattle.line_input.specs.Limits.{input_limit};
+ghost use Rattle.site_store.specs.Servers.{AllClosed};
+ghost use Rattle.site_store.specs.Views.{work};
+ghost use Rattle.site_store.specs.Calls.{KeepsServers};
+ghost use Rattle.run_parts.specs.Causes.{PartHasCause};
+ghost use Rattle.run_parts.specs.Parts.{Happened, StoppedIn};
+ghost use Rattle.session_core.specs.Answers.{Answers};
+ghost use Rattle.feed_command.specs.Feeds.{IsFeed};
+ghost use Rattle.session_core.specs.Bodies.{IfFeed, KeepsBodies, after_body};
+ghost use Rattle.session_core.specs.Bodies.{after_long_body as after_long_body_lem};
+ghost use Rattle.session_core.specs.Talk.{end_events, body_events, long_body_events};
+
+use crate::bodies::{Answer, Bodies, after_long_body, fed, gather, without_mark};
+use feed_command::{end_feed, feed_line, refuse_line};
+use keep_core::{Keeper, Sink};
+use load_command::load_text;
+use repl_types::Refusal;
+use run_parts::{RunError, refuse};
+use site_store::Sites;
+use std::alloc::Global;
+
+/// Ends a body: loads the text of a load, or commits what is left of a feed, and says whether
+/// something was refused.
+pub fn end_bodies<K: Keeper, O: Sink>(
+    alloc: Global,
+    sites: &mut Sites<K>,
+    output: &mut O,
+    bodies: &Bodies,
+) -> Result<bool, RunError>
+    requires closed { AllClosed (work K.kept sites.old) }
+    requires bodies { IfFeed bodies.now IsFeed }
+    ensures ok { IfOk result (Happened K.kept sites.old sites.new (O.taken output.old)
+        (O.taken output.new) (end_events bodies.now)) }
+    ensures stopped { OnErr result (StoppedIn K.kept sites.old sites.new (O.taken output.old)
+        (O.taken output.new) (end_events bodies.now)) }
+    ensures servers { KeepsServers K.kept sites.old sites.new }
+    ensures cause { IfErr result (PartHasCause K.kept sites.old sites.new (O.faults output.old)
+        (O.faults output.new)) }
+    ensures counts { O.faults output.old ≤ O.faults output.new }
+{
+    match bodies {
+        Bodies::Refused | Bodies::Skipped => Ok(false),
+        Bodies::Gathered(text) => load_text(alloc, sites, output, text),
+        Bodies::Fed(feed) => end_feed(alloc, sites, output, feed),
+    }
+}
+
+/// Answers a body line: refuses it, or takes it for the load or the feed that it belongs to.
+pub fn answer_body<K: Keeper, O: Sink>(
+    alloc: Global,
+    sites: &mut Sites<K>,
+    output: &mut O,
+    bodies: Bodies,
+    number: u64,
+    text: &[u8],
+) -> Result<Answer, RunError>
+    requires closed { AllClosed (work K.kept sites.old) }
+    requires bodies { KeepsBodies number bodies }
+    requires few { number ≤ input_limit }
+    ensures ok { IfOk result (Answers K.kept sites.old sites.new (O.taken output.old)
+        (O.taken output.new) (body_events bodies number (drop 1 text.now))
+        (after_body bodies number (drop 1 text.now)) (number + 1)) }
+    ensures stopped { OnErr result (StoppedIn K.kept sites.old sites.new (O.taken output.old)
+        (O.taken output.new) (body_events bodies number (drop 1 text.now))) }
+    ensures servers { KeepsServers K.kept sites.old sites.new }
+    ensures cause { IfErr result (PartHasCause K.kept sites.old sites.new (O.faults output.old)
+        (O.faults output.new)) }
+    ensures counts { O.faults output.old ≤ O.faults output.new }
+{
+    let line = without_mark(text);
+    match bodies {
+        Bodies::Refused => Ok(Answer {
+            refused: refuse(alloc, output, &Refusal::BadLine { line: number })?,
+            bodies: Bodies::Refused,
+        }),
+        Bodies::Skipped => Ok(Answer {
+            refused: false,
+            bodies: Bodies::Skipped,
+        }),
+        Bodies::Gathered(text) => Ok(Answer {
+            refused: false,
+            bodies: Bodies::Gathered(gather(text, line)?),
+        }),
+        Bodies::Fed(feed) => {
+            let after = feed_line(alloc, sites, output, feed, number, line)?;
+            Ok(Answer {
+                refused: after.is_none(),
+                bodies: fed(after),
+            })
+        }
+    }
+}
+
+/// Refuses a body line over the limit, unless it is skipped, and says whether something was refused.
+fn refuse_long_body<K: Keeper, O: Sink>(
+    alloc: Global,
+    sites: &mut Sites<K>,
+    output: &mut O,
+    bodies: &Bodies,
+    number: u64,
+) -> Result<bool, RunError>
+    requires closed { AllClosed (work K.kept sites.old) }
+    requires bodies { IfFeed bodies.now IsFeed }
+    ensures ok { IfOk result (Happened K.kept sites.old sites.new (O.taken output.old)
+        (O.taken output.new) (long_body_events bodies.now number)) }
+    ensures stopped { OnErr result (StoppedIn K.kept sites.old sites.new (O.taken output.old)
+        (O.taken output.new) (long_body_events bodies.now number)) }
+    ensures servers { KeepsServers K.kept sites.old sites.new }
+    ensures cause { IfErr result (PartHasCause K.kept sites.old sites.new (O.faults output.old)
+        (O.faults output.new)) }
+    ensures counts { O.faults output.old ≤ O.faults output.new }
+{
+    match bodies {
+        Bodies::Skipped => Ok(false),
+        Bodies::Refused | Bodies::Gathered(_) => {
+            refuse(alloc, output, &Refusal::LineTooLong { line: number })
+        }
+        Bodies::Fed(feed) => {
+            let refusal = Refusal::LineTooLong { line: number };
+            refuse_line(alloc, sites, output, feed, &refusal)?;
+            Ok(true)
+        }
+    }
+}
+
+/// Answers a body line over the limit: the rest of a load or of a feed is skipped.
+pub fn answer_long_body<K: Keeper, O: Sink>(
+    alloc: Global,
+    sites: &mut Sites<K>,
+    output: &mut O,
+    bodies: &Bodies,
+    number: u64,
+) -> Result<Answer, RunError>
+    requires closed { AllClosed (work K.kept sites.old) }
+    requires bodies { KeepsBodies number bodies.now }
+    ensures ok { IfOk result (Answers K.kept sites.old sites.new (O.taken output.old)
+        (O.taken output.new) (long_body_events bodies.now number)
+        (λ w. after_long_body_lem bodies.now) (number + 1)) }
+    ensures stopped { OnErr result (StoppedIn K.kept sites.old sites.new (O.taken output.old)
+        (O.taken output.new) (long_body_events bodies.now number)) }
+    ensures servers { KeepsServers K.kept sites.old sites.new }
+    ensures cause { IfErr result (PartHasCause K.kept sites.old sites.new (O.faults output.old)
+        (O.faults output.new)) }
+    ensures counts { O.faults output.old ≤ O.faults output.new }
+{
+    let refused = refuse_long_body(alloc, sites, output, bodies, number)?;
+    Ok(Answer {
+        refused,
+        bodies: after_long_body(bodies),
+    })
+}
