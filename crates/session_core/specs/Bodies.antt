@@ -59,6 +59,6 @@ IfFeed Skipped P = Unit {0}
 IfFeed (Gathered text) P = Unit {0}
 IfFeed (Fed feed) P = P feed
 
--- it has read fewer records than lines were read before the one with this number
+-- the next line has this number at least, and a feed has fewer records than that, committed and waiting
 abbrev pub KeepsBodies : ℕ → Bodies → Type 0
 KeepsBodies number bodies = IfFeed bodies (λ feed. IsFeed feed × (feed.fed + length feed.records < number))

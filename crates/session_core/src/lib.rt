@@ -56,9 +56,14 @@ use std::alloc::Global;
 /// A script is read to its end, line by line. At `load` the definitions of its body are loaded when
 /// the body ends, at the next line of a command or at the end of the input, and a line says how
 /// many were new; sets of other targets than user copies, or with limits of their steps, aren't
-/// taken yet. At `status` of a server its lines are written, how far it is and its registrations
-/// and sets among them. For each line and each load that is refused a line with the cause is
-/// written. No other command is carried out yet, so each is refused as unknown.
+/// taken yet. At `feed` of a server each body line is a record for the server's log. Records are
+/// appended together at the end of a transaction, once 1,000 wait, before a line is refused, and
+/// when the body ends, and then a line says how many there were. Once something is refused, the
+/// rest of the body is skipped. At `show` of a source table its committed rows are written, and at
+/// `show` of a log its records. At `status` of a server its lines are written, how far it is and its
+/// registrations and sets among them. For each line, each record and each load that is refused a
+/// line with the cause is written. No other command is carried out yet, so each is refused as
+/// unknown.
 ///
 /// At `Ok` and `Refused` the whole input was read, and all that the run does happened. At `Usage`
 /// nothing was read or written. At any other status some of it happened, from its beginning on, and

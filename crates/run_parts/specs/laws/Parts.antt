@@ -1,6 +1,6 @@
 -- Parts of a run: what is said of them at the names that the servers had at the beginning, and parts that only write.
 use Rattle.std.proofs.Common.{◌≡◌, ◌≤◌, ◌∙◌, ◌||◌, ℕ, List, [], Bool, true, false, refl, sym, ap₂, subst, arith}
-use Rattle.std.specs.Prelude.{Option, if◌then◌else◌}
+use Rattle.std.specs.Prelude.{Option}
 use Rattle.repl_types.specs.declared.refusal.Refusal.{Refusal}
 use Rattle.keep_core.specs.Contents.{Contents}
 use Rattle.keep_core.specs.Kept.{Kept}
@@ -68,16 +68,6 @@ module _ {K : Type 0} (kept : K → Kept) (s : Sites K) where
   -- a prefix of it was
   pub refusal_begun : (t u : Option (List ℕ)) (refusal : Refusal) → TakesPrefix t u (lines_of (refused refusal)) → StoppedIn kept s s t u (λ w. refused refusal)
   refusal_begun t u refusal wrote = stopped_quietly kept s s refl t u (λ w. refused refusal) (λ w stands. (tt, wrote))
-
-  -- the same of a body line, which may be refused
-  pub body_answered : (t u : Option (List ℕ)) (refuses : Bool) (refusal : Refusal) (answer : Bool) → (answer ≡ refuses) × Takes t u (if refuses then lines_of (refused refusal) else []) → Happened kept s s t u (λ w. if refuses then refused refusal else []) answer
-  body_answered t u true refusal answer wrote = refusal_written t u refusal answer wrote
-  body_answered t u false refusal answer wrote = happened_quiet kept s s refl t u (λ w. []) answer (λ w stands. (tt, wrote.1, wrote.0))
-
-  -- a prefix of the line that refuses it was written, if any
-  pub body_begun : (t u : Option (List ℕ)) (refuses : Bool) (refusal : Refusal) → TakesPrefix t u (if refuses then lines_of (refused refusal) else []) → StoppedIn kept s s t u (λ w. if refuses then refused refusal else [])
-  body_begun t u true refusal wrote = refusal_begun t u refusal wrote
-  body_begun t u false refusal wrote = stopped_quietly kept s s refl t u (λ w. []) (λ w stands. (tt, wrote))
 
   -- nothing was to be done
   pub all_done : (t : Option (List ℕ)) → Happened kept s s t t (λ w. []) false
