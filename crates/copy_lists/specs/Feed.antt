@@ -1,10 +1,9 @@
 -- The log that the lines of an input make, and the first line that is refused.
-use Rattle.std.specs.Prelude.{ℕ, ◌+◌, Bool, true, false, not, ◌==◌, nat_lt, if◌then◌else◌, List, [], ◌∷◌, ◌++◌, length, fold, Option, Some, None}
+use Rattle.std.specs.Prelude.{ℕ, ◌+◌, Bool, ◌==◌, nat_lt, if◌then◌else◌, List, [], ◌∷◌, ◌++◌, length, Option, Some, None}
 use Rattle.std.specs.List.{list_all}
 use Rattle.std.specs.Str.Lines.{lines}
 use Rattle.log_text.specs.Words.{blank}
 use Rattle.repl_types.specs.declared.record.LogRecord.{LogRecord}
-use Rattle.repl_types.specs.declared.record.LogRecord.TheVariants as records
 use Rattle.log_text.specs.Records.{record_of}
 use Rattle.repl_model.specs.Applicable.{is_applicable}
 use Rattle.copy_lists.specs.declared.refused.Cause.{Cause}
@@ -17,32 +16,9 @@ use Rattle.copy_lists.specs.Items.{source_tables}
 abbrev pub is_blank : List ℕ → Bool
 is_blank line = list_all (λ b. b == blank) line
 
--- the transaction that a log leaves open whose last record is this
-abbrev pub left_open : LogRecord → Option ℕ
-left_open (records.Change tx change) = Some tx
-left_open (records.Commit tx time authid origin) = None
-left_open (records.Abort tx) = None
-
--- the transaction that a log leaves open
-abbrev pub open_tx : List LogRecord → Option ℕ
-open_tx log = fold (λ before r. left_open r) None log
-
--- no transaction is open, or this one is
-abbrev pub may_go_on : Option ℕ → ℕ → Bool
-may_go_on None tx = true
-may_go_on (Some open_one) tx = open_one == tx
-
--- the log may take such a record: only one transaction is open at a time, and none is aborted
-abbrev pub is_taken_form : List LogRecord → LogRecord → Bool
-is_taken_form log (records.Change tx change) = may_go_on (open_tx log) tx
-is_taken_form log (records.Commit tx time authid origin) = may_go_on (open_tx log) tx
-is_taken_form log (records.Abort tx) = false
-
--- why the log refuses a record, if it does
+-- why the log refuses a record, if it does: a record is refused only if it isn't applicable
 abbrev pub record_cause : List LogRecord → LogRecord → Option Cause
-record_cause log r =
-    if not (is_taken_form log r) then Some BadLog
-    else (if is_applicable source_tables log r then None else Some NotApplicable)
+record_cause log r = if is_applicable source_tables log r then None else Some NotApplicable
 
 -- the outcome of a line
 pub data Outcome : Type 0 where

@@ -5,7 +5,7 @@
 pub enum Cause {
     /// The line has over 1,048,576 bytes.
     LineTooLong,
-    /// The line is the text of no record, or of a record that the log doesn't take here.
+    /// The line is the text of no record.
     BadLog,
     /// The record doesn't fit the table, or the rows or the time of the last commit.
     NotApplicable,

@@ -2,7 +2,6 @@
 
 ghost use Rattle.std.specs.Prelude.{◌≡◌, IfOk};
 ghost use Rattle.repl_model.specs.Units.{unit_of};
-ghost use Rattle.copy_lists.specs.Feed.{may_go_on as may_go_on_lem};
 ghost use Rattle.copy_lists.specs.SourceLog.{Grows};
 
 use crate::refused::Cause;
@@ -10,29 +9,18 @@ use repl_model::{copy_by_change_rows, empty_log, in_flight_grows, log_grows, sou
 use repl_types::{Change, List, LogRecord, Name, Placed, SetId, TableDef, Unit, UnitHead};
 use row_changes::{Rows, apply_changes, is_change_applicable};
 use std::alloc::{AllocError, Global};
-use std::mem;
+use txn_buffer::Buffer;
 
-/// The log of a source with one table, and beside it what follows from the log: the transaction in
-/// flight with its changes, the units, and the committed rows with the time of the last commit.
+/// The log of a source with one table, and beside it what follows from the log: the changes of the
+/// transactions in flight, the units, and the committed rows with the time of the last commit.
 #[derive(Debug, Drop)]
 pub struct SourceLog {
     pub table: TableDef,
     pub records: List<LogRecord>,
-    pub in_flight: Option<u32>,
-    pub changes: List<Placed>,
+    pub in_flight: Buffer,
     pub units: List<Unit>,
     pub rows: Rows,
     pub time: u64,
-}
-
-/// Whether a record of this transaction may be taken: no transaction is in flight, or this one is.
-fn may_go_on(in_flight: Option<u32>, tx: u32) -> bool
-    ensures { result ≡ may_go_on_lem in_flight tx }
-{
-    match in_flight {
-        Some(open) => open == tx,
-        None => true,
-    }
 }
 
 /// A change with its position.
@@ -78,7 +66,7 @@ fn one_more_record()
 }
 
 impl SourceLog {
-    ghost use Rattle.std.specs.Prelude.{◌≡◌, ◌++◌, ◌∷◌, [], IfOk, IfSome, Ok, Some, None};
+    ghost use Rattle.std.specs.Prelude.{◌≡◌, ◌++◌, ◌∷◌, [], IfOk, OnOk, IfSome, Ok, Some, None};
     ghost use Rattle.repl_types.specs.declared.record.LogRecord.TheVariants as records;
     ghost use Rattle.copy_lists.specs.Items.{items_def};
     ghost use Rattle.copy_lists.specs.Feed.{record_cause};
@@ -94,8 +82,7 @@ impl SourceLog {
         SourceLog {
             table,
             records: List::new(alloc),
-            in_flight: None,
-            changes: List::new(alloc),
+            in_flight: Buffer::new(alloc),
             units: List::new(alloc),
             rows: Rows::new(alloc),
             time: 0,
@@ -117,22 +104,19 @@ impl SourceLog {
             × (self.new.records ≡ self.old.records ++ records.Change tx change ∷ []) }
         ensures refused { IfOk result (λ cause. IfSome cause (λ _. self.new ≡ self.old)) }
     {
-        if !may_go_on(self.in_flight, tx) {
-            return Ok(Some(Cause::BadLog));
-        }
         if !is_change_applicable(alloc, &self.table, &change)? {
             return Ok(Some(Cause::NotApplicable));
         }
         let pos = self.records.len() as u64 + 1;
         one_more_record();
-        self.changes.push(place_change(pos, &change)?)?;
+        self.in_flight.push(alloc, tx, place_change(pos, &change)?)?;
         self.records.push(LogRecord::Change { tx, change })?;
-        self.in_flight = Some(tx);
         Ok(None)
     }
 
     /// Takes a commit record if it may be taken, else answers why it may not. The records and units
-    /// then stay, and the rows are unspecified: no row is read after a refusal.
+    /// then stay, and the rows and what is in flight are unspecified: neither is read after a
+    /// refusal.
     fn take_commit(
         &mut self,
         alloc: Global,
@@ -149,18 +133,15 @@ impl SourceLog {
         ensures refused { IfOk result (λ cause. IfSome cause
             (λ _. KeepsRecords self.old self.new)) }
     {
-        if !may_go_on(self.in_flight, tx) {
-            return Ok(Some(Cause::BadLog));
-        }
         if time < self.time {
             return Ok(Some(Cause::NotApplicable));
         }
-        if !apply_changes(alloc, &self.table, self.changes.as_slice(), &mut self.rows)? {
+        let changes = self.in_flight.take(alloc, tx);
+        if !apply_changes(alloc, &self.table, changes.as_slice(), &mut self.rows)? {
             return Ok(Some(Cause::NotApplicable));
         }
         let pos = self.records.len() as u64 + 1;
         one_more_record();
-        let changes = mem::replace(&mut self.changes, List::new(alloc));
         self.units
             .push(made_unit(pos, time, &authid, &origin, changes)?)?;
         self.records.push(LogRecord::Commit {
@@ -169,9 +150,21 @@ impl SourceLog {
             authid,
             origin,
         })?;
-        self.in_flight = None;
         self.time = time;
         Ok(None)
+    }
+
+    /// Takes an abort record, which is never refused. Its transaction then has nothing in flight.
+    fn take_abort(&mut self, tx: u32) -> Result<(), AllocError>
+        requires { IsKeptLog self.old }
+        ensures cause { record_cause self.old.records (records.Abort tx) ≡ None }
+        ensures taken { OnOk result (IsKeptLog self.new
+            × (self.new.records ≡ self.old.records ++ records.Abort tx ∷ [])) }
+    {
+        one_more_record();
+        self.in_flight.drop_tx(tx);
+        self.records.push(LogRecord::Abort { tx })?;
+        Ok(())
     }
 
     /// Takes a record if it may be taken, else answers why it may not. The records and units then
@@ -192,7 +185,10 @@ impl SourceLog {
                 authid,
                 origin,
             } => self.take_commit(alloc, tx, time, authid, origin),
-            LogRecord::Abort { .. } => Ok(Some(Cause::BadLog)),
+            LogRecord::Abort { tx } => {
+                self.take_abort(tx)?;
+                Ok(None)
+            }
         }
     }
 }
