@@ -23,7 +23,7 @@ use Rattle.repl_model.specs.SoundLogs.{LogIsSound}
 use Rattle.repl_model.specs.World.{Server, World, tables_of}
 use Rattle.load_worlds.specs.laws.Members.{In}
 use Rattle.log_rows.specs.InFlight.{InFlightRowsStand, OpenChangesAreRows, OpenChangesAreStored}
-use Rattle.log_rows.specs.LongerTables.{HeadFits, head_table}
+use Rattle.log_rows.specs.LongerTables.{HeadFits}
 use Rattle.log_rows.specs.SourceLogs.{SourceRowsStand}
 use Rattle.log_store.specs.LongerServers.{is_of_log, Logged, LoggedHolds, OthersHold}
 use Rattle.log_worlds.specs.LongerLogs.{AllFollow}
@@ -39,18 +39,18 @@ use Rattle.site_store.specs.laws.Transactions.{begun_sees, took, closed_again}
 use Rattle.stored_defs.specs.Known.{server_in}
 use Rattle.stored_defs.specs.laws.Standing.{all_at_place, same_count, keeps_at, seen_at}
 use Rattle.world_store.specs.Stands.{shown, Holds, Stands}
-use Rattle.world_store.specs.Tables.{tables}
 use Rattle.source_log.specs.Appending.{taken, error_at, append_error, stop_at, HasTaken, TakesAll, PutsEnd, CommitsEnd, MayCommitEnd, StandGrown, HasAppended, HasNotAppended}
 use Rattle.source_log.specs.Calls.{GoesOn, BreaksFirst}
 use Rattle.source_log.specs.Rules.{all_rules, ShowsDamage}
-use Rattle.source_log.specs.Storing.{IsKept, MayAppend}
+use Rattle.source_log.specs.Storing.{IsKept, StoresWhole, MayAppend}
 use Rattle.source_log.specs.declared.progress.Progress.{Progress}
 use Rattle.source_log.proofs.Calls.{goes_then, stops_as, stops_after}
 use Rattle.source_log.proofs.Drops.{take_whole}
-use Rattle.source_log.proofs.Grown.{in_at, end_put, grown_nothing, found_there, stands_grown}
-use Rattle.source_log.proofs.HeldTables.{held_tables, held_end}
+use Rattle.source_log.specs.laws.Whole.{held_whole, end_put}
+use Rattle.source_log.proofs.Grown.{in_at, grown_nothing, found_there, stands_grown}
+use Rattle.source_log.proofs.HeldTables.{whole_end}
 use Rattle.source_log.proofs.TakenFirst.{taken_follow}
-use Rattle.source_log.proofs.Undamaged.{undamaged}
+use Rattle.source_log.proofs.Undamaged.{none_shown}
 
 -- ---- answers
 
@@ -103,15 +103,10 @@ all_taken server records progress d has none =
 -- ---- what the server holds
 
 -- a put of the end of the log leaves the tables that aren't of the log
-end_apart : (d : Contents) (k : List ℕ) (v : Option (List ℕ)) (a : Area) (m : ℕ) → is_of_log a m ≡ false → put_at d areas.Head 0 k v a m ≡ d a m
+pub end_apart : (d : Contents) (k : List ℕ) (v : Option (List ℕ)) (a : Area) (m : ℕ) → is_of_log a m ≡ false → put_at d areas.Head 0 k v a m ≡ d a m
 end_apart d k v areas.Head zero e = absurd cc
 end_apart d k v areas.Head (suc m) e = put_other_table d areas.Head 0 (suc m) k v (λ is. omega arith)
 end_apart d k v a m e = refl
-
--- the end that a server holds is that of its log
-end_held : (w : World) (server : Server) (c : Contents) → Holds w server c → shown server areas.Head 0 (c areas.Head 0) ≡ head_table server
-unfolding tables
-end_held w server c holds = holds areas.Head 0
 
 -- a call that only writes shows no damage
 no_write_damages : {K : Type 0} (kept : K → Kept) (s1 s2 : Sites K) (e : Fault) → Blames kept s1 s2 (λ s a cause. ⊥) e → IsNoDamage e
@@ -184,11 +179,15 @@ module _ {K : Type 0} (kept : K → Kept) (s0 : Sites K) (closed : AllClosed (wo
   holds : (c : Contents) × (get_or (held kept s0) n None ≡ Some c) × Holds w server c
   holds = let r = seen_at kept s0 closed w stands n lt in (r.0, sym (ap (seen_of (get_or (held kept s0) n None)) (closed n)) ∙ r.1, r.2)
 
+  -- which are all tables of its log
+  whole : StoresWhole server holds.0
+  whole = held_whole w server holds.0 stands.sound member holds.2
+
   -- no damage is reported of it
   none_damaged : InFlightRowsStand → OpenChangesAreRows → OpenChangesAreStored → SourceRowsStand → HeadFits → (s1 : Sites K) (e : Fault) → Blames kept s0 s1 (ShowsDamage kept s0 n) e → IsNoDamage e
   none_damaged in_flight are_rows stored source fits s1 e blames = no_damage kept s0 s1 (λ s. s ≡ n) all_rules e (λ s is.
       let r = seen_at kept s0 closed w stands n lt in
-      subst (λ (k : ℕ). (c : Contents) × (sees kept s0 k ≡ Some c) × IsUndamaged all_rules c) (sym is) (r.0, r.1, undamaged in_flight are_rows stored source fits w server r.0 stands.sound member r.2)) blames
+      subst (λ (k : ℕ). (c : Contents) × (sees kept s0 k ≡ Some c) × IsUndamaged all_rules c) (sym is) (r.0, r.1, none_shown in_flight are_rows stored source fits server r.0 (held_whole w server r.0 stands.sound member r.2))) blames
 
   -- after a read failed, the servers stand for the world as before
   pub stands_broken : InFlightRowsStand → OpenChangesAreRows → OpenChangesAreStored → SourceRowsStand → HeadFits → (s1 s2 : Sites K) (e : Fault) → Begins kept s0 s1 n → BreaksFirst kept s1 s2 n e → (h : List (Option Contents)) → h ≡ held kept s2 → IsNoDamage e × Stands (names s0) h w
@@ -199,7 +198,7 @@ module _ {K : Type 0} (kept : K → Kept) (s0 : Sites K) (closed : AllClosed (wo
   module _ (fits : HeadFits) (records : List LogRecord) (s1 s2 : Sites K) (progress : Progress) (begun : Begins kept s0 s1 n) (goes : GoesOn kept s1 s2 n (TakesAll records progress)) where
     -- what was taken there
     has_taken : (d : Contents) → TakesAll records progress holds.0 d → HasTaken server records progress d
-    has_taken d all = all.has server kept_server (held_end w server holds.0 holds.2 fits sound_log all.head all.fits all.is) (held_tables w server holds.0 holds.2)
+    has_taken d all = all.has server kept_server (whole_end server holds.0 fits whole all.head all.fits all.is) whole.stores
 
     -- what the transaction sees then
     took_in : (d : Contents) × TakesAll records progress holds.0 d
@@ -236,7 +235,7 @@ module _ {K : Type 0} (kept : K → Kept) (s0 : Sites K) (closed : AllClosed (wo
             in_flight = ap (λ (x : Contents). x areas.Inflight 0) put ∙ h.stores.in_flight;
             head =
                 ap (shown server areas.Head 0) (ap (λ (x : Contents). x areas.Head 0) put ∙ put_here d areas.Head 0 key (row progress.end) ∙ (λ i. set_key (all.end 0 i) key (row (h.end i))))
-                ∙ end_put server longer (holds.0 areas.Head 0) (end_held w server holds.0 holds.2);
+                ∙ end_put server longer (holds.0 areas.Head 0) whole.end;
             others = λ a m o. ap (λ (x : Contents). x a m) put ∙ end_apart d key (row progress.end) a m o ∙ all.others a m o;
           }
 

@@ -13,7 +13,7 @@ use Rattle.site_store.specs.Records.{NoDamage, Misread, Misspelt, MisspeltNext}
 use Rattle.site_store.specs.Views.{held, work, sees, IsOpenAt}
 use Rattle.site_store.specs.Works.{Works, Sets}
 use Rattle.site_store.specs.Calls.{Bounds, no_access, writes_of_one, both, Passes, Puts, AtServer, Blames, Fails}
-use Rattle.site_store.specs.Damage.{Shows, Damages, ShownBefore}
+use Rattle.site_store.specs.Damage.{Rules, Shows, Damages, ShownBefore}
 use Rattle.site_store.specs.laws.Counts.{at_most_itself, passes_none, passes_then, stays_then}
 use Rattle.site_store.specs.laws.Damage.{shown_unseen, shows_at, misspelt_shows, misspelt_next_shows}
 use Rattle.site_store.specs.laws.Steps.{works_on, works_as}
@@ -167,20 +167,24 @@ module _ {K : Type 0} (kept : K → Kept) where
   pub breaks_after : (s0 s1 s2 : Sites K) (server : ℕ) (e : Fault) → Looks kept s0 s1 → Breaks kept s1 s2 server e → Breaks kept s0 s2 server e
   breaks_after s0 s1 s2 server e a f = stops_after s0 s1 s2 a.most (Damages (λ s. s ≡ server) rules kept s0) e a.stays.passes a.stays.held (stops_as s1 s2 (Damages (λ s. s ≡ server) rules kept s1) (Damages (λ s. s ≡ server) rules kept s0) e (λ s b cause h. (h.0, subst (Shows rules b cause) (looks_sees s0 s1 a s) h.1)) f)
 
-  -- a read fails after a step that shows no new damage
-  pub breaks_on : (s0 s1 s2 : Sites K) (server : ℕ) (P : Contents → Contents → Type 0) (e : Fault) → IsOpenAt (work kept s0) server → ((c d : Contents) → P c d → ShownBefore rules c d) → GoesOn kept s0 s1 server P → Breaks kept s1 s2 server e → Breaks kept s0 s2 server e
-  breaks_on s0 s1 s2 server P e open_at step a f = stops_after s0 s1 s2 a.most (Damages (λ s. s ≡ server) rules kept s0) e a.works.passes a.works.held (stops_as s1 s2 (Damages (λ s. s ≡ server) rules kept s1) (Damages (λ s. s ≡ server) rules kept s0) e (λ s b cause h. (h.0, subst (λ (k : ℕ). Shows rules b cause (sees kept s0 k)) (sym h.0) (mine (get_or (work kept s0) server None) refl open_at b cause (subst (λ (k : ℕ). Shows rules b cause (sees kept s1 k)) h.0 h.1)))) f)
+  -- a call fails by some rules after a step that shows no new damage by them
+  pub stops_on : (all : Rules) (s0 s1 s2 : Sites K) (server : ℕ) (P : Contents → Contents → Type 0) (e : Fault) → IsOpenAt (work kept s0) server → ((c d : Contents) → P c d → ShownBefore all c d) → GoesOn kept s0 s1 server P → Stops kept s1 s2 (Damages (λ s. s ≡ server) all kept s1) e → Stops kept s0 s2 (Damages (λ s. s ≡ server) all kept s0) e
+  stops_on all s0 s1 s2 server P e open_at step a f = stops_after s0 s1 s2 a.most (Damages (λ s. s ≡ server) all kept s0) e a.works.passes a.works.held (stops_as s1 s2 (Damages (λ s. s ≡ server) all kept s1) (Damages (λ s. s ≡ server) all kept s0) e (λ s b cause h. (h.0, subst (λ (k : ℕ). Shows all b cause (sees kept s0 k)) (sym h.0) (mine (get_or (work kept s0) server None) refl open_at b cause (subst (λ (k : ℕ). Shows all b cause (sees kept s1 k)) h.0 h.1)))) f)
     where
       works : Works (work kept s0) (work kept s1) server P
       works = a.works.works
 
-      mine : (o : Option (Option Contents)) → get_or (work kept s0) server None ≡ o → IsSome o → (b : Area) (cause : DamageCause) → Shows rules b cause (sees kept s1 server) → Shows rules b cause (seen_of (get_or (held kept s0) server None) o)
+      mine : (o : Option (Option Contents)) → get_or (work kept s0) server None ≡ o → IsSome o → (b : Area) (cause : DamageCause) → Shows all b cause (sees kept s1 server) → Shows all b cause (seen_of (get_or (held kept s0) server None) o)
       mine None is some b cause h = absurd cc
-      mine (Some None) is some b cause h = shown_unseen rules b cause (sees kept s1 server) h
+      mine (Some None) is some b cause h = shown_unseen all b cause (sees kept s1 server) h
       mine (Some (Some c)) is some b cause h =
           let d = works.does c is in
           let now : sees kept s1 server ≡ Some d.0 = ap (seen_of (get_or (held kept s1) server None)) (ap (λ (l : List (Option (Option Contents))). get_or l server None) works.is ∙ get_or-set_same (work kept s0) server (Some works.now) None (open_below (work kept s0) server open_at)) ∙ d.1 in
-          step c d.0 d.2 b cause (subst (Shows rules b cause) now h)
+          step c d.0 d.2 b cause (subst (Shows all b cause) now h)
+
+  -- so does a read
+  pub breaks_on : (s0 s1 s2 : Sites K) (server : ℕ) (P : Contents → Contents → Type 0) (e : Fault) → IsOpenAt (work kept s0) server → ((c d : Contents) → P c d → ShownBefore rules c d) → GoesOn kept s0 s1 server P → Breaks kept s1 s2 server e → Breaks kept s0 s2 server e
+  breaks_on s0 s1 s2 server P e open_at step a f = stops_on rules s0 s1 s2 server P e open_at step a f
 
   -- memory runs out after reads
   pub memory_after : (s0 s1 : Sites K) (server : ℕ) → Looks kept s0 s1 → Breaks kept s0 s1 server faults.Memory

@@ -1,5 +1,5 @@
 -- The end of a log is read: proofs.
-use Rattle.std.proofs.Common.{◌≡◌, ℕ, List, get_or, refl, sym, subst, ◌∙◌, inl, inr}
+use Rattle.std.proofs.Common.{◌≡◌, ℕ, List, refl, subst, inl, inr}
 use Rattle.std.specs.Prelude.{Option, Some, IfSome}
 use Rattle.repl_types.specs.declared.area.Area.{Area}
 use Rattle.repl_types.specs.declared.area.Area.TheVariants as areas
@@ -15,15 +15,14 @@ use Rattle.row_codec.specs.Spelling.{b64}
 use Rattle.repl_records.specs.SourceSide.{IsHead}
 use Rattle.repl_records.specs.declared.source_side.Head.{Head}
 use Rattle.site_store.specs.declared.sites.Sites.{Sites}
-use Rattle.site_store.specs.Views.{reads_in, sees}
-use Rattle.site_store.specs.Calls.{no_access, both, reads_of_one, Reads, ClosesAll, Blames, IsMemoryOr}
+use Rattle.site_store.specs.Views.{sees}
+use Rattle.site_store.specs.Calls.{no_access, Reads, ClosesAll, IsMemoryOr}
 use Rattle.site_store.specs.Damage.{Shows, Damages}
-use Rattle.site_store.specs.laws.Counts.{at_most_itself, passes_then}
 use Rattle.stored_defs.specs.laws.Passing.{if_seen, if_both_seen}
 use Rattle.source_log.specs.Calls.{Looks, Breaks, BreaksFirst}
 use Rattle.source_log.specs.Rules.{rules, all_rules, EndIs, ShowsDamage}
 use Rattle.source_log.proofs.Calls.{stops_as, stops_after, looks_sees}
-use Rattle.source_log.proofs.Strays.{rises_on}
+use Rattle.source_log.proofs.Strays.{unfit_stops}
 
 -- what the rules show, all rules show
 all_rules_show : (a : Area) (cause : DamageCause) (saw : Option Contents) → Shows rules a cause saw → Shows all_rules a cause saw
@@ -39,22 +38,9 @@ module _ {K : Type 0} (kept : K → Kept) where
 
   -- the log has a record after its end
   pub end_breaks : (s0 s1 s2 s3 : Sites K) (server : ℕ) (head : Head) (key : List ℕ) (r : LogRecord) (e : Fault) → Looks kept s0 s1 → Reads kept s1 s2 server areas.Log → ClosesAll kept s2 s3 no_access → IsHead head → IfSome (sees kept s0 server) (EndIs head) → IfSome (sees kept s1 server) (λ c. IsNextKey (c areas.Log 0) (b64 head.last) key (log_spelling r)) → IsMemoryOr (faults.Damaged server areas.Log (causes.Unfit (log_spelling r))) e → BreaksFirst kept s0 s3 server e
-  end_breaks s0 s1 s2 s3 server head key r e looks read closes fits end next fault = stops_after kept s0 s1 s3 looks.most D e looks.stays.passes looks.stays.held (record {
-    most = both (reads_of_one 1 server areas.Log) no_access;
-    passes = passes_then kept s1 s2 s3 (reads_of_one 1 server areas.Log) no_access (both (reads_of_one 1 server areas.Log) no_access) read.stays.passes closes.passes (at_most_itself (both (reads_of_one 1 server areas.Log) no_access));
-    held = closes.held ∙ read.stays.held;
-    blames = elim fault [
-      | inl memory ↦ subst (Blames kept s1 s3 D) (sym memory) tt
-      | inr damaged ↦ subst (Blames kept s1 s3 D) (sym damaged) (
-        (λ is. rises_on (get_or (reads_in kept areas.Log s1) server 0) (get_or (reads_in kept areas.Log s2) server 0) (get_or (reads_in kept areas.Log s3) server 0) read.rose (closes.passes.reads areas.Log server)),
-        (refl, (0, if_both_seen (sees kept s0 server) (EndIs head) N U (λ c is at. (key, at.has, inr (head, fits, is, at.above))) end (subst (λ (o : Option Contents). IfSome o N) (looks_sees kept s0 s1 looks server) next))),
-      )
-    ];
-  })
+  end_breaks s0 s1 s2 s3 server head key r e looks read closes fits end next fault = stops_after kept s0 s1 s3 looks.most (ShowsDamage kept s0 server) e looks.stays.passes looks.stays.held
+      (unfit_stops kept s1 s2 s3 server areas.Log (log_spelling r) (ShowsDamage kept s0 server) e read closes (refl, (0, if_both_seen (sees kept s0 server) (EndIs head) N U (λ c is at. (key, at.has, inr (head, fits, is, at.above))) end (subst (λ (o : Option Contents). IfSome o N) (looks_sees kept s0 s1 looks server) next))) fault)
     where
-      D : ℕ → Area → DamageCause → Type 0
-      D = ShowsDamage kept s0 server
-
       N : Contents → Type 0
       N c = IsNextKey (c areas.Log 0) (b64 head.last) key (log_spelling r)
 

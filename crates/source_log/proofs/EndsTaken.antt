@@ -104,7 +104,7 @@ commit_rows commit tx time (records.Commit t at authid origin) is server def =
 commit_rows commit tx time (records.Abort t) is server def = absurd is
 
 -- the rows of the source of a sound log stand under their keys
-source_stand : SourceRowsStand → (server : Server) → IsKept server → SourceStands server (rows_of server)
+pub source_stand : SourceRowsStand → (server : Server) → IsKept server → SourceStands server (rows_of server)
 source_stand stands server kept = each server.tables
   where
     each : (tables : List ServerTable) → AllByRecursion (λ t. RowsStand t.def (rows_of server t.def)) tables

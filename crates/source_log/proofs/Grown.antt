@@ -1,21 +1,16 @@
 -- Once one server holds what a longer log calls for, the servers stand for the world with that log: proofs.
 use Rattle.std.proofs.Common.{◌≡◌, ◌≢◌, ◌⊎◌, inl, inr, ℕ, zero, suc, ◌<◌, Bool, true, false, cond, List, [], ◌∷◌, length, map, set, get_or, refl, sym, ap, subst, ◌∙◌, arith}
-use Rattle.std.specs.Prelude.{Option, Some, None}
-use Rattle.std.specs.Option.{option_or}
+use Rattle.std.specs.Prelude.{Option, Some}
 use Rattle.std.specs.List.{AllZip}
 use Rattle.std.specs.Str.{bytes_eq}
 use Rattle.std.proofs.lemmas.List.{append-nil}
-use Rattle.repl_types.specs.declared.area.Area.TheVariants as areas
 use Rattle.repl_types.specs.declared.record.LogRecord.{LogRecord}
-use Rattle.keep_core.specs.Contents.{Contents, Table, set_key, same_key}
+use Rattle.keep_core.specs.Contents.{Contents}
 use Rattle.keep_core.specs.Kept.{Kept}
-use Rattle.repl_records.specs.RecordKeys.{single_spelling}
-use Rattle.repl_records.specs.SourceSide.{head_spelling}
 use Rattle.repl_model.specs.Sound.{IsSound, empty_server}
 use Rattle.repl_model.specs.World.{Server, World, server_named}
 use Rattle.repl_model.specs.Longer.{with_more, grown_server, grown}
 use Rattle.load_worlds.specs.laws.Members.{In}
-use Rattle.log_rows.specs.LongerTables.{head_table}
 use Rattle.log_store.specs.LongerServers.{Logged, LoggedHolds, OthersHold}
 use Rattle.site_store.specs.declared.sites.Sites.{Sites}
 use Rattle.site_store.specs.Servers.{AllClosed}
@@ -23,9 +18,7 @@ use Rattle.site_store.specs.Views.{names, held, work}
 use Rattle.stored_defs.specs.Known.{server_in}
 use Rattle.stored_defs.specs.laws.Rows.{text_is, text_itself}
 use Rattle.stored_defs.specs.laws.Standing.{same_count, name_at_place, server_at_place}
-use Rattle.world_store.specs.LogRows.{head_of}
-use Rattle.world_store.specs.Stands.{shown, Holds, Reveals, Stands}
-use Rattle.world_store.specs.Tables.{first_table}
+use Rattle.world_store.specs.Stands.{Holds, Reveals, Stands}
 
 -- ---- lists
 
@@ -59,29 +52,6 @@ one_first (suc m) (suc n) ne = elim (one_first m n (λ e. ne (ap suc e))) [
   | inl lt ↦ inl (omega (arith, lt))
   | inr lt ↦ inr (omega (arith, lt))
 ]
-
--- ---- the end of a log
-
--- the end of a longer log is put in the place of the end before
-pub end_put : (server longer : Server) (t : Table) → shown server areas.Head 0 t ≡ head_table server → shown server areas.Head 0 (set_key t (single_spelling (record {})) (Some (head_spelling (head_of longer)))) ≡ head_table longer
-end_put server longer t holds i k = by_key (same_key (single_spelling (record {})) k) refl i
-  where
-    key : List ℕ
-    key = single_spelling (record {})
-
-    row : Option (List ℕ)
-    row = Some (head_spelling (head_of longer))
-
-    first : Option (List ℕ)
-    first = first_table server areas.Head 0 k
-
-    by_key : (b : Bool) → same_key key k ≡ b → option_or (cond (same_key key k) row (t k)) first ≡ cond (same_key key k) row None
-    by_key true e = ap (λ (b : Bool). option_or (cond b row (t k)) first) e ∙ sym (ap (λ (b : Bool). cond b row None) e)
-    by_key false e =
-        ap (λ (b : Bool). option_or (cond b row (t k)) first) e
-        ∙ ap (λ (u : Table). u k) holds
-        ∙ ap (λ (b : Bool). cond b (Some (head_spelling (head_of server))) None) e
-        ∙ sym (ap (λ (b : Bool). cond b row None) e)
 
 -- ---- a world
 

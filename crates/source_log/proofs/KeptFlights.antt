@@ -34,21 +34,20 @@ use Rattle.repl_model.specs.Rules.{TableKeepsRules, all_places, are_among, may_b
 use Rattle.repl_model.specs.Tables.{key_of, same_values, table_of}
 use Rattle.repl_model.specs.Applicable.{fits, fits_columns, change_fits, table_named, is_change_applicable, is_signal_applicable}
 use Rattle.repl_model.specs.Units.{open_changes}
-use Rattle.repl_model.specs.World.{ServerTable, Server, World, tables_of, registered_of}
-use Rattle.repl_model.specs.SoundDefinitions.{KeepsTable, ServerKeepsRules, column_limit}
-use Rattle.repl_model.specs.SoundLogs.{LogIsSound, record_fits}
+use Rattle.repl_model.specs.World.{ServerTable, Server, tables_of, registered_of}
+use Rattle.repl_model.specs.SoundDefinitions.{KeepsTable, column_limit}
+use Rattle.repl_model.specs.SoundLogs.{record_fits}
 use Rattle.load_worlds.specs.laws.Entries.{at_place_in, numbered_in}
 use Rattle.load_worlds.specs.laws.Members.{In, at_one, found_in, in_map, in_second, kept_by}
 use Rattle.world_store.specs.DefinitionRows.{table_rows}
 use Rattle.world_store.specs.LogRows.{in_flight_rows}
 use Rattle.stored_defs.specs.Reading.{RowFits}
-use Rattle.stored_defs.specs.laws.Rows.{table_rows_are}
 use Rattle.log_rows.specs.InFlight.{InFlightRow, in_flight_row, of_transaction, InFlightRowsStand, OpenChangesAreRows, OpenChangesAreStored}
 use Rattle.log_rows.specs.LongerTables.{log_table}
 use Rattle.source_log.specs.Fitting.{has_short_rows, may_stand}
 use Rattle.source_log.specs.Rules.{flight_key, IsInFlight, HasTable, IsKeptChange}
 use Rattle.source_log.specs.Storing.{IsKept, Stores}
-use Rattle.source_log.proofs.OwnTables.{own_table, no_table}
+use Rattle.source_log.proofs.OwnTables.{own_table, own_tables_keep, own_rows_fit, no_table}
 use Rattle.source_log.proofs.OwnUnits.{open_in_log, none_open}
 
 -- ---- changes that fit a table
@@ -107,16 +106,13 @@ applicable_fits tables change e = pick (table_named (table_of change) tables) re
 position_is : (tx pos : ℕ) (row : InFlightRow) (placed : Placed) → row.0 ≡ record { tx = tx; pos = pos } → row ≡ in_flight_row tx placed → placed.pos ≡ pos
 position_is tx pos row placed key is = ap (λ (r : InFlightRow). r.0.pos) (sym is) ∙ ap (λ (k : InFlightKey). k.pos) key
 
-module _ (world : World) (server : Server) (keeps : ServerKeepsRules world server) (sound : LogIsSound server) (c : Contents) (stores : Stores server c) where
+module _ (server : Server) (kept : IsKept server) (c : Contents) (stores : Stores server c) where
   -- a change that is applicable may stand at a stored table
-  has_table : (change : Change) → is_change_applicable (tables_of server) change ≡ true → (table : DefinedTable) × HasTable c change table
+  pub has_table : (change : Change) → is_change_applicable (tables_of server) change ≡ true → (table : DefinedTable) × HasTable c change table
   has_table change applicable = by_found (c areas.Defs 0 (short_text name)) refl
     where
       name : List ℕ
       name = table_of change
-
-      kept : IsKept server
-      kept = record { log = sound; world = world; before = server; keeps = keeps; tables = refl }
 
       fit : (def : TableDef) × (table_named name (tables_of server) ≡ Some def) × (change_fits def change ≡ true)
       fit = applicable_fits (tables_of server) change applicable
@@ -126,12 +122,12 @@ module _ (world : World) (server : Server) (keeps : ServerKeepsRules world serve
       by_found (Some v) e =
           let row = row_of short_text defined_table_spelling (table_rows server) (short_text name) v (sym (ap (λ (t : Table). t (short_text name)) stores.defs) ∙ e) in
           let table : DefinedTable = row.0.1 in
-          let spelled : IsDefinedTable table = (fits_each (RowFits IsName IsDefinedTable) (table_rows server) row.0 (table_rows_are world server keeps).fit row.1).1 in
+          let spelled : IsDefinedTable table = (fits_each (RowFits IsName IsDefinedTable) (table_rows server) row.0 (own_rows_fit server kept) row.1).1 in
           let stands : c areas.Defs 0 (short_text name) ≡ Some (defined_table_spelling table) = e ∙ ap (λ (l : List ℕ). Some l) (sym row.3) in
           let own = own_table server c name table kept stores stands spelled in
           let same : fit.0 ≡ own.own.def = same_Some fit.0 table.def (sym fit.1 ∙ own.named) ∙ sym own.def in
           let named : bytes_eq name fit.0.name ≡ true = (found_in (λ (d : TableDef). bytes_eq name d.name) (tables_of server) fit.0 fit.1).1 in
-          let keeps_own : KeepsTable own.own = at_one KeepsTable server.tables own.own keeps.tables (at_place_in server.tables table.number own.own own.at_number) in
+          let keeps_own : KeepsTable own.own = at_one KeepsTable server.tables own.own (own_tables_keep server kept) (at_place_in server.tables table.number own.own own.at_number) in
           let named_own : bytes_eq name own.own.def.name ≡ true = subst (λ (d : TableDef). bytes_eq name d.name ≡ true) same named in
           let may : may_stand own.own.def change ≡ true = fitting_stands own.own change keeps_own named_own (subst (λ (d : TableDef). change_fits d change ≡ true) same fit.2) in
           (table, record { stands = stands; fits = spelled; may = subst (λ (d : TableDef). may_stand d change ≡ true) own.def may })
@@ -141,10 +137,10 @@ module _ (world : World) (server : Server) (keeps : ServerKeepsRules world serve
   open_applicable tx placed i =
       let r = records.Change tx placed.change in
       let signal = is_signal_applicable (map (λ r. r.reg) (registered_of server)) placed.change in
-      let fit : record_fits server r ≡ true = at_one (λ (r : LogRecord). IsTrue (record_fits server r)) server.log r sound.fits (numbered_in 1 server.log (placed.pos, r) (open_in_log tx server.log placed i).logged) in
+      let fit : record_fits server r ≡ true = at_one (λ (r : LogRecord). IsTrue (record_fits server r)) server.log r kept.log.fits (numbered_in 1 server.log (placed.pos, r) (open_in_log tx server.log placed i).logged) in
       elim (or_cases (is_change_applicable (tables_of server) placed.change) (tx == 0 && signal) fit) [
         | inl applicable ↦ applicable
-        | inr own ↦ absurd (none_open server.log sound.own placed (subst (λ (n : ℕ). In placed (open_changes n server.log)) (eqb-true tx 0 (and_parts (tx == 0) signal own).0) i))
+        | inr own ↦ absurd (none_open server.log kept.log.own placed (subst (λ (n : ℕ). In placed (open_changes n server.log)) (eqb-true tx 0 (and_parts (tx == 0) signal own).0) i))
       ]
 
   module _ (stand : InFlightRowsStand) (are_rows : OpenChangesAreRows) (stored : OpenChangesAreStored) where
@@ -156,7 +152,7 @@ module _ (world : World) (server : Server) (keeps : ServerKeepsRules world serve
         let found = row_of in_flight_key_spelling in_flight_spelling rows (flight_key tx pos) flight.value (sym (ap (λ (t : Table). t (flight_key tx pos)) stores.in_flight) ∙ flight.stands) in
         let row : InFlightRow = found.0 in
         let has : HasRow rows row = found.1 in
-        let fit = fits_each (λ (row : InFlightRow). IsInFlightKey row.0 × (0 < row.0.pos)) rows row (stand server sound).fit has in
+        let fit = fits_each (λ (row : InFlightRow). IsInFlightKey row.0 × (0 < row.0.pos)) rows row (stand server kept.log).fit has in
         let same : row.0 ≡ key = one_whole IsInFlightKey in_flight_key_spelling one_in_flight_key row.0 key fit.0 flight.fits found.2 in
         let there : In row rows = subst (In row) (sym has.split) (in_second has.front (row ∷ has.back) row (inl refl)) in
         let own : In row (of_transaction tx rows) = kept_by (λ (row : InFlightRow). row.0.tx == tx) rows row there (eq-eqb row.0.tx tx (ap (λ (k : InFlightKey). k.tx) same)) in
@@ -171,11 +167,11 @@ module _ (world : World) (server : Server) (keeps : ServerKeepsRules world serve
         let r = records.Change tx placed.change in
         let has = has_table placed.change (open_applicable tx placed found.1) in
         let IsStored : Placed → Type 0 = λ p. log_table server (b64 p.pos) ≡ Some (log_spelling (records.Change tx p.change)) in
-        let stands : IsStored placed = at_one IsStored (open_changes tx server.log) placed (stored server tx sound.short) found.1 in
-        let kept : IsKeptChange tx c pos placed.change = record {
-          typed = at_one IsLogRecord server.log r sound.typed (numbered_in 1 server.log (placed.pos, r) (open_in_log tx server.log placed found.1).logged);
+        let stands : IsStored placed = at_one IsStored (open_changes tx server.log) placed (stored server tx kept.log.short) found.1 in
+        let logged : IsKeptChange tx c pos placed.change = record {
+          typed = at_one IsLogRecord server.log r kept.log.typed (numbered_in 1 server.log (placed.pos, r) (open_in_log tx server.log placed found.1).logged);
           logged = ap (λ (t : Table). t (b64 pos)) stores.log ∙ ap (λ (n : ℕ). log_table server (b64 n)) (sym found.2) ∙ stands;
           table = has.0;
           has = has.1;
         } in
-        (placed.change, kept)
+        (placed.change, logged)

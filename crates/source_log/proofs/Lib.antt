@@ -24,3 +24,10 @@ mod Undamaged
 mod Grown
 mod TakenFirst
 mod Appended
+mod Seen
+mod Scanned
+mod OwnFlights
+mod OwnChanges
+mod UnitTables
+mod UnitsPut
+mod UnitUndamaged

@@ -20,7 +20,7 @@ use Rattle.repl_model.specs.Applicable.{fits, fits_columns, change_fits, is_chan
 use Rattle.source_log.specs.Fitting.{has_short_rows, may_stand, CanBeMade, RowMayStand}
 
 -- a key of at least one value takes a byte
-some_byte : (places : List ℕ) (row : Values) → 0 < length places → 0 < length (key_spelling (images places row))
+pub some_byte : (places : List ℕ) (row : Values) → 0 < length places → 0 < length (key_spelling (images places row))
 some_byte [] row some = absurd (omega arith)
 some_byte (place ∷ places) row some = by_value (get_or row place Null) (key_spelling (images places row))
   where

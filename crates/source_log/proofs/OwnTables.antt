@@ -8,7 +8,7 @@ use Rattle.std.proofs.lemmas.Bool.{and_parts}
 use Rattle.repl_types.specs.declared.area.Area.TheVariants as areas
 use Rattle.repl_types.specs.declared.table.TableDef.{TableDef}
 use Rattle.keep_core.specs.Contents.{Contents, Table}
-use Rattle.row_codec.specs.Spelling.{short_text}
+use Rattle.row_codec.specs.Spelling.{IsName, short_text}
 use Rattle.repl_definitions.specs.Defined.{defined_table_spelling, IsDefinedTable}
 use Rattle.repl_definitions.specs.declared.defined.DefinedTable.{DefinedTable}
 use Rattle.rows_in_order.specs.Rows.{table_from_rows}
@@ -23,7 +23,9 @@ use Rattle.load_worlds.specs.laws.Members.{at_one, first_alone, find_image}
 use Rattle.load_worlds.specs.laws.Servers.{name_itself}
 use Rattle.log_rows.specs.Applying.{AllAreFound}
 use Rattle.log_rows.specs.SourceLogs.{TablesAreFound}
+use Rattle.stored_defs.specs.Reading.{RowFits}
 use Rattle.stored_defs.specs.laws.NamedTables.{table_stands, table_numbered}
+use Rattle.stored_defs.specs.laws.Rows.{table_rows_are}
 use Rattle.source_log.specs.Making.{TablesApart}
 use Rattle.source_log.specs.Storing.{IsKept, Stores}
 
@@ -92,11 +94,14 @@ own_table server c name table kept stores stands fits =
       named = named_is server name kept (Some own.0) own.2 ∙ ap Some own.3;
     }
 
+-- the tables of a server keep the rules
+pub own_tables_keep : (server : Server) → IsKept server → AllByRecursion KeepsTable server.tables
+own_tables_keep server kept = subst (λ (ts : List ServerTable). AllByRecursion KeepsTable ts) kept.tables kept.keeps.tables
+
 -- it keeps the rules, and has no more columns than it may
 pub own_keeps : (server : Server) (name : List ℕ) (table : DefinedTable) → IsKept server → OwnTable server name table → TableKeepsRules table.def × (length table.def.columns ≤ column_limit)
 own_keeps server name table kept own =
-    let tables = subst (λ (ts : List ServerTable). AllByRecursion KeepsTable ts) kept.tables kept.keeps.tables in
-    let keeps = at_one KeepsTable server.tables own.own tables (at_place_in server.tables table.number own.own own.at_number) in
+    let keeps = at_one KeepsTable server.tables own.own (own_tables_keep server kept) (at_place_in server.tables table.number own.own own.at_number) in
     subst (λ (def : TableDef). TableKeepsRules def × (length def.columns ≤ column_limit)) own.def (keeps.0, keeps.1)
 
 -- if none stands there, the server has no table of the name
@@ -109,3 +114,7 @@ no_table server c name kept stores none = by_found (server_table name kept.befor
     by_found : (o : Option ServerTable) → server_table name kept.before ≡ o → table_named name (tables_of server) ≡ None
     by_found None is = named_is server name kept None is
     by_found (Some t) is = absurd (not_both (is_some (server_table name kept.before)) (ap (λ (o : Option ServerTable). is_some o) is) missing)
+
+-- the definitions of a server's tables can be stored
+pub own_rows_fit : (server : Server) → IsKept server → AllByRecursion (RowFits IsName IsDefinedTable) (table_rows server)
+own_rows_fit server kept = subst (λ (ts : List ServerTable). AllByRecursion (RowFits IsName IsDefinedTable) (table_rows (record server { tables = ts }))) kept.tables (table_rows_are kept.world kept.before kept.keeps).fit

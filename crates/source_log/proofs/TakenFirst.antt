@@ -103,7 +103,7 @@ pub record TookSome (head : Head) (records : List LogRecord) (n : ℕ) (end : He
   pub has : (server : Server) → IsKept server → head ≡ head_of server → Stores server c → HasSome server records n end d
 
 -- a server with no more records
-same_server : (server : Server) → with_more [] server ≡ server
+pub same_server : (server : Server) → with_more [] server ≡ server
 same_server server = ap (λ (l : List LogRecord). record server { log = l }) (append-nil server.log)
 
 -- nothing was taken

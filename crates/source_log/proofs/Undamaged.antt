@@ -1,4 +1,4 @@
--- What a server of a sound world holds shows no damage: proofs.
+-- What a server has whose tables are those of its log shows no damage: proofs.
 use Rattle.std.proofs.Common.{◌≡◌, ℕ, zero, ◌^◌, ◌<◌, List, [], ◌∷◌, inl, inr, refl, sym, ap, subst, ◌∙◌, arith}
 use Rattle.std.specs.Prelude.{slice_get, Option, Some, None}
 use Rattle.std.specs.FinMap.{entries}
@@ -24,31 +24,27 @@ use Rattle.repl_records.specs.RecordKeys.{in_flight_key_spelling, IsInFlightKey,
 use Rattle.repl_records.specs.SourceSide.{head_spelling, in_flight_spelling, source_row_spelling}
 use Rattle.repl_records.specs.declared.source_side.Head.{Head}
 use Rattle.rows_in_order.specs.Rows.{table_from_rows}
-use Rattle.repl_model.specs.Sound.{IsSound}
-use Rattle.repl_model.specs.SoundDefinitions.{ServerKeepsRules}
 use Rattle.repl_model.specs.SoundLogs.{LogIsSound}
 use Rattle.repl_model.specs.SourceAt.{source_at}
 use Rattle.repl_model.specs.Units.{last_commit}
-use Rattle.repl_model.specs.World.{ServerTable, Server, World}
-use Rattle.load_worlds.specs.laws.Members.{In, at_one}
+use Rattle.repl_model.specs.World.{ServerTable, Server}
 use Rattle.site_store.specs.Damage.{IsUndamaged, IsSpelt}
 use Rattle.site_store.specs.laws.Damage.{rows_spelt}
 use Rattle.world_store.specs.DefinitionRows.{table_rows}
 use Rattle.world_store.specs.LogRows.{log_rows, source_rows, in_flight_rows, head_of, head_rows}
-use Rattle.world_store.specs.Stands.{Holds}
-use Rattle.world_store.specs.Tables.{no_rows, tables, first_table}
+use Rattle.world_store.specs.Tables.{no_rows, first_table}
 use Rattle.stored_defs.specs.Reading.{RowFits}
 use Rattle.stored_defs.specs.laws.Lists.{all_map, all_numbered}
-use Rattle.stored_defs.specs.laws.Rows.{table_rows_are}
 use Rattle.log_rows.specs.InFlight.{InFlightRow, InFlightRowsStand, OpenChangesAreRows, OpenChangesAreStored}
 use Rattle.log_rows.specs.LongerTables.{HeadFits}
 use Rattle.log_rows.specs.SourceLogs.{SourceRowsStand}
 use Rattle.log_rows.specs.SourceTables.{StandsUnderKey, stored_row}
 use Rattle.source_log.specs.Rules.{all_rules, is_called_for, is_stray, is_past_end, IsInFlight, IsKeptChange}
-use Rattle.source_log.specs.Storing.{Stores, MayBeLogged}
+use Rattle.source_log.specs.Storing.{IsKept, Stores, StoresWhole, MayBeLogged}
 use Rattle.source_log.proofs.Extending.{some_none, some_is}
-use Rattle.source_log.proofs.HeldTables.{held_tables, held_end, held_last}
+use Rattle.source_log.proofs.HeldTables.{whole_end, whole_last}
 use Rattle.source_log.proofs.KeptFlights.{flight_kept}
+use Rattle.source_log.proofs.OwnTables.{own_rows_fit}
 
 -- a row's key and value are a key and a value of its table
 abbrev RowSpelt : {A X : Type 0} → Area → ℕ → (A → List ℕ) → (X → List ℕ) → A × X → Type 0
@@ -72,30 +68,34 @@ in_flight_spelt stand server sound =
     all_weaker (λ (r : InFlightRow). IsInFlightKey r.0 × (0 < r.0.pos)) spelt (in_flight_rows server) (λ r fit. ((r.0, fit.0, refl), (r.1, tt, refl))) (stand server sound).fit
 
 -- and of each table of a server
-tables_spelt : (world : World) (server : Server) → ServerKeepsRules world server → AllByRecursion (RowSpelt areas.Defs 0 short_text defined_table_spelling) (table_rows server)
-tables_spelt world server keeps =
+tables_spelt : (server : Server) → IsKept server → AllByRecursion (RowSpelt areas.Defs 0 short_text defined_table_spelling) (table_rows server)
+tables_spelt server kept =
     let spelt = RowSpelt areas.Defs 0 short_text defined_table_spelling in
-    all_weaker (RowFits IsName IsDefinedTable) spelt (table_rows server) (λ r fit. (tt, (r.1, fit.1, refl))) (table_rows_are world server keeps).fit
+    all_weaker (RowFits IsName IsDefinedTable) spelt (table_rows server) (λ r fit. (tt, (r.1, fit.1, refl))) (own_rows_fit server kept)
 
 module _ (in_flight : InFlightRowsStand) (are_rows : OpenChangesAreRows) (stored : OpenChangesAreStored) (source : SourceRowsStand) (fits : HeadFits) where
-  module _ (world : World) (server : Server) (c : Contents) (keeps : ServerKeepsRules world server) (sound : LogIsSound server) (holds : Holds world server c) where
+  module _ (server : Server) (c : Contents) (whole : StoresWhole server c) where
+    -- its log is sound
+    sound : LogIsSound server
+    sound = whole.kept.log
+
     -- what is stored is the server's
     stores : Stores server c
-    stores = held_tables world server c holds
+    stores = whole.stores
 
     -- ---- spelling
 
     -- what is held of the end of the log is the row of the server's
     held_head : (key value : List ℕ) → c areas.Head 0 key ≡ Some value → table_from_rows single_spelling head_spelling (head_rows server) key ≡ Some value
-    unfolding tables first_table
-    held_head key value has = sym (ap (λ (t : Table). t key) (holds areas.Head 0)) ∙ found (c areas.Head 0 key) has
+    unfolding first_table
+    held_head key value has = sym (ap (λ (t : Table). t key) whole.end) ∙ found (c areas.Head 0 key) has
       where
         found : (o : Option (List ℕ)) → o ≡ Some value → option_or o (table_from_rows single_spelling head_spelling ((record {}, first_head) ∷ []) key) ≡ Some value
         found None e = absurd (some_none (sym e))
         found (Some v) e = e
 
     -- each entry is a key and a value of its table
-    all_spelt : IsSpelt all_rules c
+    pub all_spelt : IsSpelt all_rules c
     all_spelt areas.Log zero key value has = rows_spelt all_rules areas.Log 0 b64 log_spelling (log_rows server) key value (log_spelt server sound) (sym (ap (λ (t : Table). t key) stores.log) ∙ has)
     all_spelt areas.Source n key value has = by_table (slice_get server.tables n) (sym (ap (λ (t : Table). t key) (stores.source n)) ∙ has)
       where
@@ -111,14 +111,14 @@ module _ (in_flight : InFlightRowsStand) (are_rows : OpenChangesAreRows) (stored
         rows_spelt all_rules areas.Head 0 single_spelling head_spelling (head_rows server) key value spelt (held_head key value has)
     all_spelt areas.Defs zero key value has =
         let there = sym (ap (λ (t : Table). t key) stores.defs) ∙ has in
-        rows_spelt all_rules areas.Defs 0 short_text defined_table_spelling (table_rows server) key value (tables_spelt world server keeps) there
+        rows_spelt all_rules areas.Defs 0 short_text defined_table_spelling (table_rows server) key value (tables_spelt server whole.kept) there
     all_spelt a t key value has = (tt, tt)
 
     -- ---- changes in flight, and the end of the log
 
     -- the log has each change in flight, and it may stand at its table
     kept : (tx pos : ℕ) → IsInFlight tx c pos → (change : Change) × IsKeptChange tx c pos change
-    kept = flight_kept world server keeps sound c stores in_flight are_rows stored
+    kept = flight_kept server whole.kept c stores in_flight are_rows stored
 
     -- nothing that is called for is missing
     none_absent : (a : Area) (t : ℕ) (key : List ℕ) → c a t key ≡ None → is_called_for a t key c → ⊥
@@ -138,12 +138,12 @@ module _ (in_flight : InFlightRowsStand) (are_rows : OpenChangesAreRows) (stored
     -- no record is past the end of the log
     none_past : (a : Area) (t : ℕ) (key value : List ℕ) → c a t key ≡ Some value → is_past_end a t key value c → ⊥
     none_past areas.Log zero key value has h =
-        let is : h.0 ≡ head_of server = held_end world server c holds fits sound h.0 h.1 h.2 in
-        some_none (sym has ∙ held_last world server c holds sound key (subst (λ (head : Head). bytes_cmp (b64 head.last) key ≡ Less) is h.3))
+        let is : h.0 ≡ head_of server = whole_end server c fits whole h.0 h.1 h.2 in
+        some_none (sym has ∙ whole_last server c whole key (subst (λ (head : Head). bytes_cmp (b64 head.last) key ≡ Less) is h.3))
     none_past a t key value has h = h
 
     -- so no damage is shown
-    none_shown : IsUndamaged all_rules c
+    pub none_shown : IsUndamaged all_rules c
     none_shown a (causes.Spelling bytes) h = elim h.1 [
       | inl key ↦ key.0 (all_spelt a h.0 bytes key.1.0 key.1.1).0
       | inr value ↦ value.0 (all_spelt a h.0 value.1.0 bytes value.1.1).1
@@ -154,9 +154,3 @@ module _ (in_flight : InFlightRowsStand) (are_rows : OpenChangesAreRows) (stored
       | inr past ↦ none_past a h.0 h.1.0 bytes h.1.1 past
     ]
     none_shown a (causes.NoRest steps) h = h
-
-  -- by all rules of an append
-  pub undamaged : (world : World) (server : Server) (c : Contents) → IsSound world → In server world → Holds world server c → IsUndamaged all_rules c
-  undamaged world server c sound member holds =
-      let keeps = at_one (ServerKeepsRules world) world server sound.definitions.servers member in
-      none_shown world server c keeps (at_one LogIsSound world server sound.logs member) holds

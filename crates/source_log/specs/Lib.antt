@@ -5,3 +5,6 @@ pub mod Reading
 pub mod Making
 pub mod Storing
 pub mod Appending
+pub mod Scanning
+pub mod Units
+pub mod laws

@@ -25,10 +25,11 @@ use Rattle.repl_model.specs.SoundLogs.{LogIsSound, log_limit}
 use Rattle.repl_model.specs.Longer.{with_more}
 use Rattle.world_store.specs.DefinitionRows.{table_rows}
 use Rattle.world_store.specs.LogRows.{head_of}
+use Rattle.world_store.specs.Stands.{shown}
 use Rattle.world_store.specs.Tables.{source_table}
 use Rattle.log_store.specs.LongerServers.{is_of_log}
 use Rattle.log_rows.specs.InFlight.{in_flight_table}
-use Rattle.log_rows.specs.LongerTables.{log_table, head_after}
+use Rattle.log_rows.specs.LongerTables.{log_table, head_after, head_table}
 use Rattle.site_store.specs.Damage.{AddsOnlySpelt}
 use Rattle.log_worlds.specs.LongerLogs.{is_users, IsEarly}
 use Rattle.source_log.specs.Rules.{rules, flight_key, HasTable, IsKeptChange}
@@ -52,6 +53,12 @@ pub record Stores (server : Server) (c : Contents) : Type 0 where
   pub source : (n : ℕ) → c areas.Source n ≡ source_table server n
   pub in_flight : c areas.Inflight 0 ≡ in_flight_table server
   pub defs : c areas.Defs 0 ≡ table_from_rows short_text defined_table_spelling (table_rows server)
+
+-- The contents have all tables of a server's log, its end among them.
+pub record StoresWhole (server : Server) (c : Contents) : Type 0 where
+  pub kept : IsKept server
+  pub stores : Stores server c
+  pub end : shown server areas.Head 0 (c areas.Head 0) ≡ head_table server
 
 -- after a commit, the source is what the changes that its transaction had in flight make of the source before
 abbrev pub CommitMakesChanges : Type 0

@@ -38,7 +38,7 @@ const FIRST_HEAD: Head = Head {
 };
 
 /// The end of the log of a server. It is damage if the log has a record after it.
-fn read_end<K: Keeper>(sites: &mut Sites<K>, alloc: Global, server: u32) -> Result<Head, Fault>
+pub fn read_end<K: Keeper>(sites: &mut Sites<K>, alloc: Global, server: u32) -> Result<Head, Fault>
     requires { server < length (names sites.old) }
     ensures ok { OnOk result (Looks K.kept sites.old sites.new) }
     ensures end { IfOk result (λ head. IfSome (sees K.kept sites.old server)

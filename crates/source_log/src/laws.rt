@@ -26,6 +26,7 @@ ghost use Rattle.log_store.specs.LongerServers.{LoggedHolds, OthersHold};
 ghost use Rattle.log_rows.specs.SourceReads.{InsertIsDecided, DeleteIsDecided, UpdateIsDecided};
 ghost use Rattle.log_rows.specs.SourceReads.{MoveIsDecided};
 ghost use Rattle.source_log.specs.Storing.{CommitMakesChanges};
+ghost use Rattle.source_log.specs.Units.{ChangeOpens, CommitCloses, ChangeLeavesRows};
 
 use log_rows::{
     a_change_is_in_flight, a_change_is_stored, a_commit_is_stored, a_log_gets_a_row,
@@ -34,7 +35,7 @@ use log_rows::{
 };
 use log_store::{a_server_with_more_records_holds, the_others_hold};
 use log_worlds::{users_records_keep_a_log_sound, users_records_stay_sound};
-use repl_model::source_grows;
+use repl_model::{in_flight_grows, source_grows};
 use repl_records::records_of_64_values_are_storable;
 use row_codec::{length_of_a_key, rows_of_64_values_are_storable};
 
@@ -128,4 +129,14 @@ pub fn laws_of_worlds()
     a_server_with_more_records_holds();
     the_others_hold();
     the_head_goes_on();
+}
+
+/// What the records of a unit make of a log.
+pub fn laws_of_units()
+    ensures opens { ChangeOpens }
+    ensures closes { CommitCloses }
+    ensures leaves { ChangeLeavesRows }
+{
+    in_flight_grows();
+    source_grows();
 }

@@ -10,6 +10,11 @@
 //! change fits its table, on `log_rows`, which says what one more record makes of stored tables,
 //! and on `log_worlds` and `log_store`, which show what that makes of a world.
 //!
+//! `append_unit` appends one more unit of the program's own, inside a transaction that is open: its
+//! changes are made as they are put into the log, so none of them is ever among the changes in
+//! flight. `last_commit` reads the end of a log, and `scan_table` the committed rows of a table,
+//! one after another; neither needs a transaction.
+//!
 //! For example, transaction 5 inserts a row, and so does transaction 6 with the same key. Both
 //! changes are applicable. If 5 commits first, the commit of 6 isn't applicable.
 #![tactic(auto)]
@@ -21,9 +26,13 @@ mod laws;
 mod making;
 mod outcome;
 mod progress;
+mod reads;
 mod source;
 mod step;
 mod steps;
 mod taking;
+mod units;
 
 pub use appending::append;
+pub use reads::{last_commit, scan_table};
+pub use units::append_unit;

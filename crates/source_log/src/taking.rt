@@ -33,7 +33,7 @@ use site_store::Sites;
 use std::alloc::Global;
 
 /// The most records of a log.
-const LOG_LIMIT: u64 = 1_999_999_999;
+pub const LOG_LIMIT: u64 = 1_999_999_999;
 
 /// Whether the log has room for one more record.
 fn has_room(head: &Head) -> bool

@@ -1,0 +1,196 @@
+-- The next committed row of a table of the source: proofs.
+use Rattle.std.proofs.Common.{◌≡◌, ℕ, ◌<◌, Bool, true, false, cond, List, [], ◌∷◌, length, map, refl, sym, ap, subst, ◌∙◌}
+use Rattle.std.specs.Prelude.{T, ◌&&◌, Option, Some, None, nat_lt}
+use Rattle.std.specs.FinMap.{entries, entries_sorted}
+use Rattle.std.specs.FinMap.Entries.{below_all, is_sorted}
+use Rattle.std.specs.List.{AllByRecursion, list_all}
+use Rattle.std.specs.Option.{option_map_or, option_map}
+use Rattle.std.specs.Ordering.{is_lt}
+use Rattle.std.specs.declared.cmp.Ordering.{Ordering}
+use Rattle.std.specs.declared.cmp.Ordering.TheVariants.{Less, Equal, Greater}
+use Rattle.std.proofs.lemmas.Bool.{and_parts, ltb-true}
+use Rattle.repl_types.specs.Value.{Values, key_cmp}
+use Rattle.repl_types.specs.declared.area.Area.TheVariants as areas
+use Rattle.repl_types.specs.declared.table.TableDef.{TableDef}
+use Rattle.repl_types.specs.laws.Lists.{all_weaker, filter_none}
+use Rattle.faults.specs.declared.fault.Fault.{Fault}
+use Rattle.keep_core.specs.Kept.{Kept}
+use Rattle.keep_core.specs.Contents.{Contents, Table, IsNextKey, IsLastKey, same_key}
+use Rattle.row_codec.specs.Spelling.{IsKey, IsRow, key_spelling, row_spelling}
+use Rattle.row_codec.specs.laws.Ones.{one_whole}
+use Rattle.row_codec.specs.laws.Values.{order_key, one_key, one_row}
+use Rattle.repl_definitions.specs.declared.defined.DefinedTable.{DefinedTable}
+use Rattle.repl_records.specs.SourceSide.{source_row_spelling, IsSourceRow}
+use Rattle.rows_in_order.specs.Rows.{table_from_rows, rows_after, is_before, AllAfter, IsRising, SpellsApart, NextRow}
+use Rattle.rows_in_order.specs.laws.After.{after_all, after_first, after_next}
+use Rattle.rows_in_order.specs.laws.Fitting.{fits_each, fits_next}
+use Rattle.rows_in_order.specs.laws.Found.{all_some}
+use Rattle.rows_in_order.specs.laws.Rising.{no_row}
+use Rattle.repl_model.specs.Rules.{all_places, are_among, may_be_key}
+use Rattle.repl_model.specs.SoundDefinitions.{KeepsTable}
+use Rattle.repl_model.specs.SourceAt.{source_at}
+use Rattle.repl_model.specs.Tables.{Rows, key_of}
+use Rattle.repl_model.specs.Units.{last_commit}
+use Rattle.repl_model.specs.World.{ServerTable, Server}
+use Rattle.load_worlds.specs.laws.Entries.{at_place_in}
+use Rattle.load_worlds.specs.laws.Members.{at_one}
+use Rattle.world_store.specs.LogRows.{source_rows}
+use Rattle.world_store.specs.Tables.{no_rows}
+use Rattle.log_rows.specs.SourceLogs.{SourceRowsStand}
+use Rattle.log_rows.specs.SourceTables.{stored_row, StandsUnderKey, RowsStand, KeysOfRowsFit}
+use Rattle.site_store.specs.declared.sites.Sites.{Sites}
+use Rattle.site_store.specs.Calls.{reads_of_one, AtServer, Blames, Fails}
+use Rattle.site_store.specs.Damage.{Rules, IsUndamaged, IsSpelt, IsNoDamage}
+use Rattle.site_store.specs.Records.{after_key, Misread, MisspeltNext}
+use Rattle.site_store.specs.Views.{sees}
+use Rattle.site_store.specs.laws.Counts.{at_most_itself}
+use Rattle.site_store.specs.laws.Damage.{rows_spelt, spelt_undamaged, no_damage}
+use Rattle.site_store.specs.laws.Steps.{next_fails}
+use Rattle.stored_defs.specs.Reading.{RowFits, table_rules}
+use Rattle.source_log.specs.Calls.{Stops}
+use Rattle.source_log.specs.Scanning.{HasCommitted, rows_left, IsFirstLeft, ShowsBadRow}
+use Rattle.source_log.proofs.Calls.{stops_at}
+use Rattle.source_log.proofs.MayStand.{some_byte}
+use Rattle.source_log.proofs.OwnTables.{own_tables_keep}
+
+-- an entry of the rows of a table
+abbrev Entry : Type 0
+Entry = Values × Values
+
+-- ---- keys in order
+
+-- a test of two that both pass
+both_pass : (a b : Bool) → T (a && b) → T a × T b
+both_pass true b e = (tt, e)
+both_pass false b e = absurd e
+
+-- a test for less
+is_less : (o : Ordering) → T (is_lt o) → o ≡ Less
+is_less Less e = refl
+is_less Equal e = absurd e
+is_less Greater e = absurd e
+
+-- entries whose keys are above one are after it
+above_after : (key : Values) (es : List Entry) → IsKey key → AllByRecursion (λ (e : Entry). IsKey e.0) es → T (below_all key_cmp key es) → AllAfter key_spelling (key_spelling key) es
+above_after key [] fit all below = tt
+above_after key (e ∷ es) fit all below =
+    let parts = both_pass (is_lt (key_cmp key e.0)) (below_all key_cmp key es) below in
+    (order_key key e.0 fit all.0 ∙ is_less (key_cmp key e.0) parts.0, above_after key es fit all.1 parts.1)
+
+-- sorted entries rise
+entries_rise : (es : List Entry) → AllByRecursion (λ (e : Entry). IsKey e.0) es → T (is_sorted key_cmp es) → IsRising key_spelling es
+entries_rise [] all sorted = tt
+entries_rise (e ∷ es) all sorted =
+    let parts = both_pass (below_all key_cmp e.0 es) (is_sorted key_cmp es) sorted in
+    (above_after e.0 es all.0 all.1 parts.0, entries_rise es all.1 parts.1)
+
+-- the stored table of entries is made of them
+table_of_entries : (es : List Entry) → table_from_rows key_spelling source_row_spelling (map stored_row es) ≡ table_from_rows key_spelling row_spelling es
+table_of_entries [] = refl
+table_of_entries (e ∷ es) = λ i k. cond (same_key (key_spelling e.0) k) (Some (row_spelling e.1)) (table_of_entries es i k)
+
+-- entries are told apart by their spellings
+entries_apart : SpellsApart (RowFits IsKey IsRow) key_spelling row_spelling
+entries_apart r s fr fs keys values = λ i. (one_key r.0 s.0 fr.0 fs.0 keys i, one_whole IsRow row_spelling one_row r.1 s.1 fr.1 fs.1 values i)
+
+-- ---- the rows of a table
+
+module _ (keys : KeysOfRowsFit) (stand : SourceRowsStand) (server : Server) (table : DefinedTable) (c : Contents) (has : HasCommitted server table c) where
+  -- its committed rows
+  abbrev rows : Rows
+  rows = source_at table.def server.log (last_commit server.log)
+
+  -- they stand under their keys
+  rows_stand : RowsStand table.def rows
+  rows_stand = stand server table.def has.kept.log
+
+  -- and can be spelled
+  rows_fit : AllByRecursion (RowFits IsKey IsRow) (entries rows)
+  rows_fit = all_weaker (StandsUnderKey table.def) (RowFits IsKey IsRow) (entries rows) (λ e s. (subst IsKey (sym s.own) (keys table.def e.1 s.row), s.row)) rows_stand
+
+  -- their keys rise
+  rows_rise : IsRising key_spelling (entries rows)
+  rows_rise = entries_rise (entries rows) (all_weaker (RowFits IsKey IsRow) (λ (e : Entry). IsKey e.0) (entries rows) (λ e fit. fit.0) rows_fit) (entries_sorted rows)
+
+  -- the table has a key
+  keyed : 0 < length table.def.key
+  keyed =
+      let keeps = at_one KeepsTable server.tables has.own (own_tables_keep server has.kept) (at_place_in server.tables table.number has.own has.at_number) in
+      let def = has.own.def in
+      let key = and_parts (nat_lt 0 (length def.key)) (list_all (may_be_key def) def.key) (and_parts (nat_lt 0 (length def.key) && list_all (may_be_key def) def.key) (are_among (all_places def) def.fixed) keeps.0.key).0 in
+      subst (λ (d : TableDef). 0 < length d.key) has.def (ltb-true 0 (length def.key) key.0)
+
+  -- so no key is spelled by nothing
+  rows_after_all : rows_after key_spelling [] (entries rows) ≡ entries rows
+  rows_after_all = after_all key_spelling [] (entries rows) (all_some key_spelling (entries rows) (all_weaker (StandsUnderKey table.def) (λ (e : Entry). 0 < length (key_spelling e.0)) (entries rows) (λ e s. subst (λ (k : Values). 0 < length (key_spelling k)) (sym s.own) (some_byte table.def.key e.1 keyed)) rows_stand))
+
+  -- the contents have them
+  stored : c areas.Source table.number ≡ table_from_rows key_spelling row_spelling (entries rows)
+  stored =
+      has.source
+      ∙ ap (λ (o : Option ServerTable). option_map_or (λ t. table_from_rows key_spelling source_row_spelling (source_rows server t.def)) o no_rows) has.at_number
+      ∙ ap (λ (d : TableDef). table_from_rows key_spelling source_row_spelling (source_rows server d)) has.def
+      ∙ table_of_entries (entries rows)
+
+  -- the rows that are left are those after the key of the last one
+  left_are : (after : Option Values) → rows_left table.def after rows ≡ map (λ e. e.1) (rows_after key_spelling (after_key key_spelling (option_map (key_of table.def) after)) (entries rows))
+  left_are None = ap (map (λ (e : Entry). e.1)) (sym rows_after_all)
+  left_are (Some row) = refl
+
+  -- the same of a key that is known to be that
+  left_after : (after last : Option Values) → last ≡ option_map (key_of table.def) after → rows_left table.def after rows ≡ map (λ e. e.1) (rows_after key_spelling (after_key key_spelling last) (entries rows))
+  left_after after last is = left_are after ∙ ap (λ (o : Option Values). map (λ (e : Entry). e.1) (rows_after key_spelling (after_key key_spelling o) (entries rows))) (sym is)
+
+  -- if no key is after it, none is left
+  pub none_next : (after last : Option Values) → last ≡ option_map (key_of table.def) after → IsLastKey (c areas.Source table.number) (after_key key_spelling last) → IsFirstLeft table.def after None rows
+  none_next after last is ends =
+      let from = after_key key_spelling last in
+      let none = no_row key_spelling row_spelling (entries rows) from (subst (λ (t : Table). IsLastKey t from) stored ends) in
+      left_after after last is ∙ ap (map (λ (e : Entry). e.1)) (filter_none (λ (e : Entry). is_before from (key_spelling e.0)) (entries rows) none)
+
+  -- the row of the next key is the first that is left
+  pub some_next : (after last : Option Values) → last ≡ option_map (key_of table.def) after → (key row : Values) → IsKey key → IsRow row → IsNextKey (c areas.Source table.number) (after_key key_spelling last) (key_spelling key) (row_spelling row) → IsFirstLeft table.def after (Some row) rows
+  some_next after last is key row fit_key fit next =
+      let es = entries rows in
+      let from = after_key key_spelling last in
+      let r : NextRow key_spelling es from (key, row) = fits_next (RowFits IsKey IsRow) key_spelling row_spelling es from (key, row) entries_apart rows_fit (fit_key, fit) rows_rise (subst (λ (t : Table). IsNextKey t from (key_spelling key) (row_spelling row)) stored next) in
+      let own : key ≡ key_of table.def row = (fits_each (StandsUnderKey table.def) es (key, row) rows_stand (record { front = r.front; back = r.back; split = r.split })).own in
+      left_after after last is
+      ∙ ap (map (λ (e : Entry). e.1)) (after_first key_spelling es from (key, row) r)
+      ∙ ap (λ (l : List Entry). row ∷ map (λ (e : Entry). e.1) l) (sym (after_next key_spelling es from (key, row) r))
+      ∙ ap (λ (k : Values). row ∷ map (λ (e : Entry). e.1) (rows_after key_spelling (key_spelling k) es)) own
+
+  -- the contents show no damage of it
+  rows_undamaged : IsUndamaged (table_rules IsKey key_spelling IsSourceRow source_row_spelling areas.Source table.number) c
+  rows_undamaged = spelt_undamaged of_table (λ a t key d h. h, λ a t key value d h. h) c spelt
+    where
+      of_table : Rules
+      of_table = table_rules IsKey key_spelling IsSourceRow source_row_spelling areas.Source table.number
+
+      each : AllByRecursion (λ (e : Entry). of_table.is_key areas.Source table.number (key_spelling e.0) × of_table.is_value areas.Source table.number (row_spelling e.1)) (entries rows)
+      each = all_weaker (RowFits IsKey IsRow) (λ (e : Entry). of_table.is_key areas.Source table.number (key_spelling e.0) × of_table.is_value areas.Source table.number (row_spelling e.1)) (entries rows) (λ e fit. (λ _ _. (e.0, fit.0, refl), λ _ _. (record { row = e.1 }, fit.1, refl))) rows_fit
+
+      there : (key value : List ℕ) → c areas.Source table.number key ≡ Some value → of_table.is_key areas.Source table.number key × of_table.is_value areas.Source table.number value
+      there key value is = rows_spelt of_table areas.Source table.number key_spelling row_spelling (entries rows) key value each (sym (ap (λ (t : Table). t key) stored) ∙ is)
+
+      spelt : IsSpelt of_table c
+      spelt a t key value is = (
+        λ area number. (there key value (sym (λ i. c (area i) (number i) key) ∙ is)).0 refl refl,
+        λ area number. (there key value (sym (λ i. c (area i) (number i) key) ∙ is)).1 refl refl,
+      )
+
+-- ---- reads
+
+module _ {K : Type 0} (kept : K → Kept) (s0 s1 : Sites K) (server : ℕ) where
+  -- the next row can't be read
+  pub scan_fails : (number : ℕ) (after : List ℕ) (e : Fault) → Fails kept s0 s1 (reads_of_one 1 server areas.Source) (AtServer server (Misread areas.Source (MisspeltNext IsKey key_spelling IsSourceRow source_row_spelling areas.Source number after (sees kept s0 server)))) e → Stops kept s0 s1 (ShowsBadRow kept s0 server number) e
+  scan_fails number after e f =
+      let of_table = table_rules IsKey key_spelling IsSourceRow source_row_spelling areas.Source number in
+      let most = reads_of_one 1 server areas.Source in
+      stops_at kept s0 s1 most (ShowsBadRow kept s0 server number) e (next_fails kept IsKey key_spelling IsSourceRow source_row_spelling (λ s. s ≡ server) of_table s0 s1 server areas.Source number after most e refl (λ bytes h. h refl refl) (λ bytes h. h refl refl) (at_most_itself most) f)
+
+  -- no damage is reported of committed rows
+  pub none_bad : KeysOfRowsFit → SourceRowsStand → (of : Server) (table : DefinedTable) (c : Contents) → HasCommitted of table c → sees kept s0 server ≡ Some c → (e : Fault) → Blames kept s0 s1 (ShowsBadRow kept s0 server table.number) e → IsNoDamage e
+  none_bad keys stand of table c has seen e blames =
+      let of_table = table_rules IsKey key_spelling IsSourceRow source_row_spelling areas.Source table.number in
+      no_damage kept s0 s1 (λ s. s ≡ server) of_table e (λ s is. subst (λ (k : ℕ). (d : Contents) × (sees kept s0 k ≡ Some d) × IsUndamaged of_table d) (sym is) (c, seen, rows_undamaged keys stand of table c has)) blames
