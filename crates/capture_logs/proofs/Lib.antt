@@ -1,0 +1,4 @@
+mod Fronts
+mod InFlight
+mod Restarts
+mod NextUnits

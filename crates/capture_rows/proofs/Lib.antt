@@ -1,0 +1,13 @@
+mod Rising
+mod Units
+mod Puts
+mod Earlier
+mod Registrations
+mod Slots
+mod RowsSoFar
+mod States
+mod OneChange
+mod Counts
+mod Begins
+mod GoesOn
+mod Ends

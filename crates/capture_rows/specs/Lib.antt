@@ -1,0 +1,2 @@
+pub mod StoredChanges
+pub mod StoredCaptures

@@ -1,0 +1,3 @@
+mod Stays
+mod Worlds
+mod Captured

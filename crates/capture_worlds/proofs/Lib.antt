@@ -1,0 +1,5 @@
+mod NextUnits
+mod OneServer
+mod OneSet
+mod Definitions
+mod StaysSound

@@ -1,0 +1,4 @@
+pub mod Captures
+pub mod StaysSound
+pub mod WorkedCaptures
+pub mod laws
