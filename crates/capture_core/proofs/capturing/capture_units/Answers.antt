@@ -1,0 +1,170 @@
+use Rattle.std.proofs.Common.{◌≡◌, ◌<◌, arith}
+use Rattle.std.proofs.lemmas.Result.{err_from_is_err_and}
+use Rattle.capture_core.proofs.Ends.{begin_fails, read_fails, commit_fails, due_if_full, all_if_most, all_if_none, end_ok, end_err}
+use Rattle.capture_core.proofs.Faults.{not_begun}
+use Rattle.capture_core.proofs.UnderWay.{IsCalled, starts, takes_unit, takes_all, next_batch}
+use Rattle.capture_core.proofs.capturing.capture_units.Goals as goal
+
+pub returns-in_err-progress-clause-fault : goal.returns-in_err-progress-clause-fault
+returns-in_err-progress-clause-fault g c =
+    let kept = g.K.Keeper.kept in
+    let s0 = c.args.sites.now in
+    let n = c.args.server in
+    let every = c.args.every in
+    let most = c.args.most in
+    let call : IsCalled kept s0 n every most = record { laws = c.laws_of_worlds.ensures; closed = c.requires.closed; lt = c.requires.server; some = c.requires.every; small = omega arith } in
+    let e = err_from_is_err_and c.from_residual.result c.from_residual.ensures.1 in
+    rw (e.1, e.2) (begin_fails kept s0 n every most call c.begin_capture.new.sites c.in_err-progress.field-0.0 c.in_err-progress.ensures.fault)
+
+pub units-init : goal.units-init
+units-init g c =
+    let kept = g.K.Keeper.kept in
+    let s0 = c.args.sites.now in
+    let n = c.args.server in
+    let every = c.args.every in
+    let most = c.args.most in
+    let call : IsCalled kept s0 n every most = record { laws = c.laws_of_worlds.ensures; closed = c.requires.closed; lt = c.requires.server; some = c.requires.every; small = omega arith } in
+    let begins = c.in_ok-progress.ensures.start in
+    record {
+      way = starts kept s0 n every most call c.begin_capture.new.sites c.in_ok-progress.progress c.in_ok-progress.ensures.ok begins c.in_ok-progress.ensures.typed;
+      batch = omega (arith, begins.waiting, call.some);
+    }
+
+pub returns-in_err-take_unit-clause-fault : goal.returns-in_err-take_unit-clause-fault
+returns-in_err-take_unit-clause-fault g c =
+    let kept = g.K.Keeper.kept in
+    let s0 = c.args.sites.now in
+    let n = c.args.server in
+    let every = c.args.every in
+    let most = c.args.most in
+    let call : IsCalled kept s0 n every most = record { laws = c.laws_of_worlds.ensures; closed = c.requires.closed; lt = c.requires.server; some = c.requires.every; small = omega arith } in
+    let e = err_from_is_err_and c.from_residual-in_err-take_unit.result c.from_residual-in_err-take_unit.ensures.1 in
+    rw (e.1, e.2) (read_fails kept s0 n every most call c.units.sites c.units.progress c.units.invariant.way c.take_unit.new.sites c.in_err-take_unit.field-0.0 c.in_err-take_unit.ensures.fault)
+
+pub returns-then-not-branch-clause-ok : goal.returns-then-not-branch-clause-ok
+returns-then-not-branch-clause-ok g c =
+    let kept = g.K.Keeper.kept in
+    let s0 = c.args.sites.now in
+    let n = c.args.server in
+    let every = c.args.every in
+    let most = c.args.most in
+    let call : IsCalled kept s0 n every most = record { laws = c.laws_of_worlds.ensures; closed = c.requires.closed; lt = c.requires.server; some = c.requires.every; small = omega arith } in
+    let s1 = c.units.sites in
+    let s2 = c.take_unit.new.sites in
+    let p = c.units.progress in
+    let q = c.take_unit.new.progress in
+    let counts = rw c.if-not-branch.true at c.in_ok-take_unit.ensures.counts in
+    let all = takes_all kept s0 n every most call s1 s2 p q c.units.invariant.way (rw c.if-not-branch.true at c.in_ok-take_unit.ensures.ok) c.in_ok-take_unit.ensures.typed counts in
+    let less : q.waiting < every = omega (arith, counts.1, c.units.invariant.batch) in
+    end_ok kept s0 n every most call s2 q all.0 (all_if_none kept s0 n every most call s2 q all.0 all.1) less c.end_capture.new.sites c.end_capture.result c.end_capture.ensures.none c.end_capture.ensures.some c.end_capture.ensures.answer
+
+pub returns-then-not-branch-clause-fault : goal.returns-then-not-branch-clause-fault
+returns-then-not-branch-clause-fault g c =
+    let kept = g.K.Keeper.kept in
+    let s0 = c.args.sites.now in
+    let n = c.args.server in
+    let every = c.args.every in
+    let most = c.args.most in
+    let call : IsCalled kept s0 n every most = record { laws = c.laws_of_worlds.ensures; closed = c.requires.closed; lt = c.requires.server; some = c.requires.every; small = omega arith } in
+    let s1 = c.units.sites in
+    let s2 = c.take_unit.new.sites in
+    let p = c.units.progress in
+    let q = c.take_unit.new.progress in
+    let counts = rw c.if-not-branch.true at c.in_ok-take_unit.ensures.counts in
+    let all = takes_all kept s0 n every most call s1 s2 p q c.units.invariant.way (rw c.if-not-branch.true at c.in_ok-take_unit.ensures.ok) c.in_ok-take_unit.ensures.typed counts in
+    let less : q.waiting < every = omega (arith, counts.1, c.units.invariant.batch) in
+    end_err kept s0 n every most call s2 q all.0 (all_if_none kept s0 n every most call s2 q all.0 all.1) less c.end_capture.new.sites c.end_capture.result c.end_capture.ensures.fault
+
+pub returns-in_err-commit_units-clause-fault : goal.returns-in_err-commit_units-clause-fault
+returns-in_err-commit_units-clause-fault g c =
+    let kept = g.K.Keeper.kept in
+    let s0 = c.args.sites.now in
+    let n = c.args.server in
+    let every = c.args.every in
+    let most = c.args.most in
+    let call : IsCalled kept s0 n every most = record { laws = c.laws_of_worlds.ensures; closed = c.requires.closed; lt = c.requires.server; some = c.requires.every; small = omega arith } in
+    let s1 = c.units.sites in
+    let s2 = c.take_unit.new.sites in
+    let p = c.units.progress in
+    let q = c.take_unit.new.progress in
+    let way = takes_unit kept s0 n every most call s1 s2 p q c.units.invariant.way c.units.invariant.batch c.units-test.true (rw c.if-not-branch.false at c.in_ok-take_unit.ensures.ok) c.in_ok-take_unit.ensures.typed (rw c.if-not-branch.false at c.in_ok-take_unit.ensures.counts) in
+    let full : q.waiting ≡ every = omega (arith, way.batch, c.if-progress-every.true) in
+    let e = err_from_is_err_and c.from_residual-in_err-commit_units.result c.from_residual-in_err-commit_units.ensures.1 in
+    rw (e.1, e.2) (commit_fails kept s0 n every most call s2 q way c.commit_units.new.sites c.in_err-commit_units.field-0.0 (due_if_full kept s0 n every most call s2 q way full) c.in_err-commit_units.ensures.fault)
+
+pub returns-in_err-begin-clause-fault : goal.returns-in_err-begin-clause-fault
+returns-in_err-begin-clause-fault g c =
+    let kept = g.K.Keeper.kept in
+    let s0 = c.args.sites.now in
+    let n = c.args.server in
+    let every = c.args.every in
+    let most = c.args.most in
+    let call : IsCalled kept s0 n every most = record { laws = c.laws_of_worlds.ensures; closed = c.requires.closed; lt = c.requires.server; some = c.requires.every; small = omega arith } in
+    let s1 = c.units.sites in
+    let s2 = c.take_unit.new.sites in
+    let p = c.units.progress in
+    let q = c.take_unit.new.progress in
+    let way = takes_unit kept s0 n every most call s1 s2 p q c.units.invariant.way c.units.invariant.batch c.units-test.true (rw c.if-not-branch.false at c.in_ok-take_unit.ensures.ok) c.in_ok-take_unit.ensures.typed (rw c.if-not-branch.false at c.in_ok-take_unit.ensures.counts) in
+    let full : q.waiting ≡ every = omega (arith, way.batch, c.if-progress-every.true) in
+    let e = err_from_is_err_and c.from_residual-in_err-begin.result c.from_residual-in_err-begin.ensures.1 in
+    let doubt = not_begun kept s2 c.commit_units.new.sites c.begin.new.self n q.state c.in_err-begin.field-0.0 c.in_ok-commit_units.ensures.ok c.in_err-begin.ensures.fault in
+    rw (e.1, e.2) (commit_fails kept s0 n every most call s2 q way c.begin.new.self c.in_err-begin.field-0.0 (due_if_full kept s0 n every most call s2 q way full) doubt)
+
+pub units-preserved-then-progress-every : goal.units-preserved-then-progress-every
+units-preserved-then-progress-every g c =
+    let kept = g.K.Keeper.kept in
+    let s0 = c.args.sites.now in
+    let n = c.args.server in
+    let every = c.args.every in
+    let most = c.args.most in
+    let call : IsCalled kept s0 n every most = record { laws = c.laws_of_worlds.ensures; closed = c.requires.closed; lt = c.requires.server; some = c.requires.every; small = omega arith } in
+    let s1 = c.units.sites in
+    let s2 = c.take_unit.new.sites in
+    let p = c.units.progress in
+    let q = c.take_unit.new.progress in
+    let way = takes_unit kept s0 n every most call s1 s2 p q c.units.invariant.way c.units.invariant.batch c.units-test.true (rw c.if-not-branch.false at c.in_ok-take_unit.ensures.ok) c.in_ok-take_unit.ensures.typed (rw c.if-not-branch.false at c.in_ok-take_unit.ensures.counts) in
+    let full : q.waiting ≡ every = omega (arith, way.batch, c.if-progress-every.true) in
+    record { way = next_batch kept s0 n every most call s2 c.commit_units.new.sites c.begin.new.self q way full c.in_ok-commit_units.ensures.ok c.in_ok-begin.ensures.ok; batch = call.some }
+
+pub units-preserved : goal.units-preserved
+units-preserved g c =
+    let kept = g.K.Keeper.kept in
+    let s0 = c.args.sites.now in
+    let n = c.args.server in
+    let every = c.args.every in
+    let most = c.args.most in
+    let call : IsCalled kept s0 n every most = record { laws = c.laws_of_worlds.ensures; closed = c.requires.closed; lt = c.requires.server; some = c.requires.every; small = omega arith } in
+    let s1 = c.units.sites in
+    let s2 = c.take_unit.new.sites in
+    let p = c.units.progress in
+    let q = c.take_unit.new.progress in
+    let way = takes_unit kept s0 n every most call s1 s2 p q c.units.invariant.way c.units.invariant.batch c.units-test.true (rw c.if-not-branch.false at c.in_ok-take_unit.ensures.ok) c.in_ok-take_unit.ensures.typed (rw c.if-not-branch.false at c.in_ok-take_unit.ensures.counts) in
+    record { way = way; batch = omega (arith, c.if-progress-every.false) }
+
+pub returns-clause-ok : goal.returns-clause-ok
+returns-clause-ok g c =
+    let kept = g.K.Keeper.kept in
+    let s0 = c.args.sites.now in
+    let n = c.args.server in
+    let every = c.args.every in
+    let most = c.args.most in
+    let call : IsCalled kept s0 n every most = record { laws = c.laws_of_worlds.ensures; closed = c.requires.closed; lt = c.requires.server; some = c.requires.every; small = omega arith } in
+    let s1 = c.units.sites in
+    let p = c.units.progress in
+    let way = c.units.invariant.way in
+    let all = all_if_most kept s0 n every most call s1 p way (omega (arith, c.units-test.false)) in
+    end_ok kept s0 n every most call s1 p way all c.units.invariant.batch c.end_capture-2.new.sites c.end_capture-2.result c.end_capture-2.ensures.none c.end_capture-2.ensures.some c.end_capture-2.ensures.answer
+
+pub returns-clause-fault : goal.returns-clause-fault
+returns-clause-fault g c =
+    let kept = g.K.Keeper.kept in
+    let s0 = c.args.sites.now in
+    let n = c.args.server in
+    let every = c.args.every in
+    let most = c.args.most in
+    let call : IsCalled kept s0 n every most = record { laws = c.laws_of_worlds.ensures; closed = c.requires.closed; lt = c.requires.server; some = c.requires.every; small = omega arith } in
+    let s1 = c.units.sites in
+    let p = c.units.progress in
+    let way = c.units.invariant.way in
+    let all = all_if_most kept s0 n every most call s1 p way (omega (arith, c.units-test.false)) in
+    end_err kept s0 n every most call s1 p way all c.units.invariant.batch c.end_capture-2.new.sites c.end_capture-2.result c.end_capture-2.ensures.fault

@@ -1,0 +1,14 @@
+use Rattle.std.proofs.Common.{◌-◌, ◌^◌, false}
+use Rattle.server_steps.specs.Calls.{GoesOn}
+use Rattle.capture_core.specs.Reading.{KeepsTyped, Counts, ReadsOn}
+use Rattle.capture_core.proofs.reading.take_unit.Given as goal
+
+abbrev pub invariant-loop-pos : goal.invariant-loop-pos
+invariant-loop-pos g l = record {
+  typed : KeepsTyped l.progress;
+  counts : Counts false l.fn.progress l.progress;
+  goes : GoesOn g.K.Keeper.kept l.fn.sites l.sites l.server (ReadsOn l.fn.progress l.progress);
+}
+
+abbrev pub decreases-loop-pos : goal.decreases-loop-pos
+decreases-loop-pos g l = 2 ^ 64 - l.progress.read

@@ -1,0 +1,50 @@
+-- What a capture does in a world, and what it leaves of the servers.
+use Rattle.std.specs.Prelude.{◌≡◌, ℕ, ◌+◌, ◌==◌, min, if◌then◌else◌, List, [], ◌∷◌, length, Option}
+use Rattle.faults.specs.declared.fault.Fault.{Fault}
+use Rattle.keep_core.specs.Kept.{Kept}
+use Rattle.site_store.specs.declared.sites.Sites.{Sites}
+use Rattle.site_store.specs.Damage.{IsNoDamage}
+use Rattle.site_store.specs.Views.{names, held}
+use Rattle.run_core.specs.Runs.{Event, commits, Went, Stopped}
+use Rattle.repl_types.specs.declared.unit.Unit.{Unit}
+use Rattle.repl_model.specs.World.{World}
+use Rattle.world_store.specs.Stands.{Stands}
+use Rattle.stored_defs.specs.Known.{server_in}
+use Rattle.capture_worlds.specs.Captures.{with_units, captured, taken_units, all_rows_captured}
+use Rattle.capture_core.specs.Reading.{greatest}
+use Rattle.capture_core.specs.declared.captured.Captured.{Captured}
+
+-- ---- what happens
+
+-- the commits of a capture at the server of a name, when so many units wait for their commit in a world, and these
+-- are captured next: one after each `every` units, and one after the last of them
+abbrev pub commits_of : ℕ → List ℕ → ℕ → World → List Unit → List (Event World)
+commits_of every name waiting w [] = if waiting == 0 then [] else commits w ∷ []
+commits_of every name waiting w (u ∷ us) =
+    let next = captured name (u ∷ []) w in
+    if waiting + 1 == every then commits next ∷ commits_of every name 0 next us
+    else commits_of every name (waiting + 1) next us
+
+-- those of a capture of these units, or of all, at the server with a number
+abbrev pub capture_events : ℕ → Option ℕ → ℕ → World → List (Event World)
+capture_events server units every w = let at = server_in w server in commits_of every at.name 0 w (taken_units units at)
+
+-- what a capture answers
+abbrev pub captured_counts : ℕ → Option ℕ → World → Captured
+captured_counts server units w =
+    let at = server_in w server in
+    let us = taken_units units at in
+    record { upto = (with_units us at).captured; units = min (length us) greatest; rows = min (all_rows_captured us at) greatest }
+
+-- ---- what is left of the servers
+
+module _ {K : Type 0} (kept : K → Kept) (old new : Sites K) where
+  -- All its commits happened, and it answers these counts.
+  pub record HasCapturedAll (server : ℕ) (units : Option ℕ) (every : ℕ) (w : World) (answer : Captured) : Type 0 where
+    pub went : (t : Option (List ℕ)) → Went (Stands (names old)) (capture_events server units every w) w (held kept new) t t
+    pub counts : answer ≡ captured_counts server units w
+
+  -- The first of them happened, and no damage was found.
+  pub record HasStopped (server : ℕ) (units : Option ℕ) (every : ℕ) (w : World) (e : Fault) : Type 0 where
+    pub stopped : (t : Option (List ℕ)) → Stopped (Stands (names old)) (capture_events server units every w) w (held kept new) t t
+    pub undamaged : IsNoDamage e

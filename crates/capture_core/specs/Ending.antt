@@ -1,0 +1,79 @@
+-- How a capture of some of the units that aren't captured ends.
+use Rattle.std.specs.Prelude.{◌≡◌, ℕ, min, List, length, take, Option, Some, None, slice_index_or}
+use Rattle.repl_types.specs.declared.area.Area.{Area}
+use Rattle.repl_types.specs.declared.status.DamageCause.{DamageCause}
+use Rattle.faults.specs.declared.fault.Fault.{Fault}
+use Rattle.keep_core.specs.Kept.{Kept}
+use Rattle.site_store.specs.declared.sites.Sites.{Sites}
+use Rattle.site_store.specs.Damage.{Shows, IsNoDamage}
+use Rattle.site_store.specs.Views.{names, held, fault_counts}
+use Rattle.site_store.specs.Calls.{KeepsServers, Blames, NoneFell}
+use Rattle.run_core.specs.Runs.{Event, Went, Stopped}
+use Rattle.repl_types.specs.declared.unit.Unit.{Unit}
+use Rattle.repl_model.specs.World.{Server, World}
+use Rattle.world_store.specs.Stands.{Stands}
+use Rattle.stored_defs.specs.Known.{server_in}
+use Rattle.log_rows.specs.SourceTables.{TypedChangesHaveRows}
+use Rattle.capture_worlds.specs.Captures.{with_units, uncaptured, all_rows_captured}
+use Rattle.capture_worlds.specs.StaysSound.{CapturesSound, OthersAreNext}
+use Rattle.capture_logs.specs.Reading.{StartsEmpty}
+use Rattle.capture_store.specs.CapturedServers.{HoldsCaptured, CapturedHolds, OthersHold}
+use Rattle.capture_core.specs.Capturing.{commits_of}
+use Rattle.capture_core.specs.Reading.{greatest, UnitsAreWithin}
+use Rattle.capture_core.specs.Rules.{rules}
+use Rattle.capture_core.specs.declared.captured.Captured.{Captured}
+
+-- the most units that are captured, if so many are asked for, or all
+abbrev pub most_units : Option ℕ → ℕ
+most_units None = greatest
+most_units (Some most) = most
+
+-- the first of the units that the server with a number hasn't captured
+abbrev pub first_units : ℕ → ℕ → World → List Unit
+first_units server most w = take most (uncaptured (server_in w server))
+
+-- the commits of their capture
+abbrev pub first_commits : ℕ → ℕ → ℕ → World → List (Event World)
+first_commits server most every w = commits_of every (server_in w server).name 0 w (first_units server most w)
+
+-- what a capture of units answers
+abbrev pub counts_of : List Unit → Server → Captured
+counts_of us server = record { upto = (with_units us server).captured; units = min (length us) greatest; rows = min (all_rows_captured us server) greatest }
+
+-- what a server holds shows damage
+abbrev pub HeldDamage : {K : Type 0} → (K → Kept) → Sites K → ℕ → ℕ → Area → DamageCause → Type 0
+HeldDamage kept sites server s a cause = (s ≡ server) × Shows rules a cause (slice_index_or (held kept sites) server None)
+
+module _ {K : Type 0} (kept : K → Kept) (old new : Sites K) (server most every : ℕ) where
+  -- In a world all its commits happened, and it answers these counts.
+  pub record EndsIn (answer : Captured) (w : World) : Type 0 where
+    pub went : (t : Option (List ℕ)) → Went (Stands (names old)) (first_commits server most every w) w (held kept new) t t
+    pub counts : answer ≡ counts_of (first_units server most w) (server_in w server)
+
+  -- It is so in each world for which the servers stood.
+  pub record HasEnded (answer : Captured) : Type 0 where
+    pub keeps : KeepsServers kept old new
+    pub worlds : (w : World) → Stands (names old) (held kept old) w → EndsIn answer w
+
+  -- In a world the first of its commits happened, and no damage was found.
+  pub record StopsIn (e : Fault) (w : World) : Type 0 where
+    pub stopped : (t : Option (List ℕ)) → Stopped (Stands (names old)) (first_commits server most every w) w (held kept new) t t
+    pub undamaged : IsNoDamage e
+
+  -- It is so in each world for which the servers stood. The names stay, and no count of faults fell.
+  pub record HasFailed (e : Fault) : Type 0 where
+    pub named : names new ≡ names old
+    pub faults : NoneFell (fault_counts kept old) (fault_counts kept new)
+    pub blames : Blames kept old new (HeldDamage kept new server) e
+    pub worlds : (w : World) → Stands (names old) (held kept old) w → StopsIn e w
+
+-- The laws of worlds and of stored tables that this stands on.
+pub record Laws : Type 0 where
+  pub within : UnitsAreWithin
+  pub typed : TypedChangesHaveRows
+  pub empty : StartsEmpty
+  pub sound : CapturesSound
+  pub next : OthersAreNext
+  pub has : HoldsCaptured
+  pub holds : CapturedHolds
+  pub others : OthersHold

@@ -1,0 +1,5 @@
+pub mod Capturing
+pub mod Committing
+pub mod Ending
+pub mod Reading
+pub mod Rules

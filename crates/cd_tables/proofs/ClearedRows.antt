@@ -1,0 +1,109 @@
+-- Change rows are removed, one after another: proofs.
+use Rattle.std.proofs.Common.{◌≡◌, ℕ, Bool, true, false, cond, List, [], ◌∷◌, eq-eqb, inr, refl, sym, ap, subst, ◌∙◌}
+use Rattle.std.specs.Prelude.{◌==◌, ◌&&◌, Option, Some, None}
+use Rattle.std.specs.Ordering.{is_lt, is_eq, ordering_reverse}
+use Rattle.std.specs.declared.cmp.Ordering.{Ordering}
+use Rattle.std.specs.declared.cmp.Ordering.TheVariants.{Less, Equal, Greater}
+use Rattle.std.proofs.lemmas.Bool.{eqb-true}
+use Rattle.repl_types.specs.Area.{same_area}
+use Rattle.repl_types.specs.Bytes.{bytes_cmp}
+use Rattle.repl_types.specs.declared.area.Area.{Area}
+use Rattle.repl_types.specs.declared.area.Area.TheVariants as areas
+use Rattle.keep_core.specs.Contents.{Contents, Table, same_key, set_key}
+use Rattle.row_codec.specs.Spelling.{b16, b64}
+use Rattle.repl_records.specs.RecordKeys.{change_key_spelling}
+use Rattle.repl_records.specs.declared.record_keys.CdKey.{CdKey}
+use Rattle.rows_in_order.specs.Rows.{is_before}
+use Rattle.rows_in_order.specs.laws.Before.{order, is_less, not_both}
+use Rattle.site_store.specs.Damage.{ShownBefore}
+use Rattle.cd_tables.specs.Clearing.{ClearsNext, cleared, with_cleared}
+use Rattle.cd_tables.specs.Rules.{rules}
+use Rattle.cd_tables.proofs.Shown.{adds_shown}
+
+-- The rows of a change-data table up to a key were removed, and no other table changed.
+pub record HasCleared (number : ℕ) (after : List ℕ) (c d : Contents) : Type 0 where
+  pub others : (a : Area) (n : ℕ) → (same_area areas.Cd a && (number == n)) ≡ false → d a n ≡ c a n
+  pub empty : d areas.Cd number [] ≡ c areas.Cd number []
+  pub left : (key value : List ℕ) → d areas.Cd number key ≡ Some value → c areas.Cd number key ≡ Some value
+  pub gone : (key : List ℕ) → bytes_cmp [] key ≡ Less → is_before after key ≡ false → d areas.Cd number key ≡ None
+
+-- no row is up to the empty key
+pub cleared_none : (number : ℕ) (c : Contents) → HasCleared number [] c c
+cleared_none number c = record { others = λ a n other. refl; empty = refl; left = λ key value has. has; gone = λ key some upto. absurd (not_both (is_before [] key) (ap is_lt some) upto) }
+
+-- what is up to a key and isn't that one is before it
+before_key : (k q : List ℕ) → is_before k q ≡ false → same_key k q ≡ false → bytes_cmp q k ≡ Less
+before_key k q upto apart = pick (bytes_cmp k q) refl
+  where
+    pick : (o : Ordering) → bytes_cmp k q ≡ o → bytes_cmp q k ≡ Less
+    pick Less e = absurd (not_both (is_before k q) (ap is_lt e) upto)
+    pick Equal e = absurd (not_both (same_key k q) (ap is_eq e) apart)
+    pick Greater e = order.antisymm q k ∙ ap ordering_reverse e
+
+-- the key of a row isn't empty
+pub not_empty : (key : CdKey) → same_key (change_key_spelling key) [] ≡ false
+unfolding b16 b64
+not_empty key = refl
+
+-- the next row is removed
+pub cleared_next : (number : ℕ) (after : List ℕ) (key : CdKey) (c d e : Contents) → HasCleared number after c d → ClearsNext number after (Some key) d e → HasCleared number (change_key_spelling key) c e
+cleared_next number after key c d e before step = record {
+  others = λ a n other. ap (λ (f : Contents). f a n) step.0 ∙ ap (λ (b : Bool). cond b (set_key (d areas.Cd number) k None) (d a n)) other ∙ before.others a n other;
+  empty = at [] ∙ ap (λ (b : Bool). cond b None (d areas.Cd number [])) (not_empty key) ∙ before.empty;
+  left = λ q value has. before.left q value (still (same_key k q) (d areas.Cd number q) value (sym (at q) ∙ has));
+  gone = λ q some upto. at q ∙ pick q some upto (same_key k q) refl (is_before after q) refl;
+}
+  where
+    k : List ℕ
+    k = change_key_spelling key
+
+    own : e areas.Cd number ≡ set_key (d areas.Cd number) k None
+    own = ap (λ (f : Contents). f areas.Cd number) step.0 ∙ ap (λ (b : Bool). cond b (set_key (d areas.Cd number) k None) (d areas.Cd number)) (eq-eqb number number refl)
+
+    at : (q : List ℕ) → e areas.Cd number q ≡ cond (same_key k q) None (d areas.Cd number q)
+    at q = ap (λ (t : Table). t q) own
+
+    still : (b : Bool) (o : Option (List ℕ)) (value : List ℕ) → cond b None o ≡ Some value → o ≡ Some value
+    still true o value has = absurd cc
+    still false o value has = has
+
+    pick : (q : List ℕ) → bytes_cmp [] q ≡ Less → is_before k q ≡ false → (b : Bool) → same_key k q ≡ b → (t : Bool) → is_before after q ≡ t → cond b None (d areas.Cd number q) ≡ None
+    pick q some upto true same t e = refl
+    pick q some upto false apart true later = step.1 q (is_less (bytes_cmp after q) later) (before_key k q upto apart)
+    pick q some upto false apart false early = before.gone q some early
+
+-- there is no next row, so none is left
+pub cleared_all : (number : ℕ) (after : List ℕ) (c d e : Contents) → HasCleared number after c d → ClearsNext number after None d e → e ≡ with_cleared number c
+cleared_all number after c d e before last = last.0 ∙ (λ i a n. tables a n i)
+  where
+    some_row : (q : List ℕ) → bytes_cmp [] q ≡ Less → (t : Bool) → is_before after q ≡ t → d areas.Cd number q ≡ None
+    some_row q some true later = last.1 q (is_less (bytes_cmp after q) later)
+    some_row q some false early = before.gone q some early
+
+    one : (q : List ℕ) → d areas.Cd number q ≡ cleared (c areas.Cd number) q
+    one [] = before.empty
+    one (b ∷ q) = some_row (b ∷ q) refl (is_before after (b ∷ q)) refl
+
+    at_number : (n : ℕ) (t : Bool) → (number == n) ≡ t → d areas.Cd n ≡ cond t (cleared (c areas.Cd number)) (c areas.Cd n)
+    at_number n true same = ap (λ (m : ℕ). d areas.Cd m) (sym (eqb-true number n same)) ∙ (λ i q. one q i)
+    at_number n false other = before.others areas.Cd n other
+
+    tables : (a : Area) (n : ℕ) → d a n ≡ with_cleared number c a n
+    tables areas.Cd n = at_number n (number == n) refl
+    tables a n = before.others a n refl
+
+-- on the way no damage is shown that wasn't shown before
+pub cleared_shown : (number : ℕ) (after : List ℕ) (c d : Contents) → HasCleared number after c d → ShownBefore rules c d
+cleared_shown number after c d h = adds_shown c d (record {
+  spelt = λ a t key value has. inr (back a t key value has);
+  registrations = h.others areas.Defs 1 refl;
+  states = λ key none. sym (ap (λ (t : Table). t key) (h.others areas.Capture 1 refl)) ∙ none;
+})
+  where
+    at : (t : ℕ) (key value : List ℕ) (b : Bool) → (number == t) ≡ b → d areas.Cd t key ≡ Some value → c areas.Cd t key ≡ Some value
+    at t key value true same has = subst (λ (n : ℕ). c areas.Cd n key ≡ Some value) (eqb-true number t same) (h.left key value (subst (λ (n : ℕ). d areas.Cd n key ≡ Some value) (sym (eqb-true number t same)) has))
+    at t key value false other has = sym (ap (λ (u : Table). u key) (h.others areas.Cd t other)) ∙ has
+
+    back : (a : Area) (t : ℕ) (key value : List ℕ) → d a t key ≡ Some value → c a t key ≡ Some value
+    back areas.Cd t key value has = at t key value (number == t) refl has
+    back a t key value has = sym (ap (λ (u : Table). u key) (h.others a t refl)) ∙ has

@@ -1,0 +1,84 @@
+-- The tables that the capture of a unit leaves as they are: proofs.
+use Rattle.std.proofs.Common.{◌≡◌, ℕ, zero, suc, ◌≢◌, Bool, true, false, cond, List, [], ◌∷◌, inl, inr, refl, ap, ◌∙◌, arith}
+use Rattle.std.specs.Prelude.{◌==◌, Some}
+use Rattle.std.proofs.lemmas.Bool.Decides.{nat_tests}
+use Rattle.repl_types.specs.declared.area.Area.{Area}
+use Rattle.repl_types.specs.declared.area.Area.TheVariants as areas
+use Rattle.repl_types.specs.declared.change_row.CdRow.{CdRow}
+use Rattle.repl_types.specs.declared.record.Change.{Change}
+use Rattle.repl_types.specs.declared.record.Change.TheVariants.{Insert, Update, Delete, Start, Stop}
+use Rattle.repl_types.specs.declared.unit.Placed.{Placed}
+use Rattle.keep_core.specs.Contents.{Contents, Table, set_key, with_table}
+use Rattle.row_codec.specs.Spelling.{b32}
+use Rattle.repl_definitions.specs.declared.defined.DefinedRegistration.{DefinedRegistration}
+use Rattle.repl_records.specs.Capture.{change_row_spelling, registration_state_spelling}
+use Rattle.repl_records.specs.RecordKeys.{change_key_spelling}
+use Rattle.repl_records.specs.declared.capture.RegState.{RegState}
+use Rattle.repl_model.specs.ChangeRows.{rows_of}
+use Rattle.capture_rows.specs.StoredChanges.{stored_change, with_change_row, with_change_rows, is_captured, with_state}
+use Rattle.cd_tables.specs.Appending.{carried_out, CarriesOut, is_of_unit}
+use Rattle.cd_tables.specs.Clearing.{cleared, with_cleared}
+use Rattle.cd_tables.proofs.Signals.{active_state, inactive_state}
+
+-- numbers that differ
+apart : (m n : ℕ) → m ≢ n → (m == n) ≡ false
+apart m n ne = grind (arith, nat_tests)
+
+-- no change-data table is another table
+cd_elsewhere : (number : ℕ) (t : Table) (c : Contents) (a : Area) (n : ℕ) → is_of_unit a n ≡ false → with_table c areas.Cd number t a n ≡ c a n
+cd_elsewhere number t c areas.Cd n other = absurd cc
+cd_elsewhere number t c a n other = refl
+
+-- nor is the unit-of-work table
+pub uow_elsewhere : (t : Table) (c : Contents) (a : Area) (n : ℕ) → is_of_unit a n ≡ false → with_table c areas.Uow 0 t a n ≡ c a n
+uow_elsewhere t c areas.Uow zero other = absurd cc
+uow_elsewhere t c areas.Uow (suc n) other = ap (λ (b : Bool). cond b t (c areas.Uow (suc n))) (apart 0 (suc n) (omega arith))
+uow_elsewhere t c a n other = refl
+
+-- nor that of the states of registrations
+state_elsewhere : (t : Table) (c : Contents) (a : Area) (n : ℕ) → is_of_unit a n ≡ false → with_table c areas.Capture 1 t a n ≡ c a n
+state_elsewhere t c areas.Capture zero other = refl
+state_elsewhere t c areas.Capture (suc zero) other = absurd cc
+state_elsewhere t c areas.Capture (suc (suc n)) other = ap (λ (b : Bool). cond b t (c areas.Capture (suc (suc n)))) (apart 1 (suc (suc n)) (omega arith))
+state_elsewhere t c a n other = refl
+
+-- a state is put
+put_elsewhere : (number : ℕ) (state : RegState) (c : Contents) (a : Area) (n : ℕ) → is_of_unit a n ≡ false → with_state number state c a n ≡ c a n
+put_elsewhere number state c a n other = state_elsewhere (set_key (c areas.Capture 1) (b32 number) (Some (registration_state_spelling state))) c a n other
+
+-- change rows are put
+rows_elsewhere : (number : ℕ) (rows : List CdRow) (c : Contents) (a : Area) (n : ℕ) → is_of_unit a n ≡ false → with_change_rows number rows c a n ≡ c a n
+rows_elsewhere number [] c a n other = refl
+rows_elsewhere number (r ∷ rows) c a n other =
+    rows_elsewhere number rows (with_change_row number r c) a n other
+    ∙ cd_elsewhere number (set_key (c areas.Cd number) (change_key_spelling (stored_change r).0) (Some (change_row_spelling (stored_change r).1))) c a n other
+
+-- a change is carried out
+carried_elsewhere : (seq : ℕ) (placed : Placed) (reg : DefinedRegistration) (state : RegState) (c : Contents) (a : Area) (n : ℕ) → is_of_unit a n ≡ false → carried_out seq placed reg state c a n ≡ c a n
+carried_elsewhere seq placed reg state c a n other = by_kind placed.change
+  where
+    rows : (b : Bool) (made : List CdRow) → cond b (with_change_rows reg.number made c) c a n ≡ c a n
+    rows true made = rows_elsewhere reg.number made c a n other
+    rows false made = refl
+
+    start : (b : Bool) → cond b c (with_state reg.number (active_state seq state) c) a n ≡ c a n
+    start true = refl
+    start false = put_elsewhere reg.number (active_state seq state) c a n other
+
+    stop : (b : Bool) → cond b (with_cleared reg.number (with_state reg.number (inactive_state state) c)) c a n ≡ c a n
+    stop true =
+        let d = with_state reg.number (inactive_state state) c in
+        cd_elsewhere reg.number (cleared (d areas.Cd reg.number)) d a n other ∙ put_elsewhere reg.number (inactive_state state) c a n other
+    stop false = refl
+
+    by_kind : (change : Change) → carried_out seq (record placed { change = change }) reg state c a n ≡ c a n
+    by_kind (Insert table row) = rows (is_captured seq state) (rows_of reg.registration seq placed.pos (Insert table row))
+    by_kind (Update table before after) = rows (is_captured seq state) (rows_of reg.registration seq placed.pos (Update table before after))
+    by_kind (Delete table row) = rows (is_captured seq state) (rows_of reg.registration seq placed.pos (Delete table row))
+    by_kind (Start table) = start state.active
+    by_kind (Stop table) = stop state.active
+
+-- if its table is registered
+pub change_elsewhere : (seq : ℕ) (placed : Placed) (count : ℕ) (c d : Contents) → CarriesOut seq placed count c d → (a : Area) (n : ℕ) → is_of_unit a n ≡ false → d a n ≡ c a n
+change_elsewhere seq placed count c d (inl none) a n other = ap (λ (f : Contents). f a n) none.1
+change_elsewhere seq placed count c d (inr some) a n other = ap (λ (f : Contents). f a n) some.3 ∙ carried_elsewhere seq placed some.0 some.1 c a n other

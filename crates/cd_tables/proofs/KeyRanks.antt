@@ -1,0 +1,57 @@
+-- The keys of change rows by their numbers, which rise and are bounded: proofs.
+use Rattle.std.proofs.Common.{◌≡◌, ℕ, ◌+◌, ◌*◌, ◌^◌, ◌<◌, ◌≤◌, refl, sym, ap, ◌∙◌, arith}
+use Rattle.std.proofs.Math.Nat.{mul-le-mul_left}
+use Rattle.std.specs.Prelude.{Option, Some, None, IfSome}
+use Rattle.std.specs.Ordering.{nat_cmp, ordering_then}
+use Rattle.std.specs.Cmp.{ranked}
+use Rattle.std.specs.declared.cmp.Ordering.{Ordering}
+use Rattle.std.specs.declared.cmp.Ordering.TheVariants.{Less, Equal, Greater}
+use Rattle.repl_types.specs.Bytes.{bytes_cmp}
+use Rattle.repl_types.specs.Sequence.{sequence_cmp}
+use Rattle.row_codec.specs.laws.Orders.{whole_order}
+use Rattle.repl_records.specs.RecordKeys.{IsChangeKey, change_key_spelling, change_key_cmp}
+use Rattle.repl_records.specs.laws.RecordKeys.{order_change_key}
+use Rattle.repl_records.specs.declared.record_keys.CdKey.{CdKey}
+use Rattle.site_store.specs.Records.{after_key}
+
+-- the number that a key's bytes are
+abbrev key_rank : CdKey → ℕ
+key_rank k = k.commitseq * 2 ^ 80 + (k.intentseq.position * 2 ^ 16 + k.intentseq.sub)
+
+-- how many keys there are up to this one
+abbrev pub rank_of : Option CdKey → ℕ
+rank_of None = 0
+rank_of (Some k) = key_rank k + 1
+
+-- of two pairs of numbers the first has the lower number
+ranks_pair : (m a b c d : ℕ) (o : Ordering) → c < m → ordering_then (nat_cmp a b) o ≡ Less → (o ≡ Less → c < d) → a * m + c < b * m + d
+ranks_pair m a b c d o lt less rest = pick (nat_cmp a b) refl less
+  where
+    pick : (x : Ordering) → nat_cmp a b ≡ x → ordering_then x o ≡ Less → a * m + c < b * m + d
+    pick Less e h =
+        let le : a + 1 ≤ b = omega (arith, ranked a b Less (sym e)) in
+        omega (arith, mul-le-mul_left m le)
+    pick Equal e h =
+        let same : a * m ≡ b * m = ap (λ (n : ℕ). n * m) (ranked a b Equal (sym e)) in
+        let more : c < d = rest h in
+        omega arith
+    pick Greater e h = absurd cc
+
+-- a later key has a higher number
+key_rises : (k l : CdKey) → IsChangeKey k → IsChangeKey l → bytes_cmp (change_key_spelling k) (change_key_spelling l) ≡ Less → key_rank k < key_rank l
+key_rises k l fk fl less =
+    let s = k.intentseq in
+    let t = l.intentseq in
+    let small : s.position * 2 ^ 16 + s.sub < 2 ^ 80 = omega (arith, fk.1.0, fk.1.1) in
+    let order : change_key_cmp k l ≡ Less = sym (whole_order IsChangeKey change_key_spelling change_key_cmp order_change_key k l fk fl) ∙ less in
+    ranks_pair (2 ^ 80) k.commitseq l.commitseq (s.position * 2 ^ 16 + s.sub) (t.position * 2 ^ 16 + t.sub) (sequence_cmp s t) small order (λ h. ranks_pair (2 ^ 16) s.position t.position s.sub t.sub (nat_cmp s.sub t.sub) fk.1.1 h (λ e. ranked s.sub t.sub Less (sym e)))
+
+-- so has the next key after one, or after none
+pub rank_rises : (last : Option CdKey) (key : CdKey) → IfSome last IsChangeKey → IsChangeKey key → bytes_cmp (after_key change_key_spelling last) (change_key_spelling key) ≡ Less → rank_of last < rank_of (Some key)
+rank_rises None key fit fits less = omega arith
+rank_rises (Some k) key fit fits less = omega (arith, key_rises k key fit fits less)
+
+-- the rank of a key is at most the number of keys
+pub rank_small : (last : Option CdKey) → IfSome last IsChangeKey → rank_of last ≤ 2 ^ 144
+rank_small None fit = omega arith
+rank_small (Some k) fit = omega (arith, fit.0, fit.1.0, fit.1.1)

@@ -1,0 +1,10 @@
+mod Shown
+mod KeyRanks
+mod ClearedRows
+mod CapturedRows
+mod Signals
+mod PutRows
+mod Carried
+mod Elsewhere
+mod EmptyKeys
+mod Parts
