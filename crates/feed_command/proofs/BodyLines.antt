@@ -1,12 +1,11 @@
 -- What a run does at the lines of a feed, one after another.
-use Rattle.std.proofs.Common.{◌≡◌, ◌+◌, ℕ, List, length, [], ◌∷◌, ◌++◌, Bool, true, false, refl, sym, ap, subst, ◌∙◌}
+use Rattle.std.proofs.Common.{◌≡◌, ◌+◌, ℕ, List, length, [], ◌∷◌, ◌++◌, Bool, true, false, sym, ap, ◌∙◌}
 use Rattle.std.specs.Prelude.{Option, Some, None, Result, Ok, Err, IfOk, IfSome, is_some, is_none, if◌then◌else◌}
 use Rattle.std.specs.Option.{option_map, option_map_or}
 use Rattle.std.proofs.lemmas.List.{append-nil}
 use Rattle.repl_types.specs.declared.record.LogRecord.{LogRecord}
 use Rattle.repl_types.specs.declared.refusal.Refusal.TheVariants as refusals
 use Rattle.keep_core.specs.Kept.{Kept}
-use Rattle.keep_core.specs.Revealed.{Takes, TakesPrefix}
 use Rattle.log_text.specs.Records.{record_of}
 use Rattle.repl_model.specs.World.{Server, World}
 use Rattle.reply_text.specs.Replies.{reply_line}
@@ -20,7 +19,7 @@ use Rattle.world_store.specs.Stands.{Stands}
 use Rattle.stored_defs.specs.laws.Standing.{server_at_place, no_server}
 use Rattle.run_parts.specs.Parts.{then_events, Happened, StoppedIn}
 use Rattle.run_parts.specs.Refusing.{refused}
-use Rattle.run_parts.specs.laws.Parts.{happened_as, stopped_as, happened_both, stopped_second, happened_quiet, stopped_quietly}
+use Rattle.run_parts.specs.laws.Parts.{happened_as, stopped_as, happened_both, stopped_second}
 use Rattle.feed_command.specs.FeedEvents.{batch_events, batch_and, begin_events, begun, record_events, refused_events, feed_line_events, after_record, feed_after, last_position}
 use Rattle.feed_command.specs.Feeds.{new_feed, with_record, committed, is_full}
 use Rattle.feed_command.specs.declared.feed.Feed.{Feed}
@@ -124,15 +123,6 @@ module _ {K : Type 0} (kept : K → Kept) (s0 s1 : Sites K) (t u : Option (List 
     -- or they stopped
     pub more_stopped : StoppedIn kept s1 s1 u v (λ x. next) → StoppedIn kept s0 s1 t v both
     more_stopped later = stopped_as kept s0 s1 t v (then_events (batch_events feed) (λ x. next)) both followed (stopped_second kept s0 s1 s1 same t u v (batch_events feed) (λ x. next) false happened later)
-
-module _ {K : Type 0} (kept : K → Kept) (s : Sites K) (t u : Option (List ℕ)) (line : List ℕ) where
-  -- a line was written
-  pub line_written : Takes t u line → Happened kept s s t u (λ w. writes line ∷ []) false
-  line_written took = happened_quiet kept s s refl t u (λ w. writes line ∷ []) false (λ w stands. (tt, subst (Takes t u) (sym (append-nil line)) took, refl))
-
-  -- a prefix of it was
-  pub line_begun : TakesPrefix t u line → StoppedIn kept s s t u (λ w. writes line ∷ [])
-  line_begun took = stopped_quietly kept s s refl t u (λ w. writes line ∷ []) (λ w stands. (tt, subst (TakesPrefix t u) (sym (append-nil line)) took))
 
 -- ---- what a commit answers
 

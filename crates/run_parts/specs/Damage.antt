@@ -10,10 +10,12 @@ use Rattle.stored_defs.specs.Rules.{rules as stored_rules}
 use Rattle.show_rows.specs.Rules.{rules as status_rules}
 use Rattle.show_source.specs.Rules.{rules as source_rules}
 use Rattle.source_log.specs.Rules.{all_rules as append_rules}
+use Rattle.capture_core.specs.Rules.{rules as capture_rules}
 
--- the rules of what is read of definitions, of how far a server is, of its source, and before its log is made longer
+-- the rules of what is read of definitions, of how far a server is, of its source, before its log is made longer, and when
+-- its log is captured
 abbrev pub rules : Rules
-rules = joined stored_rules (joined status_rules (joined source_rules append_rules))
+rules = joined stored_rules (joined status_rules (joined source_rules (joined append_rules capture_rules)))
 
 -- what one of the servers was seen to have shows damage by these rules
 abbrev pub ShowsDamage : {K : Type 0} → (K → Kept) → Sites K → ℕ → Area → DamageCause → Type 0

@@ -14,24 +14,25 @@ use Rattle.session_core.specs.Commands.{talk_of, is_carried_out_verb, takes_no_b
 
 -- each of these words is the first of a command that is carried out
 pub command_of_verb : (word : List ℕ) → IsTrue (is_carried_out_verb word) → (command : Command) × IsSome (talk_of command) × (slice_get (command_words command) 0 ≡ Some word)
-command_of_verb word is = by_verb (bytes_eq word (codes "load")) refl (bytes_eq word (codes "feed")) refl (bytes_eq word (codes "show")) refl (bytes_eq word (codes "status")) refl is
+command_of_verb word is = by_verb (bytes_eq word (codes "load")) refl (bytes_eq word (codes "feed")) refl (bytes_eq word (codes "capture")) refl (bytes_eq word (codes "show")) refl (bytes_eq word (codes "status")) refl is
   where
     is_it : (text : List ℕ) → bytes_eq word text ≡ true → ◌≡◌ {A = Option (List ℕ)} (Some text) (Some word)
     is_it text same = ap (λ (w : List ℕ). Some w) (sym ((bytes_eq-Decides word text).0 same))
 
-    by_verb : (l : Bool) → bytes_eq word (codes "load") ≡ l → (f : Bool) → bytes_eq word (codes "feed") ≡ f → (s : Bool) → bytes_eq word (codes "show") ≡ s → (t : Bool) → bytes_eq word (codes "status") ≡ t
-        → (l || (f || (s || (t || false)))) ≡ true → (command : Command) × IsSome (talk_of command) × (slice_get (command_words command) 0 ≡ Some word)
-    by_verb true load f feed s show t status e = (Load, refl, is_it (codes "load") load)
-    by_verb false load true feed s show t status e = (Feed [], refl, is_it (codes "feed") feed)
-    by_verb false load false feed true show t status e = (ShowLog [], refl, is_it (codes "show") show)
-    by_verb false load false feed false show true status e = (StatusServer [], refl, is_it (codes "status") status)
-    by_verb false load false feed false show false status e = absurd cc
+    by_verb : (l : Bool) → bytes_eq word (codes "load") ≡ l → (f : Bool) → bytes_eq word (codes "feed") ≡ f → (k : Bool) → bytes_eq word (codes "capture") ≡ k → (s : Bool) → bytes_eq word (codes "show") ≡ s → (t : Bool) → bytes_eq word (codes "status") ≡ t
+        → (l || (f || (k || (s || (t || false))))) ≡ true → (command : Command) × IsSome (talk_of command) × (slice_get (command_words command) 0 ≡ Some word)
+    by_verb true load f feed k capture s show t status e = (Load, refl, is_it (codes "load") load)
+    by_verb false load true feed k capture s show t status e = (Feed [], refl, is_it (codes "feed") feed)
+    by_verb false load false feed true capture s show t status e = (Capture [] None None, refl, is_it (codes "capture") capture)
+    by_verb false load false feed false capture true show t status e = (ShowLog [], refl, is_it (codes "show") show)
+    by_verb false load false feed false capture false show true status e = (StatusServer [], refl, is_it (codes "status") status)
+    by_verb false load false feed false capture false show false status e = absurd cc
 
 -- and the first word of each such command is one of them
 pub verb_of_command : (word : List ℕ) (command : Command) → IsSome (talk_of command) → slice_get (command_words command) 0 ≡ Some word → IsTrue (is_carried_out_verb word)
 verb_of_command word Load some is = subst (λ (w : List ℕ). IsTrue (is_carried_out_verb w)) (same_Some (codes "load") word is) refl
 verb_of_command word (Feed server) some is = subst (λ (w : List ℕ). IsTrue (is_carried_out_verb w)) (same_Some (codes "feed") word is) refl
-verb_of_command word (Capture server units every) some is = absurd cc
+verb_of_command word (Capture server units every) some is = subst (λ (w : List ℕ). IsTrue (is_carried_out_verb w)) (same_Some (codes "capture") word is) refl
 verb_of_command word (CaptureCold server) some is = absurd cc
 verb_of_command word (Prune server minutes) some is = absurd cc
 verb_of_command word (PruneNormal server) some is = absurd cc
@@ -45,37 +46,38 @@ verb_of_command word (Audit set) some is = absurd cc
 verb_of_command word (StatusServer server) some is = subst (λ (w : List ℕ). IsTrue (is_carried_out_verb w)) (same_Some (codes "status") word is) refl
 verb_of_command word (StatusSet set) some is = absurd cc
 verb_of_command word (ShowSource server table) some is = subst (λ (w : List ℕ). IsTrue (is_carried_out_verb w)) (same_Some (codes "show") word is) refl
-verb_of_command word (ShowCd server table) some is = absurd cc
-verb_of_command word (ShowUow server) some is = absurd cc
+verb_of_command word (ShowCd server table) some is = subst (λ (w : List ℕ). IsTrue (is_carried_out_verb w)) (same_Some (codes "show") word is) refl
+verb_of_command word (ShowUow server) some is = subst (λ (w : List ℕ). IsTrue (is_carried_out_verb w)) (same_Some (codes "show") word is) refl
 verb_of_command word (ShowLog server) some is = subst (λ (w : List ℕ). IsTrue (is_carried_out_verb w)) (same_Some (codes "show") word is) refl
 verb_of_command word (ShowTarget server table) some is = absurd cc
 verb_of_command word (ShowTrail server set) some is = absurd cc
 verb_of_command word (ShowRejected server set) some is = absurd cc
 
--- no other command without a body is carried out than `status` of a server and `show` of a source or of a log
-pub not_carried_out : (command : Command) → takes_no_body command → ((server : List ℕ) → command ≢ StatusServer server) → ((server table : List ℕ) → command ≢ ShowSource server table) → ((server : List ℕ) → command ≢ ShowLog server) → talk_of command ≡ None
-not_carried_out Load bodiless status source log = absurd bodiless
-not_carried_out (Feed server) bodiless status source log = absurd bodiless
-not_carried_out (Capture server units every) bodiless status source log = refl
-not_carried_out (CaptureCold server) bodiless status source log = refl
-not_carried_out (Prune server minutes) bodiless status source log = refl
-not_carried_out (PruneNormal server) bodiless status source log = refl
-not_carried_out (Step set) bodiless status source log = refl
-not_carried_out (Apply set) bodiless status source log = refl
-not_carried_out (Refresh set) bodiless status source log = refl
-not_carried_out (Stop server table) bodiless status source log = refl
-not_carried_out (Generate server table seed units changes) bodiless status source log = refl
-not_carried_out (Rounds qual) bodiless status source log = refl
-not_carried_out (Audit set) bodiless status source log = refl
-not_carried_out (StatusServer server) bodiless status source log = absurd (status server refl)
-not_carried_out (StatusSet set) bodiless status source log = refl
-not_carried_out (ShowSource server table) bodiless status source log = absurd (source server table refl)
-not_carried_out (ShowCd server table) bodiless status source log = refl
-not_carried_out (ShowUow server) bodiless status source log = refl
-not_carried_out (ShowLog server) bodiless status source log = absurd (log server refl)
-not_carried_out (ShowTarget server table) bodiless status source log = refl
-not_carried_out (ShowTrail server set) bodiless status source log = refl
-not_carried_out (ShowRejected server set) bodiless status source log = refl
+-- no other command without a body is carried out than `capture`, `status` of a server, and `show` of a source, of a log
+-- or of what is captured
+pub not_carried_out : (command : Command) → takes_no_body command → ((server : List ℕ) (units every : Option ℕ) → command ≢ Capture server units every) → ((server : List ℕ) → command ≢ StatusServer server) → ((server table : List ℕ) → command ≢ ShowSource server table) → ((server table : List ℕ) → command ≢ ShowCd server table) → ((server : List ℕ) → command ≢ ShowUow server) → ((server : List ℕ) → command ≢ ShowLog server) → talk_of command ≡ None
+not_carried_out Load bodiless capture status source changes units log = absurd bodiless
+not_carried_out (Feed server) bodiless capture status source changes units log = absurd bodiless
+not_carried_out (Capture server most every) bodiless capture status source changes units log = absurd (capture server most every refl)
+not_carried_out (CaptureCold server) bodiless capture status source changes units log = refl
+not_carried_out (Prune server minutes) bodiless capture status source changes units log = refl
+not_carried_out (PruneNormal server) bodiless capture status source changes units log = refl
+not_carried_out (Step set) bodiless capture status source changes units log = refl
+not_carried_out (Apply set) bodiless capture status source changes units log = refl
+not_carried_out (Refresh set) bodiless capture status source changes units log = refl
+not_carried_out (Stop server table) bodiless capture status source changes units log = refl
+not_carried_out (Generate server table seed count each) bodiless capture status source changes units log = refl
+not_carried_out (Rounds qual) bodiless capture status source changes units log = refl
+not_carried_out (Audit set) bodiless capture status source changes units log = refl
+not_carried_out (StatusServer server) bodiless capture status source changes units log = absurd (status server refl)
+not_carried_out (StatusSet set) bodiless capture status source changes units log = refl
+not_carried_out (ShowSource server table) bodiless capture status source changes units log = absurd (source server table refl)
+not_carried_out (ShowCd server table) bodiless capture status source changes units log = absurd (changes server table refl)
+not_carried_out (ShowUow server) bodiless capture status source changes units log = absurd (units server refl)
+not_carried_out (ShowLog server) bodiless capture status source changes units log = absurd (log server refl)
+not_carried_out (ShowTarget server table) bodiless capture status source changes units log = refl
+not_carried_out (ShowTrail server set) bodiless capture status source changes units log = refl
+not_carried_out (ShowRejected server set) bodiless capture status source changes units log = refl
 
 -- no other command takes a body than `load` and `feed`
 pub no_body : (command : Command) → command ≢ Load → ((server : List ℕ) → command ≢ Feed server) → takes_no_body command

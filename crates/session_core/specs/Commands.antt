@@ -12,8 +12,9 @@ use Rattle.run_core.specs.Runs.{Event}
 use Rattle.script_text.specs.Words.{first_word}
 use Rattle.script_text.specs.Asked.{Asked, asks, unknown, bad, asked_by}
 use Rattle.run_parts.specs.Refusing.{refused}
+use Rattle.capture_command.specs.CaptureEvents.{capture_events}
 use Rattle.feed_command.specs.FeedEvents.{begin_events}
-use Rattle.show_command.specs.ShowEvents.{source_events, log_events}
+use Rattle.show_command.specs.ShowEvents.{source_events, log_events, changes_events, units_events}
 use Rattle.status_command.specs.StatusEvents.{status_events}
 
 -- ---- which commands are carried out
@@ -22,7 +23,7 @@ use Rattle.status_command.specs.StatusEvents.{status_events}
 abbrev pub talk_of : Command → Option (World → List (Event World))
 talk_of Load = Some (λ w. [])
 talk_of (Feed server) = Some (begin_events server)
-talk_of (Capture server units every) = None
+talk_of (Capture server units every) = Some (capture_events server units every)
 talk_of (CaptureCold server) = None
 talk_of (Prune server minutes) = None
 talk_of (PruneNormal server) = None
@@ -36,8 +37,8 @@ talk_of (Audit set) = None
 talk_of (StatusServer server) = Some (status_events server)
 talk_of (StatusSet set) = None
 talk_of (ShowSource server table) = Some (source_events server table)
-talk_of (ShowCd server table) = None
-talk_of (ShowUow server) = None
+talk_of (ShowCd server table) = Some (changes_events server table)
+talk_of (ShowUow server) = Some (units_events server)
 talk_of (ShowLog server) = Some (log_events server)
 talk_of (ShowTarget server table) = None
 talk_of (ShowTrail server set) = None
@@ -45,7 +46,7 @@ talk_of (ShowRejected server set) = None
 
 -- the first words of these commands, as `first_words_of_commands` shows
 abbrev pub carried_out_verbs : List (List ℕ)
-carried_out_verbs = codes "load" ∷ codes "feed" ∷ codes "show" ∷ codes "status" ∷ []
+carried_out_verbs = codes "load" ∷ codes "feed" ∷ codes "capture" ∷ codes "show" ∷ codes "status" ∷ []
 
 -- a word is one of them
 abbrev pub is_carried_out_verb : List ℕ → Bool

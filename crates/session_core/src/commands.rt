@@ -19,13 +19,14 @@ ghost use Rattle.run_parts.specs.Refusing.{refused as refused_lem};
 ghost use Rattle.feed_command.specs.FeedEvents.{begin_events, begun};
 
 use crate::bodies::{Answer, Bodies, fed, unfed};
+use capture_command::capture_server;
 use feed_command::begin_feed;
 use keep_core::{Keeper, Sink};
 use repl_commands::{Command, LineError};
 use repl_types::{List, Name, Refusal};
 use run_parts::{RunError, refuse};
 use script_text::{first_word, read_line};
-use show_command::{show_log_records, show_source_rows};
+use show_command::{show_change_rows, show_log_records, show_source_rows, show_unit_rows};
 use site_store::Sites;
 use status_command::show_status;
 use std::alloc::Global;
@@ -39,6 +40,7 @@ fn begins_with_carried_out_verb(line: &[u8]) -> bool
         Some(word) => {
             word == b"load".as_slice()
                 || word == b"feed".as_slice()
+                || word == b"capture".as_slice()
                 || word == b"show".as_slice()
                 || word == b"status".as_slice()
         }
@@ -79,10 +81,17 @@ fn run_command<K: Keeper, O: Sink>(
     ensures counts { O.faults output.old ≤ O.faults output.new }
 {
     match command {
+        Command::Capture {
+            server,
+            units,
+            every,
+        } => capture_server(alloc, sites, output, server, units, every),
         Command::StatusServer { server } => show_status(alloc, sites, output, server),
         Command::ShowSource { server, table } => {
             show_source_rows(alloc, sites, output, server, table)
         }
+        Command::ShowCd { server, table } => show_change_rows(alloc, sites, output, server, table),
+        Command::ShowUow { server } => show_unit_rows(alloc, sites, output, server),
         Command::ShowLog { server } => show_log_records(alloc, sites, output, server),
         _ => refuse(alloc, output, &Refusal::UnknownCommand { line: number }),
     }

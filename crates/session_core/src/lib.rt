@@ -3,10 +3,11 @@
 //!
 //! Below it are `run_words`, which reads the words, `script_lines` and `script_text`, which read the
 //! lines of a script, the commands, each in a crate of its own (`load_command`, `feed_command`,
-//! `show_command`, `status_command`), `run_parts`, which has the contract that they share, and
-//! `copy_lists`, which carries out `copy`. `world_store` and `run_core` have the definitions that say
-//! what a run does to the servers. Above it, `sqlrep` calls `session` with the standard streams. The
-//! contract of `session` is what the program promises; `docs/MODEL.md` says its definitions in words.
+//! `capture_command`, `show_command`, `status_command`), `run_parts`, which has the contract that they
+//! share, and `copy_lists`, which carries out `copy`. `world_store` and `run_core` have the definitions
+//! that say what a run does to the servers. Above it, `sqlrep` calls `session` with the standard
+//! streams. The contract of `session` is what the program promises; `docs/MODEL.md` says its
+//! definitions in words.
 //!
 //! For example, at the word `copy` the input lines `insert 1 items 7 'pen'` and `commit 1 ann 100`
 //! give the output lines `row 7 'pen'` and `ok rows 1`, and the status `Ok`. At the word `hq=:map:`

@@ -1,6 +1,7 @@
--- How the rows of a source and the log are shown.
+-- How the rows of a table and all that a server has of a kind are shown.
 use Rattle.std.proofs.Common.{◌≡◌, ℕ, List, [], ◌∷◌, ◌++◌, map, Bool, true, false, refl, sym, ap, subst, ◌∙◌}
 use Rattle.std.specs.Prelude.{Option, Some, None, is_some}
+use Rattle.std.specs.List.{flat_map}
 use Rattle.std.specs.Option.{option_map_or}
 use Rattle.std.proofs.lemmas.Option.{same_Some}
 use Rattle.repl_types.specs.declared.refusal.Refusal.TheVariants as refusals
@@ -8,7 +9,7 @@ use Rattle.faults.specs.declared.call_errors.ShowError.{ShowError}
 use Rattle.faults.specs.declared.call_errors.ShowError.TheVariants as shows
 use Rattle.keep_core.specs.Kept.{Kept}
 use Rattle.keep_core.specs.Revealed.{Takes, TakesPrefix}
-use Rattle.repl_model.specs.World.{Server, ServerTable, World, server_named, server_table}
+use Rattle.repl_model.specs.World.{Server, World, server_named}
 use Rattle.run_core.specs.Runs.{Event, writes, lines_of, is_refused}
 use Rattle.run_core.specs.laws.Quiet.{IsQuiet}
 use Rattle.site_store.specs.Servers.{AllClosed, HasNone, IsPlace}
@@ -19,7 +20,6 @@ use Rattle.world_store.specs.Stands.{Stands}
 use Rattle.stored_defs.specs.Known.{server_in}
 use Rattle.stored_defs.specs.laws.Standing.{server_at_place, no_server}
 use Rattle.show_rows.specs.Showing.{IsUndamagedShow}
-use Rattle.show_source.specs.Replies.{source_lines, source_text, log_lines, log_text, table_reply}
 use Rattle.show_source.specs.Rules.{rules, ShowsDamage}
 use Rattle.show_source.specs.Showing.{FailsShowing}
 use Rattle.run_parts.specs.Causes.{PartHasCause}
@@ -31,7 +31,6 @@ use Rattle.run_parts.specs.declared.run_error.RunError.TheVariants as errors
 use Rattle.run_parts.specs.laws.Damage.{source_shown, failed_cause}
 use Rattle.run_parts.specs.laws.Lines.{lines_quiet, lines_in_turn, none_refused, lines_written, lines_begun}
 use Rattle.run_parts.specs.laws.Parts.{happened_quiet, stopped_quietly, happened_as, stopped_as}
-use Rattle.show_command.specs.ShowEvents.{table_events, source_events, log_events}
 
 -- no bytes are a prefix of any
 no_prefix : (t u : Option (List ℕ)) (line : List ℕ) → TakesPrefix t u [] → TakesPrefix t u line
@@ -55,63 +54,68 @@ module _ {K : Type 0} (kept : K → Kept) (s0 : Sites K) (closed : AllClosed (wo
     at_place : (events : Server → List (Event World)) (w : World) → Stands (names s0) (held kept s0) w → events (server_in w n) ≡ at_server events w
     at_place events w stands = ap (λ (o : Option Server). option_map_or events o (refused (refusals.NoSuchServer name))) (sym (server_at_place kept s0 closed w stands name n s0.servers.apart place))
 
-    -- ---- the log
+    -- ---- all of a server
 
-    -- the log was written
-    pub log_written : ((w : World) → Stands (names s0) (held kept s0) w → Takes t u (log_text (server_in w n))) → Happened kept s0 s1 t u (log_events name) false
-    log_written took = lines_written kept s0 s1 same t u (log_events name) (λ w. log_lines (server_in w n)) (at_place (λ server. map writes (log_lines server))) took
+    module _ (lines : Server → List (List ℕ)) where
+      -- the lines of the server were written
+      pub all_written : ((w : World) → Stands (names s0) (held kept s0) w → Takes t u (flat_map (λ line. line) (lines (server_in w n)))) → Happened kept s0 s1 t u (at_server (λ server. map writes (lines server))) false
+      all_written took = lines_written kept s0 s1 same t u (at_server (λ server. map writes (lines server))) (λ w. lines (server_in w n)) (at_place (λ server. map writes (lines server))) took
 
-    -- a prefix of it was
-    pub log_begun : ((w : World) → Stands (names s0) (held kept s0) w → TakesPrefix t u (log_text (server_in w n))) → StoppedIn kept s0 s1 t u (log_events name)
-    log_begun took = lines_begun kept s0 s1 same t u (log_events name) (λ w. log_lines (server_in w n)) (at_place (λ server. map writes (log_lines server))) took
+      -- a prefix of them was
+      pub all_begun : ((w : World) → Stands (names s0) (held kept s0) w → TakesPrefix t u (flat_map (λ line. line) (lines (server_in w n)))) → StoppedIn kept s0 s1 t u (at_server (λ server. map writes (lines server)))
+      all_begun took = lines_begun kept s0 s1 same t u (at_server (λ server. map writes (lines server))) (λ w. lines (server_in w n)) (at_place (λ server. map writes (lines server))) took
 
     -- ---- a table
 
-    module _ (table : List ℕ) where
-      -- what a run does at what a server has of the table
-      abbrev of_table : Server → Option ServerTable → List (Event World)
-      of_table server o = option_map_or (λ t. map writes (source_lines server t.def)) o (refused (refusals.NoSuchTable name table))
+    module _ {X : Type 0} (table : List ℕ) (found_in : Server → Option X) (lines : Server → X → List (List ℕ)) where
+      -- what a run does at what was found of the table at a server
+      abbrev of_found : Server → Option X → List (Event World)
+      of_found server o = option_map_or (λ x. map writes (lines server x)) o (refused (refusals.NoSuchTable name table))
 
-      -- the reply about it
-      abbrev reply_of : Server → Option ServerTable → List ℕ
-      reply_of server o = option_map_or (λ t. source_text server t.def) o []
+      -- at what a server has of it
+      abbrev of_table : Server → List (Event World)
+      of_table server = of_found server (found_in server)
+
+      -- the reply about what was found
+      abbrev reply_of : Server → Option X → List ℕ
+      reply_of server o = option_map_or (λ x. flat_map (λ line. line) (lines server x)) o []
 
       -- its rows were written
-      pub table_written : ((w : World) → Stands (names s0) (held kept s0) w → true ≡ is_some (server_table table (server_in w n))) → ((w : World) → Stands (names s0) (held kept s0) w → Takes t u (table_reply table (server_in w n))) → Happened kept s0 s1 t u (source_events name table) false
-      table_written found took = happened_quiet kept s0 s1 same t u (source_events name table) false (λ w stands.
+      pub table_written : ((w : World) → Stands (names s0) (held kept s0) w → true ≡ is_some (found_in (server_in w n))) → ((w : World) → Stands (names s0) (held kept s0) w → Takes t u (reply_of (server_in w n) (found_in (server_in w n)))) → Happened kept s0 s1 t u (at_server of_table) false
+      table_written found took = happened_quiet kept s0 s1 same t u (at_server of_table) false (λ w stands.
           let server = server_in w n in
-          subst (λ (es : List (Event World)). IsQuiet es × Takes t u (lines_of es) × (false ≡ is_refused es)) (at_place (table_events name table) w stands) (pick server (server_table table server) (found w stands) (took w stands)))
+          subst (λ (es : List (Event World)). IsQuiet es × Takes t u (lines_of es) × (false ≡ is_refused es)) (at_place of_table w stands) (pick server (found_in server) (found w stands) (took w stands)))
         where
-          pick : (server : Server) (o : Option ServerTable) → true ≡ is_some o → Takes t u (reply_of server o) → IsQuiet (of_table server o) × Takes t u (lines_of (of_table server o)) × (false ≡ is_refused (of_table server o))
+          pick : (server : Server) (o : Option X) → true ≡ is_some o → Takes t u (reply_of server o) → IsQuiet (of_found server o) × Takes t u (lines_of (of_found server o)) × (false ≡ is_refused (of_found server o))
           pick server None is took = absurd cc
-          pick server (Some t2) is took = (lines_quiet (source_lines server t2.def), subst (Takes t u) (sym (lines_in_turn (source_lines server t2.def))) took, none_refused (source_lines server t2.def))
+          pick server (Some x) is took = (lines_quiet (lines server x), subst (Takes t u) (sym (lines_in_turn (lines server x))) took, none_refused (lines server x))
 
       -- a part of what was to be written was
-      pub table_begun : ((w : World) → Stands (names s0) (held kept s0) w → TakesPrefix t u (table_reply table (server_in w n))) → StoppedIn kept s0 s1 t u (source_events name table)
-      table_begun took = stopped_quietly kept s0 s1 same t u (source_events name table) (λ w stands.
+      pub table_begun : ((w : World) → Stands (names s0) (held kept s0) w → TakesPrefix t u (reply_of (server_in w n) (found_in (server_in w n)))) → StoppedIn kept s0 s1 t u (at_server of_table)
+      table_begun took = stopped_quietly kept s0 s1 same t u (at_server of_table) (λ w stands.
           let server = server_in w n in
-          subst (λ (es : List (Event World)). IsQuiet es × TakesPrefix t u (lines_of es)) (at_place (table_events name table) w stands) (pick server (server_table table server) (took w stands)))
+          subst (λ (es : List (Event World)). IsQuiet es × TakesPrefix t u (lines_of es)) (at_place of_table w stands) (pick server (found_in server) (took w stands)))
         where
-          pick : (server : Server) (o : Option ServerTable) → TakesPrefix t u (reply_of server o) → IsQuiet (of_table server o) × TakesPrefix t u (lines_of (of_table server o))
+          pick : (server : Server) (o : Option X) → TakesPrefix t u (reply_of server o) → IsQuiet (of_found server o) × TakesPrefix t u (lines_of (of_found server o))
           pick server None took = (tt, no_prefix t u (lines_of (refused (refusals.NoSuchTable name table))) took)
-          pick server (Some t2) took = (lines_quiet (source_lines server t2.def), subst (TakesPrefix t u) (sym (lines_in_turn (source_lines server t2.def))) took)
+          pick server (Some x) took = (lines_quiet (lines server x), subst (TakesPrefix t u) (sym (lines_in_turn (lines server x))) took)
 
-      module _ (found : (w : World) → Stands (names s0) (held kept s0) w → false ≡ is_some (server_table table (server_in w n))) where
+      module _ (found : (w : World) → Stands (names s0) (held kept s0) w → false ≡ is_some (found_in (server_in w n))) where
         -- there is none, so the table is refused
-        none_there : (w : World) → Stands (names s0) (held kept s0) w → refused (refusals.NoSuchTable name table) ≡ source_events name table w
-        none_there w stands = pick (server_in w n) (server_table table (server_in w n)) (found w stands) ∙ at_place (table_events name table) w stands
+        none_there : (w : World) → Stands (names s0) (held kept s0) w → refused (refusals.NoSuchTable name table) ≡ at_server of_table w
+        none_there w stands = pick (server_in w n) (found_in (server_in w n)) (found w stands) ∙ at_place of_table w stands
           where
-            pick : (server : Server) (o : Option ServerTable) → false ≡ is_some o → refused (refusals.NoSuchTable name table) ≡ of_table server o
+            pick : (server : Server) (o : Option X) → false ≡ is_some o → refused (refusals.NoSuchTable name table) ≡ of_found server o
             pick server None is = refl
-            pick server (Some t2) is = absurd cc
+            pick server (Some x) is = absurd cc
 
         -- the line that refuses it was written
-        pub table_refused : (answer : Bool) → (answer ≡ true) × Takes t u (lines_of (refused (refusals.NoSuchTable name table))) → Happened kept s0 s1 t u (source_events name table) answer
-        table_refused answer wrote = happened_as kept s0 s1 t u (λ w. refused (refusals.NoSuchTable name table)) (source_events name table) none_there answer (happened_quiet kept s0 s1 same t u (λ w. refused (refusals.NoSuchTable name table)) answer (λ w stands. (tt, wrote.1, wrote.0)))
+        pub table_refused : (answer : Bool) → (answer ≡ true) × Takes t u (lines_of (refused (refusals.NoSuchTable name table))) → Happened kept s0 s1 t u (at_server of_table) answer
+        table_refused answer wrote = happened_as kept s0 s1 t u (λ w. refused (refusals.NoSuchTable name table)) (at_server of_table) none_there answer (happened_quiet kept s0 s1 same t u (λ w. refused (refusals.NoSuchTable name table)) answer (λ w stands. (tt, wrote.1, wrote.0)))
 
         -- a prefix of it was
-        pub refusal_started : TakesPrefix t u (lines_of (refused (refusals.NoSuchTable name table))) → StoppedIn kept s0 s1 t u (source_events name table)
-        refusal_started wrote = stopped_as kept s0 s1 t u (λ w. refused (refusals.NoSuchTable name table)) (source_events name table) none_there (stopped_quietly kept s0 s1 same t u (λ w. refused (refusals.NoSuchTable name table)) (λ w stands. (tt, wrote)))
+        pub refusal_started : TakesPrefix t u (lines_of (refused (refusals.NoSuchTable name table))) → StoppedIn kept s0 s1 t u (at_server of_table)
+        refusal_started wrote = stopped_as kept s0 s1 t u (λ w. refused (refusals.NoSuchTable name table)) (at_server of_table) none_there (stopped_quietly kept s0 s1 same t u (λ w. refused (refusals.NoSuchTable name table)) (λ w stands. (tt, wrote)))
 
   -- ---- why it ends
 

@@ -19,13 +19,13 @@ use Rattle.log_rows.specs.SourceLogs.{SourceRowsStand}
 use Rattle.stored_defs.specs.Reading.{Spells, table_rules}
 use Rattle.stored_defs.specs.laws.Blaming.{fails_by_table}
 use Rattle.show_rows.specs.Showing.{IsUndamagedShow}
-use Rattle.show_source.specs.Rules.{rules, ShowsDamage, source_reads}
+use Rattle.show_source.specs.Rules.{rules, ShowsDamage}
 use Rattle.show_source.specs.Showing.{FailsShowing}
 use Rattle.show_source.proofs.Standing.{none_damaged}
 
 -- one read of definitions is within the reads for a table
-pub one_read : (s : ℕ) → IsAtMost (reads_of_one 1 s areas.Defs) (source_reads s)
-one_read s = record { reads = λ q b. omega arith; writes = λ q b. omega arith }
+pub one_read : (s : ℕ) (more : Bounds) → IsAtMost (reads_of_one 1 s areas.Defs) (both (reads_of_one 1 s areas.Defs) more)
+one_read s more = record { reads = λ q b. omega arith; writes = λ q b. omega arith }
 
 -- a table wasn't shown whole, after calls that changed nothing
 pub fails_by_rules : {K A X : Type 0} (kept : K → Kept) (key_fits : A → Type 0) (key : A → List ℕ) (fits : X → Type 0) (spelling : X → List ℕ) (a : Area) (t : ℕ) → ((bytes : List ℕ) → rules.is_key a t bytes → Spells key_fits key bytes) → ((bytes : List ℕ) → rules.is_value a t bytes → Spells fits spelling bytes) → (s0 s1 s2 : Sites K) (server : ℕ) (x y z : Bounds) (before now : ℕ) (e : ShowError) → server < length (names s0) → IsAtMost (both x y) z → Stays kept s0 s1 x → FailsShowing kept s1 s2 y (Damages (λ s. s ≡ server) (table_rules key_fits key fits spelling a t) kept s1) before now e → FailsShowing kept s0 s2 z (ShowsDamage kept s0) before now e

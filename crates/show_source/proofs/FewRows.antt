@@ -78,7 +78,7 @@ units_add limit def (u ∷ us) rows all =
 -- ---- the changes of a log
 
 -- what a test leaves is no more
-filter_few : {X : Type 0} (p : X → Bool) (xs : List X) → length (filter p xs) ≤ length xs
+pub filter_few : {X : Type 0} (p : X → Bool) (xs : List X) → length (filter p xs) ≤ length xs
 filter_few p [] = omega arith
 filter_few {X} p (x ∷ xs) = pick (p x) (filter_few p xs)
   where
@@ -93,7 +93,7 @@ changes_few log tx before =
     omega (arith, filter_map_few (change_of tx) (filter within (positions log)), filter_few within (positions log), length-enumerate_from 1 log)
 
 -- so has each unit
-units_small : (log : List LogRecord) → AllByRecursion (λ u. length u.changes ≤ length log) (units log)
+pub units_small : (log : List LogRecord) → AllByRecursion (λ u. length u.changes ≤ length log) (units log)
 unfolding units
 units_small log = all_filter_map (λ (u : LogUnit). length u.changes ≤ length log) (unit_at log) (positions log) (each 1 log)
   where
@@ -107,7 +107,7 @@ units_small log = all_filter_map (λ (u : LogUnit). length u.changes ≤ length 
     each b (r ∷ rs) = (one b r, each (b + 1) rs)
 
 -- and there are no more units
-units_few : (log : List LogRecord) → length (units log) ≤ length log
+pub units_few : (log : List LogRecord) → length (units log) ≤ length log
 unfolding units
 units_few log = omega (arith, filter_map_few (unit_at log) (positions log), length-enumerate_from 1 log)
 

@@ -1,7 +1,12 @@
 pub mod Blame
+pub mod CapturedChanges
+pub mod CapturedStanding
+pub mod CapturedUnits
 pub mod FewRows
+pub mod InOrder
 pub mod LogRecords
 pub mod Pieces
+pub mod Registrations
 pub mod ShownRows
 pub mod Showing
 pub mod SourceRows

@@ -20,7 +20,7 @@ use Rattle.show_source.specs.Replies.{count_line, log_text}
 use Rattle.show_source.specs.Records.{AreShown, row_lines, rows_text}
 
 -- numbers of eight bytes are in order
-in_order : SpellsInOrder b64 (2 ^ 64)
+pub in_order : SpellsInOrder b64 (2 ^ 64)
 in_order a b la lb = whole_order Is64 b64 nat_cmp order64 a b la lb
 
 -- numbered things are above a number before theirs
@@ -29,7 +29,7 @@ numbered_above n b [] lt = tt
 numbered_above n b (x ∷ xs) lt = (lt, numbered_above n (b + 1) xs (omega arith))
 
 -- their numbers rise
-numbered_rise : {X : Type 0} (b : ℕ) (xs : List X) → NumbersRise (enumerate_from b xs)
+pub numbered_rise : {X : Type 0} (b : ℕ) (xs : List X) → NumbersRise (enumerate_from b xs)
 numbered_rise b [] = tt
 numbered_rise b (x ∷ xs) = (numbered_above b (b + 1) xs (omega arith), numbered_rise (b + 1) xs)
 

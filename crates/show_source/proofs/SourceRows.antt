@@ -1,7 +1,7 @@
 -- The rows of a table of the source as they stand.
-use Rattle.std.proofs.Common.{◌≡◌, ℕ, ◌<◌, Bool, true, false, List, [], ◌∷◌, ◌++◌, length, map, refl, sym, ap, subst, ◌∙◌, append_assoc, append-nil, length-append, arith}
+use Rattle.std.proofs.Common.{◌≡◌, ℕ, ◌<◌, Bool, true, false, List, [], ◌∷◌, length, map, refl, sym, subst, ◌∙◌, length-append, arith}
 use Rattle.std.specs.Prelude.{T, ◌&&◌, nat_lt, slice_index_or}
-use Rattle.std.specs.List.{AllByRecursion, flat_map, list_all}
+use Rattle.std.specs.List.{AllByRecursion, list_all}
 use Rattle.std.specs.FinMap.{entries, entries_sorted}
 use Rattle.std.specs.FinMap.Entries.{below_all, is_sorted}
 use Rattle.std.specs.Ordering.{is_lt}
@@ -29,9 +29,10 @@ use Rattle.log_rows.specs.SourceTables.{stored_row, StandsUnderKey, KeysOfRowsFi
 use Rattle.log_rows.specs.SourceLogs.{SourceRowsStand}
 use Rattle.stored_defs.specs.Reading.{RowFits}
 use Rattle.stored_defs.specs.laws.Lists.{all_map, both_true}
-use Rattle.show_source.specs.Replies.{count_line, committed_rows, source_text}
-use Rattle.show_source.specs.Records.{AreShown, row_lines, rows_text}
+use Rattle.show_source.specs.Replies.{committed_rows, source_text}
+use Rattle.show_source.specs.Records.{AreShown, rows_text}
 use Rattle.show_source.proofs.FewRows.{source_few}
+use Rattle.show_source.proofs.Pieces.{text_shown}
 
 -- ---- keys in order
 
@@ -108,13 +109,6 @@ module _ (keys : KeysOfRowsFit) (stand : SourceRowsStand) (server : Server) (def
 
 -- ---- their text
 
--- the text of rows by their lines, and by the model's
-lines_are : (es : List (Values × Values)) (last : List ℕ) → row_lines {A = Values} (λ _ (r : SourceRow). row_line r.row) (map stored_row es) ++ last ≡ flat_map (λ line. line) (map (λ (e : Values × Values). row_line e.1) es ++ last ∷ [])
-lines_are [] last = sym (append-nil last)
-lines_are (e ∷ es) last = append_assoc (row_line e.1) (row_lines {A = Values} (λ _ (r : SourceRow). row_line r.row) (map stored_row es)) last ∙ ap (λ (l : List ℕ). row_line e.1 ++ l) (lines_are es last)
-
 -- the text of the rows is the reply
 pub source_text_is : (server : Server) (def : TableDef) → rows_text {A = Values} (λ _ (r : SourceRow). row_line r.row) (source_rows server def) ≡ source_text server def
-source_text_is server def =
-    ap (λ (n : ℕ). row_lines {A = Values} (λ _ (r : SourceRow). row_line r.row) (source_rows server def) ++ count_line n) (length-map (entries (committed_rows server def)) stored_row)
-    ∙ lines_are (entries (committed_rows server def)) (count_line (length (entries (committed_rows server def))))
+source_text_is server def = text_shown {A = Values} (λ _ (r : SourceRow). row_line r.row) stored_row (entries (committed_rows server def))

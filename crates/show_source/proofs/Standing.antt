@@ -1,7 +1,7 @@
 -- What is shown of servers that stand for a world, and that no damage is reported of them.
 use Rattle.std.proofs.Common.{◌≡◌, ℕ, zero, ◌<◌, List, [], length, refl, sym, ap, subst, ◌∙◌}
 use Rattle.std.specs.Prelude.{false, Option, Some, None, IfSome, is_some, slice_get}
-use Rattle.std.specs.Option.{option_map, option_map_or}
+use Rattle.std.specs.Option.{option_and_then, option_map, option_map_or}
 use Rattle.repl_types.specs.Value.{Values}
 use Rattle.repl_types.specs.laws.Lists.{all_weaker}
 use Rattle.repl_types.specs.declared.area.Area.TheVariants as areas
@@ -14,13 +14,19 @@ use Rattle.row_codec.specs.Spelling.{Is64, b64, IsKey, key_spelling, short_text}
 use Rattle.row_codec.specs.LogRecords.{IsLogRecord, log_spelling}
 use Rattle.repl_definitions.specs.declared.defined.DefinedTable.{DefinedTable}
 use Rattle.repl_definitions.specs.Defined.{defined_table_spelling, IsDefinedTable}
+use Rattle.repl_records.specs.declared.record_keys.CdKey.{CdKey}
+use Rattle.repl_records.specs.declared.capture.ChangeRow.{ChangeRow}
+use Rattle.repl_records.specs.declared.capture.UowRow.{UowRow}
 use Rattle.repl_records.specs.declared.source_side.SourceRow.{SourceRow}
+use Rattle.repl_records.specs.Capture.{change_row_spelling, IsChangeRow, uow_spelling, IsUow}
+use Rattle.repl_records.specs.RecordKeys.{change_key_spelling, IsChangeKey}
 use Rattle.repl_records.specs.SourceSide.{IsSourceRow, source_row_spelling}
 use Rattle.reply_text.specs.Rows.{row_line, log_line}
-use Rattle.repl_model.specs.Sound.{empty_server}
+use Rattle.repl_model.specs.Rules.{RegistrationKeepsRules}
+use Rattle.repl_model.specs.Sound.{NumbersAreSound, empty_server}
 use Rattle.repl_model.specs.SoundLogs.{LogIsSound}
 use Rattle.repl_model.specs.SoundDefinitions.{KeepsTable, ServerKeepsRules}
-use Rattle.repl_model.specs.World.{Server, ServerTable, World, server_table}
+use Rattle.repl_model.specs.World.{Registered, Server, ServerTable, World, server_table}
 use Rattle.rows_in_order.specs.Rows.{table_from_rows}
 use Rattle.site_store.specs.declared.sites.Sites.{Sites}
 use Rattle.site_store.specs.Servers.{AllClosed}
@@ -29,8 +35,9 @@ use Rattle.site_store.specs.Records.{RowIs}
 use Rattle.site_store.specs.Calls.{Bounds, Stays, Blames}
 use Rattle.site_store.specs.Damage.{IsNoDamage, IsSpelt}
 use Rattle.site_store.specs.laws.Damage.{no_damage, rows_spelt, spelt_undamaged}
+use Rattle.world_store.specs.CaptureRows.{change_rows_of, uow_rows}
 use Rattle.world_store.specs.LogRows.{log_rows, source_rows}
-use Rattle.world_store.specs.Tables.{tables, source_table, no_rows}
+use Rattle.world_store.specs.Tables.{tables, source_table, change_table, no_rows}
 use Rattle.world_store.specs.Stands.{Holds, Stands}
 use Rattle.log_rows.specs.SourceTables.{KeysOfRowsFit}
 use Rattle.log_rows.specs.SourceLogs.{SourceRowsStand}
@@ -42,6 +49,8 @@ use Rattle.show_source.specs.Replies.{log_text, source_text, table_reply}
 use Rattle.show_source.specs.Records.{AreShown, rows_text, TakesRows, TakesSomeRows}
 use Rattle.show_source.specs.Rules.{rules, ShowsDamage}
 use Rattle.load_worlds.specs.laws.Members.{at_one}
+use Rattle.show_source.proofs.CapturedChanges.{has_few_columns, change_rows_are}
+use Rattle.show_source.proofs.CapturedUnits.{unit_rows_are}
 use Rattle.show_source.proofs.LogRecords.{log_records_are, log_text_is}
 use Rattle.show_source.proofs.SourceRows.{source_rows_fit, source_rows_are, source_text_is}
 use Rattle.stored_defs.specs.laws.NamedTables.{table_stands, table_numbered}
@@ -64,7 +73,27 @@ module _ (w : World) (server : Server) (c : Contents) (holds : Holds w server c)
   holds_table : (n : ℕ) (t : ServerTable) → slice_get server.tables n ≡ Some t → c areas.Source n ≡ table_from_rows key_spelling source_row_spelling (source_rows server t.def)
   holds_table n t at = holds_source n ∙ ap (λ (o : Option ServerTable). option_map_or (λ t. table_from_rows key_spelling source_row_spelling (source_rows server t.def)) o no_rows) at
 
-  module _ (keys : KeysOfRowsFit) (stand : SourceRowsStand) (rules_kept : ServerKeepsRules w server) (sound : LogIsSound server) where
+  -- its change-data tables
+  holds_changes : (n : ℕ) → c areas.Cd n ≡ change_table server n
+  unfolding tables
+  holds_changes n = holds areas.Cd n
+
+  -- the change-data table of the registration with a number, if there is one
+  pub holds_registered : (n : ℕ) (t : ServerTable) (r : Registered) → slice_get server.tables n ≡ Some t → t.registered ≡ Some r → c areas.Cd n ≡ table_from_rows change_key_spelling change_row_spelling (change_rows_of server r)
+  holds_registered n t r at registered =
+      holds_changes n
+      ∙ ap (λ (o : Option ServerTable). of_registered (option_and_then (λ t. t.registered) o)) at
+      ∙ ap of_registered registered
+    where
+      of_registered : Option Registered → Table
+      of_registered o = option_map_or (λ r. table_from_rows change_key_spelling change_row_spelling (change_rows_of server r)) o no_rows
+
+  -- its unit-of-work table
+  pub holds_units : c areas.Uow 0 ≡ table_from_rows b64 uow_spelling (uow_rows server)
+  unfolding tables
+  holds_units = holds areas.Uow 0
+
+  module _ (keys : KeysOfRowsFit) (stand : SourceRowsStand) (rules_kept : ServerKeepsRules w server) (sound : LogIsSound server) (numbers : NumbersAreSound server) where
     -- each entry of these tables is a key and a value
     all_spelt : IsSpelt rules c
     all_spelt areas.Defs t k v has = holds_spelt w server c rules_kept holds areas.Defs t k v has
@@ -74,6 +103,19 @@ module _ (w : World) (server : Server) (c : Contents) (holds : Holds w server c)
         pick None e = absurd cc
         pick (Some u) e = rows_spelt rules areas.Source t key_spelling source_row_spelling (source_rows server u.def) k v (all_weaker (RowFits IsKey IsSourceRow) (λ (r : Values × SourceRow). rules.is_key areas.Source t (key_spelling r.0) × rules.is_value areas.Source t (source_row_spelling r.1)) (source_rows server u.def) (λ r fit. ((r.0, fit.0, refl), (r.1, fit.1, refl))) (source_rows_fit keys stand server u.def sound)) e
     all_spelt areas.Log zero k v has = rows_spelt rules areas.Log 0 b64 log_spelling (log_rows server) k v (all_weaker (RowFits Is64 IsLogRecord) (λ (r : ℕ × LogRecord). rules.is_key areas.Log 0 (b64 r.0) × rules.is_value areas.Log 0 (log_spelling r.1)) (log_rows server) (λ r fit. ((r.0, fit.0, refl), (r.1, fit.1, refl))) (log_records_are server sound).fit) (sym (ap (λ (u : Table). u k) holds_log) ∙ has)
+    all_spelt areas.Cd t k v has = pick (slice_get server.tables t) refl (sym (ap (λ (u : Table). u k) (holds_changes t)) ∙ has)
+      where
+        registered : (u : ServerTable) (r : Registered) → KeepsTable u → RegistrationKeepsRules u.def r.reg → table_from_rows change_key_spelling change_row_spelling (change_rows_of server r) k ≡ Some v → rules.is_key areas.Cd t k × rules.is_value areas.Cd t v
+        registered u r keeps rule e = rows_spelt rules areas.Cd t change_key_spelling change_row_spelling (change_rows_of server r) k v (all_weaker (RowFits IsChangeKey IsChangeRow) (λ (q : CdKey × ChangeRow). rules.is_key areas.Cd t (change_key_spelling q.0) × rules.is_value areas.Cd t (change_row_spelling q.1)) (change_rows_of server r) (λ q fit. ((q.0, fit.0, refl), (q.1, fit.1, refl))) (change_rows_are server r sound (has_few_columns u r.reg keeps rule)).fit) e
+
+        of_table : (u : ServerTable) (o : Option Registered) → KeepsTable u → IfSome o (λ r. RegistrationKeepsRules u.def r.reg) → option_map_or (λ (r : Registered). table_from_rows change_key_spelling change_row_spelling (change_rows_of server r)) o no_rows k ≡ Some v → rules.is_key areas.Cd t k × rules.is_value areas.Cd t v
+        of_table u None keeps rule e = absurd cc
+        of_table u (Some r) keeps rule e = registered u r keeps rule e
+
+        pick : (o : Option ServerTable) → slice_get server.tables t ≡ o → option_map_or (λ (r : Registered). table_from_rows change_key_spelling change_row_spelling (change_rows_of server r)) (option_and_then (λ (u : ServerTable). u.registered) o) no_rows k ≡ Some v → rules.is_key areas.Cd t k × rules.is_value areas.Cd t v
+        pick None at e = absurd cc
+        pick (Some u) at e = let keeps = at_one KeepsTable server.tables u rules_kept.tables (at_place_in server.tables t u at) in of_table u u.registered keeps keeps.2 e
+    all_spelt areas.Uow zero k v has = rows_spelt rules areas.Uow 0 b64 uow_spelling (uow_rows server) k v (all_weaker (RowFits Is64 IsUow) (λ (r : ℕ × UowRow). rules.is_key areas.Uow 0 (b64 r.0) × rules.is_value areas.Uow 0 (uow_spelling r.1)) (uow_rows server) (λ r fit. ((r.0, fit.0, refl), (r.1, fit.1, refl))) (unit_rows_are server sound numbers).fit) (sym (ap (λ (u : Table). u k) holds_units) ∙ has)
     all_spelt a t k v has = (tt, tt)
 
 -- ---- servers that stand for a world
@@ -85,16 +127,20 @@ found_too spelling (Some x) = refl
 
 module _ {K : Type 0} (kept : K → Kept) (s0 : Sites K) (closed : AllClosed (work kept s0)) (w : World) (stands : Stands (names s0) (held kept s0) w) where
   -- the log of each is sound
-  sound_at : (s : ℕ) → s < length (names s0) → LogIsSound (server_in w s)
+  pub sound_at : (s : ℕ) → s < length (names s0) → LogIsSound (server_in w s)
   sound_at s lt = all_at_place LogIsSound w s (empty_server []) stands.sound.logs (subst (λ (n : ℕ). s < n) (sym (same_count kept s0 closed w stands)) lt)
+
+  -- so are the numbers
+  pub numbers_at : (s : ℕ) → s < length (names s0) → NumbersAreSound (server_in w s)
+  numbers_at s lt = all_at_place NumbersAreSound w s (empty_server []) stands.sound.numbers (subst (λ (n : ℕ). s < n) (sym (same_count kept s0 closed w stands)) lt)
 
   -- no damage is reported of them
   pub none_damaged : KeysOfRowsFit → SourceRowsStand → (s1 : Sites K) (e : Fault) → Blames kept s0 s1 (ShowsDamage kept s0) e → IsNoDamage e
-  none_damaged keys stand s1 e blames = no_damage kept s0 s1 (λ s. s < length (names s0)) rules e (λ s lt. let r = seen_at kept s0 closed w stands s lt in (r.0, r.1, spelt_undamaged rules (λ a t key c h. h, λ a t key value c h. h) r.0 (all_spelt w (server_in w s) r.0 r.2 keys stand (keeps_at kept s0 closed w stands s lt) (sound_at s lt)))) blames
+  none_damaged keys stand s1 e blames = no_damage kept s0 s1 (λ s. s < length (names s0)) rules e (λ s lt. let r = seen_at kept s0 closed w stands s lt in (r.0, r.1, spelt_undamaged rules (λ a t key c h. h, λ a t key value c h. h) r.0 (all_spelt w (server_in w s) r.0 r.2 keys stand (keeps_at kept s0 closed w stands s lt) (sound_at s lt) (numbers_at s lt)))) blames
 
   module _ (s : ℕ) (lt : s < length (names s0)) where
     -- what was seen is of what the server holds
-    read_at : (P : Contents → Type 0) → IfSome (sees kept s0 s) P → (c : Contents) × Holds w (server_in w s) c × P c
+    pub read_at : (P : Contents → Type 0) → IfSome (sees kept s0 s) P → (c : Contents) × Holds w (server_in w s) c × P c
     read_at P read = let r = seen_at kept s0 closed w stands s lt in (r.0, r.2, subst (λ (o : Option Contents). IfSome o P) r.1 read)
 
     -- ---- the log

@@ -7,6 +7,8 @@ use Rattle.keep_core.specs.Kept.{Kept}
 use Rattle.keep_core.specs.Revealed.{count_max}
 use Rattle.row_codec.specs.Spelling.{Is64, b64, IsKey, key_spelling}
 use Rattle.row_codec.specs.LogRecords.{IsLogRecord, log_spelling}
+use Rattle.repl_records.specs.Capture.{change_row_spelling, IsChangeRow, uow_spelling, IsUow}
+use Rattle.repl_records.specs.RecordKeys.{change_key_spelling, IsChangeKey}
 use Rattle.repl_records.specs.SourceSide.{source_row_spelling, IsSourceRow}
 use Rattle.site_store.specs.declared.sites.Sites.{Sites}
 use Rattle.site_store.specs.Views.{names}
@@ -25,13 +27,23 @@ log_reads server = reads_of_one count_max server areas.Log
 abbrev pub source_reads : ℕ → Bounds
 source_reads server = both (reads_of_one 1 server areas.Defs) (reads_of_one count_max server areas.Source)
 
+-- the definitions of a server are read once, and its change-data tables as often as can be counted at most
+abbrev pub change_reads : ℕ → Bounds
+change_reads server = both (reads_of_one 1 server areas.Defs) (reads_of_one count_max server areas.Cd)
+
+-- the unit-of-work table of a server is read, as often as can be counted at most, and nothing else is
+abbrev pub unit_reads : ℕ → Bounds
+unit_reads server = reads_of_one count_max server areas.Uow
+
 -- ---- what may stand there
 
--- keys of definitions, of rows of the source, and of log records
+-- keys of definitions, of rows of the source, of log records, of change rows, and of units
 abbrev pub may_be_key : Area → ℕ → List ℕ → Type 0
 may_be_key areas.Defs t bytes = may_be_definition_key areas.Defs t bytes
 may_be_key areas.Source t bytes = Spells IsKey key_spelling bytes
 may_be_key areas.Log zero bytes = Spells Is64 b64 bytes
+may_be_key areas.Cd t bytes = Spells IsChangeKey change_key_spelling bytes
+may_be_key areas.Uow zero bytes = Spells Is64 b64 bytes
 may_be_key a t bytes = Unit {0}
 
 -- and their values
@@ -39,6 +51,8 @@ abbrev pub may_be_value : Area → ℕ → List ℕ → Type 0
 may_be_value areas.Defs t bytes = may_be_definition areas.Defs t bytes
 may_be_value areas.Source t bytes = Spells IsSourceRow source_row_spelling bytes
 may_be_value areas.Log zero bytes = Spells IsLogRecord log_spelling bytes
+may_be_value areas.Cd t bytes = Spells IsChangeRow change_row_spelling bytes
+may_be_value areas.Uow zero bytes = Spells IsUow uow_spelling bytes
 may_be_value a t bytes = Unit {0}
 
 -- no record is called for, and each fits

@@ -3,22 +3,26 @@
 //! `show_source` writes the reply of `show S source T`: a line for each committed row of a table,
 //! in the order of the rows' keys, and then how many they are. `show_log` writes that of
 //! `show S log`: a line for each record of the log with its position, and then how many they are.
-//! Both read one record after another and write its line at once, so the memory that they need
-//! doesn't grow with the table. They change nothing.
+//! `show_changes` writes that of `show S cd T`: a line for each change row of the registration of a
+//! table. `show_units` writes that of `show S uow`: a line for each captured unit, with the code
+//! that is shown for it. All read one record after another and write its line at once, so the
+//! memory that they need doesn't grow with the table. They change nothing.
 //!
 //! The crate stands on `site_store`, by which it reads, on `world_store`, which says what a server
 //! of a world keeps, on `log_rows` and `stored_defs`, which say what holds of these rows, and on
-//! `reply_text`, which writes the lines. No command carries them out yet.
+//! `reply_text`, which writes the lines. `show_command` carries out the commands by it.
 //!
 //! For example, of a table with the rows (1, 'pen') and (2, 'red ink') it writes `row 1 'pen'`,
 //! `row 2 'red ink'` and `ok rows 2`.
 #![tactic(auto)]
 
+mod captured;
 mod output;
 mod records;
 mod shown;
 mod source;
 
+pub use captured::{show_changes, show_units};
 pub use source::{show_log, show_source};
 
 #[cfg(test)]

@@ -29,13 +29,13 @@ fn hand_over<O: Sink>(output: &mut O, line: &[u8]) -> Result<(), ShowError>
 pub fn show_record<O: Sink, R: ShownRecord>(
     output: &mut O,
     key: &R::Key,
-    row: &R,
+    row: R,
     line: &mut Vec<u8>,
 ) -> Result<(), ShowError>
     ensures ok { OnOk result (Takes (O.taken output.old) (O.taken output.new)
-        (R.line key.now row.now)) }
+        (R.line key.now row)) }
     ensures err { OnErr result (TakesPrefix (O.taken output.old) (O.taken output.new)
-        (R.line key.now row.now)) }
+        (R.line key.now row)) }
     ensures cause { IfErr result (IsOutputFault (O.faults output.old) (O.faults output.new)) }
     ensures counts { O.faults output.old ≤ O.faults output.new }
 {

@@ -50,7 +50,7 @@ pub fn show_records<K: Keeper, O: Sink, R: ShownRecord>(
             show_count(output, shown, &mut line)?;
             return Ok(());
         };
-        show_record(output, &key, &record, &mut line)?;
+        show_record(output, &key, record, &mut line)?;
         last = Some(key);
     }
     show_count(output, u64::MAX, &mut line)?;

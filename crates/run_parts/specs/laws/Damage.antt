@@ -20,6 +20,7 @@ use Rattle.stored_defs.specs.Rules.{rules as stored_rules}
 use Rattle.show_rows.specs.Rules.{rules as status_rules}
 use Rattle.show_source.specs.Rules.{rules as source_rules}
 use Rattle.source_log.specs.Rules.{all_rules as append_rules}
+use Rattle.capture_core.specs.Rules.{rules as capture_rules}
 use Rattle.run_parts.specs.Causes.{PartHasCause}
 use Rattle.run_parts.specs.Damage.{rules, ShowsDamage}
 use Rattle.run_parts.specs.RunErrors.{error_of_fault}
@@ -30,27 +31,36 @@ use Rattle.run_parts.specs.declared.run_error.RunError.TheVariants as errors
 
 -- of definitions
 pub stored_shown : (a : Area) (cause : DamageCause) (saw : Option Contents) → Shows stored_rules a cause saw → Shows rules a cause saw
-stored_shown a cause saw shows = shown_first stored_rules (joined status_rules (joined source_rules append_rules)) a cause saw shows
+stored_shown a cause saw shows = shown_first stored_rules (joined status_rules (joined source_rules (joined append_rules capture_rules))) a cause saw shows
 
 -- of how far a server is
 pub status_shown : (a : Area) (cause : DamageCause) (saw : Option Contents) → Shows status_rules a cause saw → Shows rules a cause saw
 status_shown a cause saw shows =
-    shown_second stored_rules (joined status_rules (joined source_rules append_rules)) a cause saw
-    (shown_first status_rules (joined source_rules append_rules) a cause saw shows)
+    shown_second stored_rules (joined status_rules (joined source_rules (joined append_rules capture_rules))) a cause saw
+    (shown_first status_rules (joined source_rules (joined append_rules capture_rules)) a cause saw shows)
 
 -- of a source
 pub source_shown : (a : Area) (cause : DamageCause) (saw : Option Contents) → Shows source_rules a cause saw → Shows rules a cause saw
 source_shown a cause saw shows =
-    shown_second stored_rules (joined status_rules (joined source_rules append_rules)) a cause saw
-    (shown_second status_rules (joined source_rules append_rules) a cause saw
-    (shown_first source_rules append_rules a cause saw shows))
+    shown_second stored_rules (joined status_rules (joined source_rules (joined append_rules capture_rules))) a cause saw
+    (shown_second status_rules (joined source_rules (joined append_rules capture_rules)) a cause saw
+    (shown_first source_rules (joined append_rules capture_rules) a cause saw shows))
 
 -- of what is read before a log is made longer
 pub append_shown : (a : Area) (cause : DamageCause) (saw : Option Contents) → Shows append_rules a cause saw → Shows rules a cause saw
 append_shown a cause saw shows =
-    shown_second stored_rules (joined status_rules (joined source_rules append_rules)) a cause saw
-    (shown_second status_rules (joined source_rules append_rules) a cause saw
-    (shown_second source_rules append_rules a cause saw shows))
+    shown_second stored_rules (joined status_rules (joined source_rules (joined append_rules capture_rules))) a cause saw
+    (shown_second status_rules (joined source_rules (joined append_rules capture_rules)) a cause saw
+    (shown_second source_rules (joined append_rules capture_rules) a cause saw
+    (shown_first append_rules capture_rules a cause saw shows)))
+
+-- of what is read when a log is captured
+pub capture_shown : (a : Area) (cause : DamageCause) (saw : Option Contents) → Shows capture_rules a cause saw → Shows rules a cause saw
+capture_shown a cause saw shows =
+    shown_second stored_rules (joined status_rules (joined source_rules (joined append_rules capture_rules))) a cause saw
+    (shown_second status_rules (joined source_rules (joined append_rules capture_rules)) a cause saw
+    (shown_second source_rules (joined append_rules capture_rules) a cause saw
+    (shown_second append_rules capture_rules a cause saw shows)))
 
 -- ---- why a part ends
 
@@ -63,20 +73,32 @@ module _ {K : Type 0} (kept : K → Kept) (s0 s1 : Sites K) (closed : AllClosed 
   seen_after : held kept s1 ≡ held kept s0 → (n : ℕ) → sees kept s0 n ≡ sees kept s1 n
   seen_after same n = sees_held s0 closed n ∙ ap (λ (h : List (Option Contents)). slice_index_or h n None) (sym same) ∙ sym (sees_held s1 keeps.closed n)
 
+  -- why a part ends at a fault: if it is damage, it is shown at the end, and the servers stood for no world
+  blamed_cause : (damage : ℕ → Area → DamageCause → Type 0) (before now : ℕ) (e : Fault) (error : RunError) → Some error ≡ error_of_fault e → Blames kept s0 s1 damage e → ((n : ℕ) (a : Area) (cause : DamageCause) → e ≡ faults.Damaged n a cause → damage n a cause → ShowsDamage kept s1 n a cause) → ((w : World) → Stands (names s0) (held kept s0) w → IsNoDamage e) → PartHasCause kept s0 s1 before now error
+  blamed_cause damage before now faults.Memory error is blames shown none = rw (same_Some error errors.Memory is) (record { streams = tt; servers = tt })
+  blamed_cause damage before now (faults.Keeper n) error is blames shown none = rw (same_Some error (errors.KeeperFailed n) is) (record { streams = tt; servers = blames })
+  blamed_cause damage before now (faults.Damaged n a cause) error is blames shown none = rw (same_Some error (errors.Damaged n a cause) is) (record {
+    streams = tt;
+    servers = (shown n a cause refl blames.1, none);
+  })
+  blamed_cause damage before now (faults.Refused refusal) error is blames shown none = absurd cc
+
   module _ (layer : Rules) (all : (a : Area) (cause : DamageCause) (saw : Option Contents) → Shows layer a cause saw → Shows rules a cause saw) (at : ℕ → Type 0) (below : (n : ℕ) → at n → n < length (names s0)) where
     -- damage that a layer found is shown at the end of the part
     shown_after : held kept s1 ≡ held kept s0 → (n : ℕ) (a : Area) (cause : DamageCause) → Damages at layer kept s0 n a cause → ShowsDamage kept s1 n a cause
     shown_after same n a cause shows = (subst (λ (l : List (List ℕ)). n < length l) (sym keeps.names) (below n shows.0), subst (Shows rules a cause) (seen_after same n) (all a cause (sees kept s0 n) shows.1))
 
+    -- so is damage that a layer shows there
+    shown_there : (n : ℕ) (a : Area) (cause : DamageCause) → Damages at layer kept s1 n a cause → ShowsDamage kept s1 n a cause
+    shown_there n a cause shows = (subst (λ (l : List (List ℕ)). n < length l) (sym keeps.names) (below n shows.0), all a cause (sees kept s1 n) shows.1)
+
     -- why a part ends at a fault: if it is damage, the servers hold what they held, and they stand for no world
     pub fault_cause : (before now : ℕ) (e : Fault) (error : RunError) → Some error ≡ error_of_fault e → Blames kept s0 s1 (Damages at layer kept s0) e → ((n : ℕ) (a : Area) (cause : DamageCause) → e ≡ faults.Damaged n a cause → held kept s1 ≡ held kept s0) → ((w : World) → Stands (names s0) (held kept s0) w → IsNoDamage e) → PartHasCause kept s0 s1 before now error
-    fault_cause before now faults.Memory error is blames same none = rw (same_Some error errors.Memory is) (record { streams = tt; servers = tt })
-    fault_cause before now (faults.Keeper n) error is blames same none = rw (same_Some error (errors.KeeperFailed n) is) (record { streams = tt; servers = blames })
-    fault_cause before now (faults.Damaged n a cause) error is blames same none = rw (same_Some error (errors.Damaged n a cause) is) (record {
-      streams = tt;
-      servers = (shown_after (same n a cause refl) n a cause blames.1, none);
-    })
-    fault_cause before now (faults.Refused refusal) error is blames same none = absurd cc
+    fault_cause before now e error is blames same none = blamed_cause (Damages at layer kept s0) before now e error is blames (λ n a cause met shows. shown_after (same n a cause met) n a cause shows) none
+
+    -- the same, if the damage is shown by what the servers hold at the end
+    pub end_cause : (before now : ℕ) (e : Fault) (error : RunError) → Some error ≡ error_of_fault e → Blames kept s0 s1 (Damages at layer kept s1) e → ((w : World) → Stands (names s0) (held kept s0) w → IsNoDamage e) → PartHasCause kept s0 s1 before now error
+    end_cause before now e error is blames none = blamed_cause (Damages at layer kept s1) before now e error is blames (λ n a cause met shows. shown_there n a cause shows) none
 
 module _ {K : Type 0} (kept : K → Kept) (s0 s1 : Sites K) (closed : AllClosed (work kept s0)) (layer : Rules) (all : (a : Area) (cause : DamageCause) (saw : Option Contents) → Shows layer a cause saw → Shows rules a cause saw) where
   -- why a part ends at a call that failed and left the servers as they were

@@ -1,13 +1,14 @@
 -- Parts of a run: what is said of them at the names that the servers had at the beginning, and parts that only write.
-use Rattle.std.proofs.Common.{◌≡◌, ◌≤◌, ◌∙◌, ◌||◌, ℕ, List, [], Bool, true, false, refl, sym, ap₂, subst, arith}
+use Rattle.std.proofs.Common.{◌≡◌, ◌≤◌, ◌∙◌, ◌||◌, ℕ, List, [], ◌∷◌, Bool, true, false, refl, sym, ap₂, subst, arith}
 use Rattle.std.specs.Prelude.{Option}
+use Rattle.std.proofs.lemmas.List.{append-nil}
 use Rattle.repl_types.specs.declared.refusal.Refusal.{Refusal}
 use Rattle.keep_core.specs.Contents.{Contents}
 use Rattle.keep_core.specs.Kept.{Kept}
 use Rattle.keep_core.specs.Revealed.{Takes, TakesPrefix}
 use Rattle.keep_core.specs.laws.Revealed.{takes_nothing}
 use Rattle.repl_model.specs.World.{World}
-use Rattle.run_core.specs.Runs.{Event, last_world, lines_of, is_refused, Went, Stopped}
+use Rattle.run_core.specs.Runs.{Event, writes, last_world, lines_of, is_refused, Went, Stopped}
 use Rattle.run_core.specs.laws.Runs.{refused_append, stopped_before, went_both, stopped_in_first, stopped_in_second}
 use Rattle.run_core.specs.laws.Quiet.{IsQuiet, went_quiet, stopped_quiet}
 use Rattle.site_store.specs.Servers.{AllClosed}
@@ -68,6 +69,14 @@ module _ {K : Type 0} (kept : K → Kept) (s : Sites K) where
   -- a prefix of it was
   pub refusal_begun : (t u : Option (List ℕ)) (refusal : Refusal) → TakesPrefix t u (lines_of (refused refusal)) → StoppedIn kept s s t u (λ w. refused refusal)
   refusal_begun t u refusal wrote = stopped_quietly kept s s refl t u (λ w. refused refusal) (λ w stands. (tt, wrote))
+
+  -- the line of a reply was written
+  pub line_written : (t u : Option (List ℕ)) (line : List ℕ) (answer : Bool) → (answer ≡ false) × Takes t u line → Happened kept s s t u (λ w. writes line ∷ []) answer
+  line_written t u line answer wrote = happened_quiet kept s s refl t u (λ w. writes line ∷ []) answer (λ w stands. (tt, subst (Takes t u) (sym (append-nil line)) wrote.1, wrote.0))
+
+  -- a prefix of it was
+  pub line_begun : (t u : Option (List ℕ)) (line : List ℕ) → TakesPrefix t u line → StoppedIn kept s s t u (λ w. writes line ∷ [])
+  line_begun t u line wrote = stopped_quietly kept s s refl t u (λ w. writes line ∷ []) (λ w stands. (tt, subst (TakesPrefix t u) (sym (append-nil line)) wrote))
 
   -- nothing was to be done
   pub all_done : (t : Option (List ℕ)) → Happened kept s s t t (λ w. []) false

@@ -1,7 +1,7 @@
 use Rattle.std.proofs.Common.{ℕ, List, ◌∙◌, sym, ap, subst}
 use Rattle.std.specs.Prelude.{Option}
 use Rattle.keep_core.specs.Revealed.{Takes, TakesPrefix}
-use Rattle.repl_model.specs.World.{World}
+use Rattle.repl_model.specs.World.{World, server_table}
 use Rattle.run_core.specs.Runs.{lines_of}
 use Rattle.site_store.specs.Views.{names, held}
 use Rattle.world_store.specs.Stands.{Stands}
@@ -9,6 +9,7 @@ use Rattle.repl_types.specs.declared.refusal.Refusal.TheVariants as refusals
 use Rattle.run_parts.specs.Refusing.{refused}
 use Rattle.run_parts.specs.laws.Exits.{err_also, ok_also}
 use Rattle.run_parts.specs.laws.Parts.{happened_as, stopped_as, refusal_written, refusal_begun}
+use Rattle.show_source.specs.Replies.{source_lines}
 use Rattle.show_source.specs.Rules.{source_reads}
 use Rattle.show_command.specs.ShowEvents.{table_events, source_events}
 use Rattle.show_command.proofs.ShowEvents.{at_none, table_written, table_begun, table_refused, refusal_started, fails_holds, show_cause}
@@ -38,7 +39,7 @@ returns-then-found-clause-ok g c =
     let s0 = c.args.sites.now in
     let n = c.in-Some.server in
     let found = λ (w : World) (stands : Stands (names s0) (held kept s0) w). sym c.if-found.true ∙ c.in-Ok.ensures.found w stands in
-    table_written kept s0 c.requires c.args.name n c.in-Some.ensures c.show_source.new.sites c.in-Ok.ensures.stays.held (g.O.Sink.taken c.args.output.now) (g.O.Sink.taken c.show_source.new.output) c.args.table found c.in-Ok.ensures.ok
+    table_written kept s0 c.requires c.args.name n c.in-Some.ensures c.show_source.new.sites c.in-Ok.ensures.stays.held (g.O.Sink.taken c.args.output.now) (g.O.Sink.taken c.show_source.new.output) c.args.table (server_table c.args.table) (λ server t. source_lines server t.def) found c.in-Ok.ensures.ok
 
 pub returns-clause-ok : goal.returns-clause-ok
 returns-clause-ok g c =
@@ -53,7 +54,7 @@ returns-clause-ok g c =
     let none = λ (w : World) (stands : Stands (names s0) (held kept s0) w). sym c.if-found.false ∙ c.in-Ok.ensures.found w stands in
     let same = ap (g.O.Sink.taken) (c.in-Ok.ensures.unwritten c.if-found.false) in
     let line = lines_of (refused (refusals.NoSuchTable name table)) in
-    ok_also c.refuse-2.result (λ answer wrote. table_refused kept s0 c.requires name n c.in-Some.ensures s1 c.in-Ok.ensures.stays.held t u table none answer (wrote.0, subst (λ (before : Option (List ℕ)). Takes before u line) same wrote.1)) c.refuse-2.ensures.ok
+    ok_also c.refuse-2.result (λ answer wrote. table_refused kept s0 c.requires name n c.in-Some.ensures s1 c.in-Ok.ensures.stays.held t u table (server_table table) (λ server s. source_lines server s.def) none answer (wrote.0, subst (λ (before : Option (List ℕ)). Takes before u line) same wrote.1)) c.refuse-2.ensures.ok
 
 pub returns-clause-stopped : goal.returns-clause-stopped
 returns-clause-stopped g c =
@@ -68,12 +69,12 @@ returns-clause-stopped g c =
     let none = λ (w : World) (stands : Stands (names s0) (held kept s0) w). sym c.if-found.false ∙ c.in-Ok.ensures.found w stands in
     let same = ap (g.O.Sink.taken) (c.in-Ok.ensures.unwritten c.if-found.false) in
     let line = lines_of (refused (refusals.NoSuchTable name table)) in
-    err_also c.refuse-2.result (λ wrote. refusal_started kept s0 c.requires name n c.in-Some.ensures s1 c.in-Ok.ensures.stays.held t u table none (subst (λ (before : Option (List ℕ)). TakesPrefix before u line) same wrote)) c.refuse-2.ensures.stopped
+    err_also c.refuse-2.result (λ wrote. refusal_started kept s0 c.requires name n c.in-Some.ensures s1 c.in-Ok.ensures.stays.held t u table (server_table table) (λ server s. source_lines server s.def) none (subst (λ (before : Option (List ℕ)). TakesPrefix before u line) same wrote)) c.refuse-2.ensures.stopped
 
 pub returns-in-Err-clause-stopped : goal.returns-in-Err-clause-stopped
 returns-in-Err-clause-stopped g c =
     let fails = fails_holds g.K.Keeper.kept c.args.sites.now c.requires c.args.name c.show_source.new.sites (source_reads c.in-Some.server) (g.O.Sink.faults c.args.output.now) (g.O.Sink.faults c.show_source.new.output) c.in-Err.error c.in-Err.ensures.fault in
-    table_begun g.K.Keeper.kept c.args.sites.now c.requires c.args.name c.in-Some.server c.in-Some.ensures c.show_source.new.sites fails (g.O.Sink.taken c.args.output.now) (g.O.Sink.taken c.show_source.new.output) c.args.table c.in-Err.ensures.err
+    table_begun g.K.Keeper.kept c.args.sites.now c.requires c.args.name c.in-Some.server c.in-Some.ensures c.show_source.new.sites fails (g.O.Sink.taken c.args.output.now) (g.O.Sink.taken c.show_source.new.output) c.args.table (server_table c.args.table) (λ server t. source_lines server t.def) c.in-Err.ensures.err
 
 pub returns-in-Err-clause-cause : goal.returns-in-Err-clause-cause
 returns-in-Err-clause-cause g c = show_cause g.K.Keeper.kept c.args.sites.now c.requires c.args.name c.show_source.new.sites (source_reads c.in-Some.server) (g.O.Sink.faults c.args.output.now) (g.O.Sink.faults c.show_source.new.output) c.in-Err.error c.error_of_reply.result c.error_of_reply.ensures c.in-Err.ensures.fault c.in-Err.ensures.undamaged

@@ -1,4 +1,4 @@
-use Rattle.std.proofs.Common.{◌≡◌, ◌+◌, ◌∷◌, [], ℕ, List, length, false, arith, subst}
+use Rattle.std.proofs.Common.{◌≡◌, ◌+◌, ◌∷◌, [], ℕ, List, length, false, refl, arith, subst}
 use Rattle.std.specs.Prelude.{Option, is_none, IfSome}
 use Rattle.std.proofs.lemmas.Result.{err_from_is_err_and}
 use Rattle.repl_model.specs.World.{World}
@@ -9,10 +9,10 @@ use Rattle.site_store.specs.Views.{names, held}
 use Rattle.world_store.specs.Stands.{Stands}
 use Rattle.run_parts.specs.Parts.{Happened}
 use Rattle.run_parts.specs.laws.Exits.{on_err}
-use Rattle.run_parts.specs.laws.Parts.{output_cause, later_cause, stands_after}
+use Rattle.run_parts.specs.laws.Parts.{line_written, line_begun, output_cause, later_cause, stands_after}
 use Rattle.feed_command.specs.FeedEvents.{batch_events, last_position}
 use Rattle.feed_command.specs.declared.feed.Feed.{Feed}
-use Rattle.feed_command.proofs.BodyLines.{batch_stopped, batch_refused, more_happened, more_stopped, line_written, line_begun, told_same}
+use Rattle.feed_command.proofs.BodyLines.{batch_stopped, batch_refused, more_happened, more_stopped, told_same}
 use Rattle.feed_command.proofs.lines.end_feed.Goals as goal
 
 -- what is written at the end
@@ -99,7 +99,7 @@ returns g c =
     let position = subst (λ (o : Option ℕ). IfSome o (λ (n : ℕ). (w : World) → Stands (names s0) (held kept s0) w → n ≡ last_position feed w)) c.in-Some.is c.in_ok-last.ensures.last in
     record {
       ok = more_happened kept s0 s1 t u feed (ending feed) happened keeps.names (writes line ∷ []) (λ w stands. told_same feed w c.len.result last c.len.ensures.len (position w stands)) v false
-          (line_written kept s1 u v line c.in_ok-reply.ensures.ok);
+          (line_written kept s1 u v line false (refl, c.in_ok-reply.ensures.ok));
       stopped = tt;
       servers = keeps;
       cause = tt;

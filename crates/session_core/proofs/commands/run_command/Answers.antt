@@ -19,7 +19,7 @@ returns g c =
     let t = g.O.Sink.taken c.args.output.now in
     let u = g.O.Sink.taken c.refuse.new.output in
     let unknown = refusals.UnknownCommand c.args.number in
-    let none : talk_of c.args.command ≡ None = not_carried_out c.args.command c.requires.bodiless c.in_default.not-StatusServer c.in_default.not-ShowSource c.in_default.not-ShowLog in
+    let none : talk_of c.args.command ≡ None = not_carried_out c.args.command c.requires.bodiless c.in_default.not-Capture c.in_default.not-StatusServer c.in_default.not-ShowSource c.in_default.not-ShowCd c.in_default.not-ShowUow c.in_default.not-ShowLog in
     record {
       ok = subst (λ (talk : Option (World → List (Event World))). IfOk c.refuse.result (Happened kept sites sites t u (λ w. option_map_or (λ events. events w) talk (refused unknown)))) (sym none) (ok_also c.refuse.result (refusal_written kept sites t u unknown) c.refuse.ensures.ok);
       stopped = subst (λ (talk : Option (World → List (Event World))). OnErr c.refuse.result (StoppedIn kept sites sites t u (λ w. option_map_or (λ events. events w) talk (refused unknown)))) (sym none) (err_also c.refuse.result (refusal_begun kept sites t u unknown) c.refuse.ensures.stopped);

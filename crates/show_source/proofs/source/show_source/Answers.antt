@@ -21,12 +21,12 @@ use Rattle.show_source.proofs.source.show_source.Goals as goal
 pub returns-in_err-defined-clause-fault : goal.returns-in_err-defined-clause-fault
 returns-in_err-defined-clause-fault g c =
     let p = err_from_is_err_and c.from_residual.result c.from_residual.ensures.1 in
-    rw (p.1, p.2) (get_fails g.K.Keeper.kept IsDefinedTable defined_table_spelling (λ s. s < length (names c.args.sites.now)) rules c.args.sites.now c.get.new.self c.args.server areas.Defs 0 (short_text c.args.table.now) (source_reads c.args.server) c.in_err-defined.field-0.0 c.requires.server (λ bytes h. h) (one_read c.args.server) c.in_err-defined.ensures.fault)
+    rw (p.1, p.2) (get_fails g.K.Keeper.kept IsDefinedTable defined_table_spelling (λ s. s < length (names c.args.sites.now)) rules c.args.sites.now c.get.new.self c.args.server areas.Defs 0 (short_text c.args.table.now) (source_reads c.args.server) c.in_err-defined.field-0.0 c.requires.server (λ bytes h. h) (one_read c.args.server (reads_of_one count_max c.args.server areas.Source)) c.in_err-defined.ensures.fault)
 
 pub returns-in_err-defined-clause-undamaged : goal.returns-in_err-defined-clause-undamaged
 returns-in_err-defined-clause-undamaged g c =
     let p = err_from_is_err_and c.from_residual.result c.from_residual.ensures.1 in
-    rw (p.1, p.2) (λ w is_world. none_damaged g.K.Keeper.kept c.args.sites.now c.requires.closed w is_world c.a_change_is_stored.ensures.keys c.the_source_stands.ensures.stand c.get.new.self c.in_err-defined.field-0.0 (get_fails g.K.Keeper.kept IsDefinedTable defined_table_spelling (λ s. s < length (names c.args.sites.now)) rules c.args.sites.now c.get.new.self c.args.server areas.Defs 0 (short_text c.args.table.now) (source_reads c.args.server) c.in_err-defined.field-0.0 c.requires.server (λ bytes h. h) (one_read c.args.server) c.in_err-defined.ensures.fault).blames)
+    rw (p.1, p.2) (λ w is_world. none_damaged g.K.Keeper.kept c.args.sites.now c.requires.closed w is_world c.a_change_is_stored.ensures.keys c.the_source_stands.ensures.stand c.get.new.self c.in_err-defined.field-0.0 (get_fails g.K.Keeper.kept IsDefinedTable defined_table_spelling (λ s. s < length (names c.args.sites.now)) rules c.args.sites.now c.get.new.self c.args.server areas.Defs 0 (short_text c.args.table.now) (source_reads c.args.server) c.in_err-defined.field-0.0 c.requires.server (λ bytes h. h) (one_read c.args.server (reads_of_one count_max c.args.server areas.Source)) c.in_err-defined.ensures.fault).blames)
 
 pub returns-in_default-clause-ok : goal.returns-in_default-clause-ok
 returns-in_default-clause-ok g c = λ w is_world. subst (Takes (g.O.Sink.taken c.args.output.now) (g.O.Sink.taken c.args.output.now)) (sym (none_found g.K.Keeper.kept c.args.sites.now c.requires.closed w is_world c.args.server c.requires.server c.args.table.now (rw c.in_default.is at c.in_ok-defined.ensures.row))) (takes_nothing (g.O.Sink.taken c.args.output.now))

@@ -1,0 +1,2 @@
+mod CaptureEvents
+mod Numbers
