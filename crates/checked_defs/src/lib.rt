@@ -19,14 +19,7 @@ ghost use Rattle.repl_types.specs.declared.refusal.DefPlace.{DefPlace as Place};
 ghost use Rattle.spelled_defs.specs.Context.{context_of as context_of_lem, defs_of};
 ghost use Rattle.checked_defs.specs.Broken.{all_rules, first_broken};
 ghost use Rattle.checked_defs.specs.Whole.{have_kinds, LeavesNothingOut};
-
-#[cfg(test)]
-mod break_tests;
 mod find_break;
-#[cfg(test)]
-mod known_tests;
-#[cfg(test)]
-mod member_tests;
 mod members;
 mod names;
 mod once;
@@ -34,11 +27,7 @@ mod reads;
 mod registrations;
 mod replicas;
 mod rule;
-#[cfg(test)]
-mod spelled_tests;
 mod tables;
-#[cfg(test)]
-mod texts_for_tests;
 
 use crate::find_break::find_break;
 use repl_commands::{DefsError, RawDefs};

@@ -21,6 +21,3 @@ mod streams;
 pub use keeper::{KeepError, Keeper};
 pub use laws::pieces_join;
 pub use streams::{ReadError, Sink, Source, write_line};
-
-#[cfg(test)]
-mod tests;

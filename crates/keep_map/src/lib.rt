@@ -22,8 +22,6 @@ mod plan;
 mod slot;
 mod stored_row;
 mod stored_rows;
-#[cfg(test)]
-mod tests;
 
 pub use bytes_sink::BytesSink;
 pub use bytes_source::BytesSource;

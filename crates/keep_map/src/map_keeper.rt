@@ -10,9 +10,6 @@ use keep_core::{KeepError, Keeper};
 use repl_types::{Area, List};
 use std::alloc::Global;
 
-#[cfg(test)]
-mod tests;
-
 /// Contents in memory, with a plan of the calls that fail, and counts of the reads and of the
 /// writes of each area. Every call but `rollback` counts for the plan, whatever it answers.
 ///

@@ -16,6 +16,3 @@ mod line_end;
 
 pub use input::{Input, InputError, Next};
 pub use line_end::KEPT_LIMIT;
-
-#[cfg(test)]
-mod tests;

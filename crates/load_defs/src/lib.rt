@@ -21,8 +21,6 @@ mod putting;
 mod reading;
 mod rows;
 mod servers;
-#[cfg(test)]
-mod tests;
 
 pub use counts::Loaded;
 pub use loading::load;

@@ -18,8 +18,6 @@ mod limits;
 mod refusals;
 mod servers;
 mod stored;
-#[cfg(test)]
-mod tests;
 
 pub use additions::{Additions, additions_at};
 pub use refusals::{content_refusal, count_refusal};

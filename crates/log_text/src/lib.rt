@@ -11,8 +11,6 @@
 
 mod laws;
 mod read;
-#[cfg(test)]
-mod tests;
 mod words;
 mod write;
 

@@ -17,13 +17,9 @@ ghost use Rattle.repl_types.specs.declared.refusal.DefPlace.{DefPlace as Place};
 ghost use Rattle.raw_defs.specs.Raw.{AreRawDefs};
 
 mod fit;
-#[cfg(test)]
-mod hostile_tests;
 mod keys;
 mod read;
 mod shape;
-#[cfg(test)]
-mod tests;
 mod values;
 
 use crate::fit::fits_item;

@@ -13,8 +13,6 @@
 
 mod boxed;
 mod defined;
-#[cfg(test)]
-mod definition_tests;
 mod expr;
 mod member;
 mod nested;

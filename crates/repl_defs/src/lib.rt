@@ -9,24 +9,17 @@
 //! stand (`Entries.antt`).
 //!
 //! It stands on `repl_definitions`, which has the trees, on `repl_model`, which says what kinds
-//! operands may have, and on `repl_types`; tests compare spellings by `row_codec`. On it stands
-//! `checked_defs`.
+//! operands may have, and on `repl_types`. On it stands `checked_defs`.
 //!
 //! For example, over the columns `id` and `qty` the text `qty + 1` is the sum of column 1 and the
 //! integer 1, and `qty >= 10 and id <> 3` is both comparisons.
 #![tactic(auto)]
 
 mod entries;
-#[cfg(test)]
-mod entry_tests;
 mod error;
 mod reader;
-#[cfg(test)]
-mod text_tests;
 mod texts;
 mod token;
-#[cfg(test)]
-mod token_tests;
 mod words;
 
 pub use entries::{split_column, split_target};

@@ -17,8 +17,6 @@ mod code;
 mod laws;
 mod prune;
 mod record_keys;
-#[cfg(test)]
-mod record_tests;
 mod set_state;
 mod source_side;
 mod target_side;

@@ -21,8 +21,6 @@ mod sequence;
 mod sizes;
 mod status;
 mod table;
-#[cfg(test)]
-mod tests;
 mod text;
 mod unit;
 mod value;

@@ -45,37 +45,3 @@ fn write_hex(number: u64, count: u32, out: &mut Vec<u8>) -> Result<(), AllocErro
     let digit = HEX_DIGITS[(number % 16) as usize];
     Ok(out.push(digit)?)
 }
-
-#[cfg(test)]
-mod tests {
-    use super::*;
-    use std::test::*;
-
-    #[test]
-    fn a_sequence_is_twenty_digits(rt: HostRuntime) -> Result<(), Fail> {
-        let table: [(u64, u16, &[u8]); 3] = [
-            (0, 0, b"00000000000000000000"),
-            (1_999_999_999, 1, b"00000000773593ff0001"),
-            (u64::MAX, 0xabcd, b"ffffffffffffffffabcd"),
-        ];
-        for (position, sub, text) in table {
-            let mut out = Vec::new(rt.alloc());
-            write_sequence(&Sequence { position, sub }, &mut out)?;
-            assert!(rt; out.as_slice() == text);
-        }
-        Ok(())
-    }
-
-    #[test]
-    fn positions_come_before_sub_numbers(rt: HostRuntime) {
-        let earlier = Sequence {
-            position: 1,
-            sub: 1,
-        };
-        let later = Sequence {
-            position: 2,
-            sub: 0,
-        };
-        assert!(rt; sequence_order(&earlier, &later) == Ordering::Less);
-    }
-}

@@ -16,8 +16,6 @@ mod reply;
 mod row;
 mod status;
 mod step;
-#[cfg(test)]
-mod tests;
 
 pub use refusal::write_refusal;
 pub use reply::{Reply, write_reply};

@@ -16,8 +16,6 @@ mod key;
 mod laws;
 mod list;
 mod log_record;
-#[cfg(test)]
-mod log_tests;
 mod name;
 mod number;
 mod operation;
@@ -30,8 +28,6 @@ mod stored;
 mod table;
 mod table_number;
 mod take_error;
-#[cfg(test)]
-mod tests;
 mod value;
 
 pub use key::{Key, PartKey};

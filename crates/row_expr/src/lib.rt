@@ -18,8 +18,6 @@ mod operation;
 mod pending;
 mod predicate;
 mod row_value;
-#[cfg(test)]
-mod tests;
 
 pub use expression::eval;
 pub use predicate::test;

@@ -16,8 +16,6 @@
 mod laws;
 mod opening;
 mod servers;
-#[cfg(test)]
-mod tests;
 mod words;
 
 pub use laws::one_opening_of_words;

@@ -18,8 +18,6 @@ mod commands;
 mod laws;
 mod line;
 mod parts;
-#[cfg(test)]
-mod tests;
 mod words;
 
 pub use body::{first_word, takes_body};

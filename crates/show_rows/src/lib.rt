@@ -17,6 +17,3 @@ mod sets;
 mod show;
 
 pub use show::show_server;
-
-#[cfg(test)]
-mod tests;

@@ -24,6 +24,3 @@ mod source;
 
 pub use captured::{show_changes, show_units};
 pub use source::{show_log, show_source};
-
-#[cfg(test)]
-mod tests;

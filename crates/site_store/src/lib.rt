@@ -17,14 +17,9 @@
 //! `rows_in_order` and on `faults`. The layers that work on servers stand on it; `two_areas` and
 //! `rows_at_work` show its use.
 #![tactic(auto)]
-
-#[cfg(test)]
-mod order_tests;
 mod records;
 mod site;
 mod sites;
-#[cfg(test)]
-mod tests;
 
 pub use site::Site;
 pub use sites::{Sites, SitesError};

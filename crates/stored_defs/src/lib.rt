@@ -17,6 +17,3 @@ mod reading;
 
 pub use known_defs::known;
 pub use reading::read_records;
-
-#[cfg(test)]
-mod tests;

@@ -13,7 +13,5 @@
 #![tactic(auto)]
 
 mod buffer;
-#[cfg(test)]
-mod tests;
 
 pub use buffer::Buffer;
