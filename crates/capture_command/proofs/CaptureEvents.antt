@@ -1,9 +1,8 @@
 -- How a capture is carried out.
-use Rattle.std.proofs.Common.{◌≡◌, ◌∙◌, ℕ, ◌+◌, ◌<◌, List, [], ◌∷◌, ◌++◌, length, Bool, true, false, refl, sym, ap, subst, arith}
-use Rattle.std.specs.Prelude.{◌==◌, if◌then◌else◌, Option, Some, IsSome}
+use Rattle.std.proofs.Common.{◌≡◌, ◌∙◌, ℕ, ◌<◌, List, [], ◌∷◌, ◌++◌, length, map, take, false, refl, sym, ap, subst, arith}
+use Rattle.std.specs.Prelude.{Option, Some, IsSome}
 use Rattle.std.specs.Option.{option_map_or}
 use Rattle.repl_types.specs.declared.refusal.Refusal.TheVariants as refusals
-use Rattle.repl_types.specs.declared.unit.Unit.{Unit}
 use Rattle.faults.specs.declared.fault.Fault.{Fault}
 use Rattle.faults.specs.declared.fault.Fault.TheVariants as faults
 use Rattle.keep_core.specs.Kept.{Kept}
@@ -18,7 +17,7 @@ use Rattle.site_store.specs.declared.sites.Sites.{Sites}
 use Rattle.world_store.specs.Stands.{Stands}
 use Rattle.stored_defs.specs.Known.{server_in}
 use Rattle.capture_worlds.specs.Captures.{captured, taken_units}
-use Rattle.capture_core.specs.Capturing.{commits_of, captured_counts, HasCapturedAll, HasStopped, capture_events as capture_commits}
+use Rattle.capture_core.specs.Capturing.{batch_ends, captured_counts, HasCapturedAll, HasStopped, capture_events as capture_commits}
 use Rattle.capture_core.specs.Rules.{rules, ShowsDamage}
 use Rattle.capture_core.specs.declared.captured.Captured.{Captured}
 use Rattle.run_parts.specs.Causes.{PartHasCause}
@@ -37,22 +36,10 @@ use Rattle.capture_command.proofs.Numbers.{number_at_place, no_number}
 pub some_units : (every : Option ℕ) → 0 < units_per_commit every
 some_units every = omega arith
 
--- the commits of a capture refuse nothing
-none_refused : (every : ℕ) (name : List ℕ) (waiting : ℕ) (w : World) (us : List Unit) → false ≡ is_refused (commits_of every name waiting w us)
-none_refused every name waiting w [] = pick (waiting == 0)
-  where
-    pick : (b : Bool) → false ≡ is_refused (if b then [] else commits w ∷ [])
-    pick true = refl
-    pick false = refl
-none_refused every name waiting w (u ∷ us) =
-    let after = none_refused every name 0 (captured name (u ∷ []) w) us in
-    let on = none_refused every name (waiting + 1) (captured name (u ∷ []) w) us in
-    pick (waiting + 1 == every) after on
-  where
-    pick : (b : Bool) → false ≡ is_refused (commits_of every name 0 (captured name (u ∷ []) w) us) → false ≡ is_refused (commits_of every name (waiting + 1) (captured name (u ∷ []) w) us)
-        → false ≡ is_refused (if b then commits (captured name (u ∷ []) w) ∷ commits_of every name 0 (captured name (u ∷ []) w) us else commits_of every name (waiting + 1) (captured name (u ∷ []) w) us)
-    pick true after on = after
-    pick false after on = on
+-- commits refuse nothing
+none_refused : (world : ℕ → World) (ks : List ℕ) → false ≡ is_refused (map (λ k. commits (world k)) ks)
+none_refused world [] = refl
+none_refused world (k ∷ ks) = none_refused world ks
 
 module _ {K : Type 0} (kept : K → Kept) (s0 : Sites K) (closed : AllClosed (work kept s0)) (name : List ℕ) (units every : Option ℕ) where
   -- what a run does at what the world has as the number of the server
@@ -72,6 +59,13 @@ module _ {K : Type 0} (kept : K → Kept) (s0 : Sites K) (closed : AllClosed (wo
     abbrev first : World → List (Event World)
     first w = capture_commits n units (units_per_commit every) w
 
+    -- they refuse nothing
+    first_taken : (w : World) → false ≡ is_refused (first w)
+    first_taken w =
+        let server = server_in w n in
+        let us = taken_units units server in
+        none_refused (λ k. captured server.name (take k us) w) (batch_ends (units_per_commit every) (length us))
+
     -- then the line of the counts that are answered
     abbrev told : Captured → List (Event World)
     told answer = writes (counts_line answer) ∷ []
@@ -83,7 +77,7 @@ module _ {K : Type 0} (kept : K → Kept) (s0 : Sites K) (closed : AllClosed (wo
     module _ (answer : Captured) (has : (w : World) → Stands (names s0) (held kept s0) w → HasCapturedAll kept s0 s1 n units (units_per_commit every) w answer) (u : Option (List ℕ)) where
       -- all commits happened
       first_happened : Happened kept s0 s1 t t first false
-      first_happened = λ w stands. ((has w stands).went t, none_refused (units_per_commit every) (server_in w n).name 0 w (taken_units units (server_in w n)))
+      first_happened = λ w stands. ((has w stands).went t, first_taken w)
 
       -- with the counts that are answered, the events are those at the server
       counts_told : (w : World) → Stands (names s0) (held kept s0) w → first w ++ told answer ≡ capture_events name units every w

@@ -30,14 +30,14 @@ use Rattle.server_steps.specs.Calls.{Breaks}
 use Rattle.server_steps.specs.laws.Faults.{blames_after}
 use Rattle.world_store.specs.Stands.{Stands}
 use Rattle.capture_worlds.specs.Captures.{with_units, uncaptured, captured}
-use Rattle.capture_core.specs.Capturing.{commits_of}
 use Rattle.capture_core.specs.Committing.{CommitsUnits, MayCommitUnits}
 use Rattle.capture_core.specs.Ending.{first_units, first_commits, counts_of, HeldDamage, HasEnded, HasFailed}
 use Rattle.capture_core.specs.Reading.{greatest, LeavesOthers}
 use Rattle.capture_core.specs.Rules.{rules}
 use Rattle.capture_core.specs.declared.captured.Captured.{Captured}
 use Rattle.capture_core.specs.declared.progress.Progress.{Progress}
-use Rattle.capture_core.proofs.Batches.{commits_due, due_none, due_some, due_full}
+use Rattle.capture_core.proofs.BatchEnds.{by_ends}
+use Rattle.capture_core.proofs.Batches.{commits_left, commits_due, due_none, due_some, due_full}
 use Rattle.capture_core.proofs.Faults.{write_undamaged, write_blames, read_blames}
 use Rattle.capture_core.proofs.Restarts.{state_spelt}
 use Rattle.capture_core.proofs.Standing.{within, in_at, member, sound_after, holds_after}
@@ -106,7 +106,7 @@ module _ {K : Type 0} (kept : K → Kept) (s0 : Sites K) (n every most : ℕ) (c
 
       -- so are the commits
       all_commits : first_commits n most every w ≡ at.past ++ commits_due every name (length at.waiting) world more
-      all_commits = ap (commits_of every name 0 w) parted ∙ at.events more
+      all_commits = sym (by_ends every call.some name w (first_units n most w)) ∙ ap (commits_left every name 0 w) parted ∙ at.events more
 
       -- none of those that happened wrote a line
       no_lines : lines_of at.past ++ [] ≡ []

@@ -1,3 +1,4 @@
+mod BatchEnds
 mod Batches
 mod Buffers
 mod Calls

@@ -26,12 +26,11 @@ use Rattle.world_store.specs.Stands.{Holds, Reveals, Stands}
 use Rattle.world_store.specs.Tables.{tables}
 use Rattle.capture_worlds.specs.Captures.{with_unit, with_units, uncaptured, rows_captured, all_rows_captured, captured}
 use Rattle.capture_store.specs.CapturedServers.{HoldsCaptured}
-use Rattle.capture_core.specs.Capturing.{commits_of}
 use Rattle.capture_core.specs.Committing.{IsStart, IsWorking, Opens, ReadsState, PutsState, CommitsUnits}
 use Rattle.capture_core.specs.Ending.{Laws}
 use Rattle.capture_core.specs.Reading.{greatest, greatest_waiting, KeepsTyped, IsReadTo, HasServer, HasTaken, Counts, LeavesOthers, ReadsUnit, ReadsAll}
 use Rattle.capture_core.specs.declared.progress.Progress.{Progress}
-use Rattle.capture_core.proofs.Batches.{commits_due, not_full, due_next, due_full}
+use Rattle.capture_core.proofs.Batches.{commits_left, commits_due, not_full, due_next, due_full}
 use Rattle.capture_core.proofs.Calls.{same_leaves, leaves_then}
 use Rattle.capture_core.proofs.Committed.{put_leaves, captured_by}
 use Rattle.capture_core.proofs.Restarts.{state_is, starts_reading}
@@ -70,7 +69,7 @@ module _ {K : Type 0} (kept : K → Kept) (s0 : Sites K) (n every most : ℕ) wh
     pub has : (d : Contents) → now ≡ Some d → HasServer (with_units taken (server_in w n)) d
     pub reads : IsReadTo (with_units taken (server_in w n)) p
     pub past : List (Event World)
-    pub events : (more : List Unit) → commits_of every (server_in w n).name 0 w (taken ++ more) ≡ past ++ commits_due every (server_in w n).name (length waiting) (captured (server_in w n).name taken w) more
+    pub events : (more : List Unit) → commits_left every (server_in w n).name 0 w (taken ++ more) ≡ past ++ commits_due every (server_in w n).name (length waiting) (captured (server_in w n).name taken w) more
     pub last : last_world w past ≡ captured (server_in w n).name done w
     pub quiet : lines_of past ≡ []
 
@@ -122,7 +121,7 @@ module _ {K : Type 0} (kept : K → Kept) (s0 : Sites K) (n every most : ℕ) wh
             has = λ e is. subst (HasServer server) (same_Some d.0 e (sym d.1 ∙ is)) (held_server call.laws.has w server d.0 holds);
             reads = starts_reading call.laws.within call.laws.empty server numbers p begins state;
             past = [];
-            events = λ more. ap (λ (v : World). commits_of every name 0 v more) (sym (captured_none name w)) ∙ sym (not_full every name 0 (captured name [] w) (λ e. omega (arith, e)) more);
+            events = λ more. ap (λ (v : World). commits_left every name 0 v more) (sym (captured_none name w)) ∙ sym (not_full every name 0 (captured name [] w) (λ e. omega (arith, e)) more);
             last = sym (captured_none name w);
             quiet = refl;
           }
@@ -178,7 +177,7 @@ module _ {K : Type 0} (kept : K → Kept) (s0 : Sites K) (n every most : ℕ) wh
           reads = subst (λ (s : Server). IsReadTo s q) after one.read;
           past = g.past;
           events = λ more.
-              ap (commits_of every name 0 w) (sym (more_units more))
+              ap (commits_left every name 0 w) (sym (more_units more))
               ∙ g.events (u ∷ more)
               ∙ ap (λ (l : List (Event World)). g.past ++ l) (due_next every name (length g.waiting) (captured name g.taken w) (omega (arith, g.count, open_batch)) u more
               ∙ (λ i. commits_due every name (sym waits i) (captured_both name g.taken (u ∷ []) w i) more));

@@ -41,7 +41,7 @@ module _ {K : Type 0} (kept : K → Kept) (s0 : Sites K) (closed : AllClosed (wo
   captured_all answer ended =
       let r = ended.worlds w stands in
       record {
-        went = λ t. subst (λ (us : List Unit). Went (Stands (names s0)) (commits_of every (server_in w n).name 0 w us) w (held kept s1) t t) taken_first (r.went t);
+        went = λ t. subst (λ (us : List Unit). Went (Stands (names s0)) (commits_of every (server_in w n).name w us) w (held kept s1) t t) taken_first (r.went t);
         counts = r.counts ∙ ap (λ (us : List Unit). counts_of us (server_in w n)) taken_first;
       }
 
@@ -50,6 +50,6 @@ module _ {K : Type 0} (kept : K → Kept) (s0 : Sites K) (closed : AllClosed (wo
   stopped_first s2 e same failed =
       let r = failed.worlds w stands in
       record {
-        stopped = λ t. subst (λ (q : List Unit × List (Option Contents)). Stopped (Stands (names s0)) (commits_of every (server_in w n).name 0 w q.0) w q.1 t t) (λ i. (taken_first i, sym same i)) (r.stopped t);
+        stopped = λ t. subst (λ (q : List Unit × List (Option Contents)). Stopped (Stands (names s0)) (commits_of every (server_in w n).name w q.0) w q.1 t t) (λ i. (taken_first i, sym same i)) (r.stopped t);
         undamaged = r.undamaged;
       }

@@ -1,5 +1,6 @@
 -- What a capture does in a world, and what it leaves of the servers.
-use Rattle.std.specs.Prelude.{◌≡◌, ℕ, ◌+◌, ◌==◌, min, if◌then◌else◌, List, [], ◌∷◌, length, Option}
+use Rattle.std.specs.Prelude.{◌≡◌, ℕ, ◌%◌, ◌==◌, ◌||◌, min, List, map, take, length, Option}
+use Rattle.std.specs.List.{filter, range_with_len}
 use Rattle.faults.specs.declared.fault.Fault.{Fault}
 use Rattle.keep_core.specs.Kept.{Kept}
 use Rattle.site_store.specs.declared.sites.Sites.{Sites}
@@ -16,18 +17,17 @@ use Rattle.capture_core.specs.declared.captured.Captured.{Captured}
 
 -- ---- what happens
 
--- the commits of a capture at the server of a name, when so many units wait for their commit in a world, and these
--- are captured next: one after each `every` units, and one after the last of them
-abbrev pub commits_of : ℕ → List ℕ → ℕ → World → List Unit → List (Event World)
-commits_of every name waiting w [] = if waiting == 0 then [] else commits w ∷ []
-commits_of every name waiting w (u ∷ us) =
-    let next = captured name (u ∷ []) w in
-    if waiting + 1 == every then commits next ∷ commits_of every name 0 next us
-    else commits_of every name (waiting + 1) next us
+-- After how many of so many units a capture commits: after each `every` of them, and after the last one.
+abbrev pub batch_ends : ℕ → ℕ → List ℕ
+batch_ends every count = filter (λ k. (k % every == 0) || (k == count)) (range_with_len 1 count)
+
+-- the commits of a capture of these units at the server of a name
+abbrev pub commits_of : ℕ → List ℕ → World → List Unit → List (Event World)
+commits_of every name w us = map (λ k. commits (captured name (take k us) w)) (batch_ends every (length us))
 
 -- those of a capture of these units, or of all, at the server with a number
 abbrev pub capture_events : ℕ → Option ℕ → ℕ → World → List (Event World)
-capture_events server units every w = let at = server_in w server in commits_of every at.name 0 w (taken_units units at)
+capture_events server units every w = let at = server_in w server in commits_of every at.name w (taken_units units at)
 
 -- what a capture answers
 abbrev pub captured_counts : ℕ → Option ℕ → World → Captured

@@ -34,7 +34,7 @@ first_units server most w = take most (uncaptured (server_in w server))
 
 -- the commits of their capture
 abbrev pub first_commits : ℕ → ℕ → ℕ → World → List (Event World)
-first_commits server most every w = commits_of every (server_in w server).name 0 w (first_units server most w)
+first_commits server most every w = commits_of every (server_in w server).name w (first_units server most w)
 
 -- what a capture of units answers
 abbrev pub counts_of : List Unit → Server → Captured
