@@ -27,54 +27,57 @@ use Rattle.capture_core.proofs.Calls.{same_leaves, leaves_then}
 use Rattle.capture_core.proofs.Buffers.{pushed, ended}
 use Rattle.capture_core.proofs.Positions.{comes_next, at_end}
 
+-- where it began to be read
+abbrev began : (server : Server) (p : Progress) → IsReadTo server p → ℕ
+began server p is = restart_after server.log is.base
+
 -- ---- records that end no unit
 
 -- the log is read one record further, if it isn't a commit after what is captured
-read_on : OthersAreRead → (server : Server) (p q : Progress) (pos : ℕ) (logged : LogRecord) → ComesNext server p.read pos logged → IsReadTo server p → ((t time : ℕ) (authid : List ℕ) (origin : Option SetId) → logged ≡ records.Commit t time authid origin → p.read + 1 ≤ server.captured)
-    → q.state ≡ p.state → q.start ≡ p.start → q.read ≡ pos → ((tx : ℕ) → changes_in q.buffer tx ≡ in_flight_from p.start (p.read + 1) server.log tx) → IsReadTo server q
-read_on others server p q pos logged next is old state start read keeps =
+read_on : OthersAreRead → (server : Server) (p q : Progress) (pos : ℕ) (logged : LogRecord) → ComesNext server p.read pos logged → (is : IsReadTo server p) → ((t time : ℕ) (authid : List ℕ) (origin : Option SetId) → logged ≡ records.Commit t time authid origin → p.read + 1 ≤ server.captured)
+    → q.state ≡ p.state → q.read ≡ pos → ((tx : ℕ) → changes_in q.buffer tx ≡ in_flight_from (began server p is) (p.read + 1) server.log tx) → IsReadTo server q
+read_on others server p q pos logged next is old state read keeps =
     let lt = slice_get_within server.log p.read logged next.1 in
     let now : q.read ≡ p.read + 1 = read ∙ next.0 in
     record {
       state = state ∙ is.state;
       base = is.base;
       low = is.low;
-      start = start ∙ is.start;
-      from = omega (arith, is.from, start, now);
+      from = omega (arith, is.from, now);
       last = omega (arith, lt, now);
       read = subst (λ (n : ℕ). HasReadTo n server) (sym now) (others server p.read logged next.1 is.read old);
-      keeps = λ tx. keeps tx ∙ (λ i. in_flight_from (sym start i) (sym now i) server.log tx);
+      keeps = λ tx. keeps tx ∙ ap (λ (n : ℕ). in_flight_from (began server p is) n server.log tx) (sym now);
     }
 
 -- a change is kept
 pub change_read : OthersAreRead → ChangeJoins → (server : Server) (p q : Progress) (pos tx : ℕ) (change : Change) → ComesNext server p.read pos (records.Change tx change) → IsReadTo server p
-    → q.state ≡ p.state → q.start ≡ p.start → q.read ≡ pos → changes_in q.buffer tx ≡ changes_in p.buffer tx ++ record { pos = pos; change = change } ∷ [] → ((t : ℕ) → t ≢ tx → changes_in q.buffer t ≡ changes_in p.buffer t) → IsReadTo server q
-change_read others joins server p q pos tx change next is state start read here apart =
+    → q.state ≡ p.state → q.read ≡ pos → changes_in q.buffer tx ≡ changes_in p.buffer tx ++ record { pos = pos; change = change } ∷ [] → ((t : ℕ) → t ≢ tx → changes_in q.buffer t ≡ changes_in p.buffer t) → IsReadTo server q
+change_read others joins server p q pos tx change next is state read here apart =
     let placed : Placed = record { pos = pos; change = change } in
     let now : ℕ → Placed = λ n. record { pos = n; change = change } in
-    read_on others server p q pos (records.Change tx change) next is (λ t time authid origin e. absurd cc) state start read (λ t.
+    read_on others server p q pos (records.Change tx change) next is (λ t time authid origin e. absurd cc) state read (λ t.
     pushed p.buffer q.buffer tx apart placed here t
     ∙ ap (λ (xs : List Placed). cond (tx == t) (xs ++ placed ∷ []) xs) (is.keeps t)
-    ∙ ap (λ (n : ℕ). cond (tx == t) (in_flight_from p.start p.read server.log t ++ now n ∷ []) (in_flight_from p.start p.read server.log t)) next.0
-    ∙ sym (joins p.start p.read server.log tx change t is.from next.1))
+    ∙ ap (λ (n : ℕ). cond (tx == t) (in_flight_from (began server p is) p.read server.log t ++ now n ∷ []) (in_flight_from (began server p is) p.read server.log t)) next.0
+    ∙ sym (joins (began server p is) p.read server.log tx change t is.from next.1))
 
 -- what is in flight after the end of a transaction
-left_after : (server : Server) (p q : Progress) (t : ℕ) → IsReadTo server p → changes_in q.buffer t ≡ [] → ((s : ℕ) → s ≢ t → changes_in q.buffer s ≡ changes_in p.buffer s) → (tx : ℕ) → changes_in q.buffer tx ≡ cond (t == tx) [] (in_flight_from p.start p.read server.log tx)
+left_after : (server : Server) (p q : Progress) (t : ℕ) (is : IsReadTo server p) → changes_in q.buffer t ≡ [] → ((s : ℕ) → s ≢ t → changes_in q.buffer s ≡ changes_in p.buffer s) → (tx : ℕ) → changes_in q.buffer tx ≡ cond (t == tx) [] (in_flight_from (began server p is) p.read server.log tx)
 left_after server p q t is here apart tx = ended p.buffer q.buffer t apart here tx ∙ ap (λ (xs : List Placed). cond (t == tx) [] xs) (is.keeps tx)
 
 -- an abort drops the changes of its transaction
 pub abort_read : OthersAreRead → EndLeavesNone → (server : Server) (p q : Progress) (pos t : ℕ) → ComesNext server p.read pos (records.Abort t) → IsReadTo server p
-    → q.state ≡ p.state → q.start ≡ p.start → q.read ≡ pos → changes_in q.buffer t ≡ [] → ((s : ℕ) → s ≢ t → changes_in q.buffer s ≡ changes_in p.buffer s) → IsReadTo server q
-abort_read others ends server p q pos t next is state start read here apart =
-    read_on others server p q pos (records.Abort t) next is (λ tx time authid origin e. absurd cc) state start read (λ tx.
-    left_after server p q t is here apart tx ∙ sym ((ends p.start p.read server.log t tx (records.Abort t) next.1).1 refl))
+    → q.state ≡ p.state → q.read ≡ pos → changes_in q.buffer t ≡ [] → ((s : ℕ) → s ≢ t → changes_in q.buffer s ≡ changes_in p.buffer s) → IsReadTo server q
+abort_read others ends server p q pos t next is state read here apart =
+    read_on others server p q pos (records.Abort t) next is (λ tx time authid origin e. absurd cc) state read (λ tx.
+    left_after server p q t is here apart tx ∙ sym ((ends (began server p is) p.read server.log t tx (records.Abort t) next.1).1 refl))
 
 -- so does a commit, and what it commits is captured if it isn't after what is captured
 pub commit_read : OthersAreRead → EndLeavesNone → (server : Server) (p q : Progress) (pos t time : ℕ) (authid : List ℕ) (origin : Option SetId) → ComesNext server p.read pos (records.Commit t time authid origin) → IsReadTo server p → pos ≤ p.state.captured
-    → q.state ≡ p.state → q.start ≡ p.start → q.read ≡ pos → changes_in q.buffer t ≡ [] → ((s : ℕ) → s ≢ t → changes_in q.buffer s ≡ changes_in p.buffer s) → IsReadTo server q
-commit_read others ends server p q pos t time authid origin next is old state start read here apart =
-    read_on others server p q pos (records.Commit t time authid origin) next is (λ tx at user from e. omega (arith, old, next.0, ap (λ (s : CaptureState). s.captured) is.state)) state start read (λ tx.
-    left_after server p q t is here apart tx ∙ sym ((ends p.start p.read server.log t tx (records.Commit t time authid origin) next.1).0 time authid origin refl))
+    → q.state ≡ p.state → q.read ≡ pos → changes_in q.buffer t ≡ [] → ((s : ℕ) → s ≢ t → changes_in q.buffer s ≡ changes_in p.buffer s) → IsReadTo server q
+commit_read others ends server p q pos t time authid origin next is old state read here apart =
+    read_on others server p q pos (records.Commit t time authid origin) next is (λ tx at user from e. omega (arith, old, next.0, ap (λ (s : CaptureState). s.captured) is.state)) state read (λ tx.
+    left_after server p q t is here apart tx ∙ sym ((ends (began server p is) p.read server.log t tx (records.Commit t time authid origin) next.1).0 time authid origin refl))
 
 -- ---- the restart
 
@@ -99,9 +102,9 @@ restart_is after first server buffer pos restart sound within all (inr least) =
 module _ (early : RestartIsEarly) (ends : EndLeavesNone) (commit : CommitIsNext) (after : RestartsAfter) (first : RestartsAtFirst) where
   -- it ends the next unit, which is captured
   pub unit_taken : (world : World) (server : Server) (p m q : Progress) (pos t time : ℕ) (authid : List ℕ) (origin : Option SetId) (changes : List Placed) (c d : Contents) → IsSound world → In server world → HasServer server c → IsReadTo server p → ComesNext server p.read pos (records.Commit t time authid origin) → p.state.captured < pos
-      → changes ≡ changes_in p.buffer t → m.state ≡ p.state → m.start ≡ p.start → m.read ≡ pos → m.rows ≡ p.rows → changes_in m.buffer t ≡ [] → ((s : ℕ) → s ≢ t → changes_in m.buffer s ≡ changes_in p.buffer s)
+      → changes ≡ changes_in p.buffer t → m.state ≡ p.state → m.read ≡ pos → m.rows ≡ p.rows → changes_in m.buffer t ≡ [] → ((s : ℕ) → s ≢ t → changes_in m.buffer s ≡ changes_in p.buffer s)
       → TakesCommit m q (unit_of pos time authid origin changes) c d → HasTaken server p q d
-  unit_taken world server p m q pos t time authid origin changes c d sound member has is next late taken state start read rows here apart takes =
+  unit_taken world server p m q pos t time authid origin changes c d sound member has is next late taken state read rows here apart takes =
       let log = server.log in
       let logged : LogRecord = records.Commit t time authid origin in
       let own = at_one LogIsSound world server sound.logs member in
@@ -110,21 +113,20 @@ module _ (early : RestartIsEarly) (ends : EndLeavesNone) (commit : CommitIsNext)
       let before : server.captured ≤ p.read = omega (arith, late, next.0, captured) in
       let u = unit_of pos time authid origin changes in
       let v = unit_of (p.read + 1) time authid origin (open_changes t (take p.read log)) in
-      let open_at : (n : ℕ) → is.base ≤ n → n ≤ length log → (tx : ℕ) → in_flight_from p.start n log tx ≡ open_changes tx (take n log) = λ n low high tx. ap (λ (s : ℕ). in_flight_from s n log tx) is.start ∙ early log is.base n tx low high in
+      let open_at : (n : ℕ) → is.base ≤ n → n ≤ length log → (tx : ℕ) → in_flight_from (began server p is) n log tx ≡ open_changes tx (take n log) = λ n low high tx. early log is.base n tx low high in
       let same_changes : changes ≡ open_changes t (take p.read log) = taken ∙ is.keeps t ∙ open_at p.read (omega (arith, is.low, before)) is.last t in
       let same : v ≡ u = λ i. unit_of (sym next.0 i) time authid origin (sym same_changes i) in
       let met = commit server p.read t time authid origin next.1 before is.read in
       let found : uncaptured server ≡ u ∷ met.0.0 = met.0.1 ∙ ap (λ (x : Unit). x ∷ met.0.0) same in
-      let left : (tx : ℕ) → changes_in m.buffer tx ≡ in_flight_from p.start pos log tx = λ tx.
+      let left : (tx : ℕ) → changes_in m.buffer tx ≡ in_flight_from (began server p is) pos log tx = λ tx.
       left_after server p m t is here apart tx
-      ∙ sym ((ends p.start p.read log t tx logged next.1).0 time authid origin refl)
-      ∙ ap (λ (n : ℕ). in_flight_from p.start n log tx) (sym next.0) in
+      ∙ sym ((ends (began server p is) p.read log t tx logged next.1).0 time authid origin refl)
+      ∙ ap (λ (n : ℕ). in_flight_from (began server p is) n log tx) (sym next.0) in
       let all : (tx : ℕ) → changes_in m.buffer tx ≡ open_changes tx (take pos log) = λ tx. left tx ∙ open_at pos (omega (arith, is.low, late, captured)) (omega (arith, within, next.0)) tx in
       let restart : takes.restart ≡ restart_after log pos = restart_is after first server m.buffer pos takes.restart own (omega (arith, within, next.0)) all takes.begins in
       let floor : m.state.floor ≡ server.floor = ap (λ (s : CaptureState). s.floor) (state ∙ is.state) in
       let its = takes.captures.captures world server (record { sound = sound; in_world = member; rest = met.0.0; next = found }) has.captured in
       let now = takes.progress in
-      let at_start : q.start ≡ p.start = ap (λ (x : Progress). x.start) now ∙ start in
       let at_read : q.read ≡ pos = ap (λ (x : Progress). x.read) now ∙ read in
       record {
         unit = u;
@@ -135,11 +137,10 @@ module _ (early : RestartIsEarly) (ends : EndLeavesNone) (commit : CommitIsNext)
           state = ap (λ (x : Progress). x.state) now ∙ (λ i. record { captured = pos; restart = restart i; floor = floor i });
           base = is.base;
           low = omega (arith, is.low, late, captured);
-          start = at_start ∙ is.start;
-          from = omega (arith, is.from, at_start, at_read, next.0);
+          from = omega (arith, is.from, at_read, next.0);
           last = omega (arith, within, at_read, next.0);
           read = subst (λ (n : ℕ). HasReadTo n (with_unit u server)) (sym (at_read ∙ next.0)) (subst (λ (x : Unit). HasReadTo (p.read + 1) (with_unit x server)) same met.1);
-          keeps = λ tx. ap (λ (x : Progress). changes_in x.buffer tx) now ∙ left tx ∙ (λ i. in_flight_from (sym at_start i) (sym at_read i) log tx);
+          keeps = λ tx. ap (λ (x : Progress). changes_in x.buffer tx) now ∙ left tx ∙ ap (λ (n : ℕ). in_flight_from (began server p is) n log tx) (sym at_read);
         };
         rows = ap (λ (x : Progress). x.rows) now ∙ ap (λ (n : ℕ). min (m.rows + n) greatest) its.1 ∙ ap (λ (n : ℕ). min (n + rows_captured u.head.seq u.changes server) greatest) rows;
       }
@@ -209,7 +210,7 @@ module _ (p : Progress) (pos : ℕ) (logged : LogRecord) (buffer : Buffer) where
   change_taken others joins tx change is here apart c = record {
     same = refl;
     rows = refl;
-    takes = λ world server sound member has reads next. change_read others joins server p (read_to p pos buffer) pos tx change (next_as server (records.Change tx change) is next) reads refl refl refl here apart;
+    takes = λ world server sound member has reads next. change_read others joins server p (read_to p pos buffer) pos tx change (next_as server (records.Change tx change) is next) reads refl refl here apart;
   }
 
   -- an abort is taken
@@ -217,7 +218,7 @@ module _ (p : Progress) (pos : ℕ) (logged : LogRecord) (buffer : Buffer) where
   abort_taken others ends t is here apart c = record {
     same = refl;
     rows = refl;
-    takes = λ world server sound member has reads next. abort_read others ends server p (read_to p pos buffer) pos t (next_as server (records.Abort t) is next) reads refl refl refl here apart;
+    takes = λ world server sound member has reads next. abort_read others ends server p (read_to p pos buffer) pos t (next_as server (records.Abort t) is next) reads refl refl here apart;
   }
 
   -- a commit is taken whose unit is captured
@@ -225,7 +226,7 @@ module _ (p : Progress) (pos : ℕ) (logged : LogRecord) (buffer : Buffer) where
   commit_taken others ends t time authid origin is old here apart c = record {
     same = refl;
     rows = refl;
-    takes = λ world server sound member has reads next. commit_read others ends server p (read_to p pos buffer) pos t time authid origin (next_as server (records.Commit t time authid origin) is next) reads old refl refl refl here apart;
+    takes = λ world server sound member has reads next. commit_read others ends server p (read_to p pos buffer) pos t time authid origin (next_as server (records.Commit t time authid origin) is next) reads old refl refl here apart;
   }
 
   -- and one whose unit wasn't
@@ -233,5 +234,5 @@ module _ (p : Progress) (pos : ℕ) (logged : LogRecord) (buffer : Buffer) where
       → (c d : Contents) → TakesCommit (read_to p pos buffer) q u c d → TakesOne p q pos logged c d
   unit_was_taken early ends commit after first q t time authid origin changes u is unit taken late here apart c d takes = record {
     leaves = takes.leaves;
-    takes = λ world server sound member has reads next. unit_taken early ends commit after first world server p (read_to p pos buffer) q pos t time authid origin changes c d sound member has reads (next_as server (records.Commit t time authid origin) is next) late taken refl refl refl refl here apart (subst (λ (x : Unit). TakesCommit (read_to p pos buffer) q x c d) unit takes);
+    takes = λ world server sound member has reads next. unit_taken early ends commit after first world server p (read_to p pos buffer) q pos t time authid origin changes c d sound member has reads (next_as server (records.Commit t time authid origin) is next) late taken refl refl refl here apart (subst (λ (x : Unit). TakesCommit (read_to p pos buffer) q x c d) unit takes);
   }

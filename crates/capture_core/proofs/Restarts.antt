@@ -136,15 +136,13 @@ starts_reading within none server numbers p begins is =
     let upto = captured_within within server numbers in
     let restart = restart_between log server.captured in
     let at_restart : p.state.restart ≡ restart_after log server.captured = ap (λ (s : CaptureState). s.restart) is in
-    let start : p.start ≡ restart_after log server.captured = begins.start ∙ at_restart in
-    let read : p.read + 1 ≡ p.start = omega (arith, begins.read, begins.start, at_restart, restart.0) in
+    let read : p.read + 1 ≡ restart_after log server.captured = omega (arith, begins.read, at_restart, restart.0) in
     record {
       state = is;
       base = server.captured;
       low = omega arith;
-      start = start;
       from = omega (arith, read);
-      last = omega (arith, read, start, restart.1, upto);
-      read = read_before server p.read (omega (arith, read, start, restart.1));
-      keeps = λ tx. begins.empty tx ∙ sym (none p.start p.read log tx (omega (arith, read)));
+      last = omega (arith, read, restart.1, upto);
+      read = read_before server p.read (omega (arith, read, restart.1));
+      keeps = λ tx. begins.empty tx ∙ sym (none (restart_after log server.captured) p.read log tx (omega (arith, read)));
     }

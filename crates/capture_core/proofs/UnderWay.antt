@@ -394,7 +394,6 @@ module _ {K : Type 0} (kept : K → Kept) (s0 : Sites K) (n every most : ℕ) wh
                 state = g.reads.state;
                 base = g.reads.base;
                 low = g.reads.low;
-                start = g.reads.start;
                 from = g.reads.from;
                 last = g.reads.last;
                 read = g.reads.read;

@@ -21,7 +21,6 @@ use Rattle.capture_core.specs.declared.progress.Progress.{Progress}
 -- Nothing is read, nothing is in flight, and no unit is taken.
 pub record IsStart (p : Progress) : Type 0 where
   pub fits : IsCapture p.state
-  pub start : p.start ≡ p.state.restart
   pub read : p.read ≡ p.state.restart - 1
   pub empty : (tx : ℕ) → changes_in p.buffer tx ≡ []
   pub units : p.units ≡ 0

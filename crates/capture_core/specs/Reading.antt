@@ -61,11 +61,10 @@ pub record IsReadTo (server : Server) (p : Progress) : Type 0 where
   pub state : p.state ≡ capture_state server
   pub base : ℕ
   pub low : base ≤ server.captured
-  pub start : p.start ≡ restart_after server.log base
-  pub from : p.start ≤ p.read + 1
+  pub from : restart_after server.log base ≤ p.read + 1
   pub last : p.read ≤ length server.log
   pub read : HasReadTo p.read server
-  pub keeps : (tx : ℕ) → changes_in p.buffer tx ≡ in_flight_from p.start p.read server.log tx
+  pub keeps : (tx : ℕ) → changes_in p.buffer tx ≡ in_flight_from (restart_after server.log base) p.read server.log tx
 
 -- The contents have the log of a server, and what it has captured.
 pub record HasServer (server : Server) (c : Contents) : Type 0 where

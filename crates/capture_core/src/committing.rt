@@ -35,7 +35,6 @@ fn start_at(alloc: Global, state: CaptureState) -> Progress
 {
     Progress {
         buffer: Buffer::new(alloc),
-        start: state.restart,
         read: state.restart.saturating_sub(1),
         state,
         units: 0,
