@@ -128,6 +128,3 @@ pub fn write_copy<O: Sink>(
     }
     Ok(())
 }
-
-#[cfg(test)]
-mod tests;

@@ -76,6 +76,3 @@ pub fn run_copy<I: Source, O: Sink>(
     write_copy(alloc, output, &copy, fed.refused)?;
     Ok(fed.refused)
 }
-
-#[cfg(test)]
-mod tests;
