@@ -6,6 +6,7 @@ mod Registrations
 mod Slots
 mod RowsSoFar
 mod States
+mod EmptyKeys
 mod OneChange
 mod Counts
 mod Begins

@@ -14,7 +14,7 @@ use Rattle.repl_records.specs.Capture.{change_row_spelling, registration_state_s
 use Rattle.repl_records.specs.declared.record_keys.CdKey.{CdKey}
 use Rattle.repl_records.specs.declared.capture.RegState.{RegState}
 use Rattle.repl_records.specs.declared.capture.ChangeRow.{ChangeRow}
-use Rattle.keep_core.specs.Contents.{Contents, Table, with_table, set_key}
+use Rattle.keep_core.specs.Contents.{Contents, Table, set_key}
 use Rattle.rows_in_order.specs.Rows.{table_from_rows}
 use Rattle.rows_in_order.specs.laws.Written.{differ_numbers}
 use Rattle.repl_model.specs.Tables.{table_of}
@@ -22,7 +22,8 @@ use Rattle.repl_model.specs.ChangeRows.{rows_of}
 use Rattle.repl_model.specs.World.{Registered, Server}
 use Rattle.world_store.specs.Tables.{no_rows}
 use Rattle.capture_worlds.specs.Captures.{registered_after_change}
-use Rattle.capture_rows.specs.StoredChanges.{with_change_rows, is_captured, with_state, with_change}
+use Rattle.capture_rows.specs.StoredChanges.{with_change_rows, cleared, with_cleared, is_captured, with_state, started, stopped, with_change}
+use Rattle.capture_rows.proofs.EmptyKeys.{rows_keyed, cleared_empty}
 use Rattle.capture_rows.proofs.Puts.{stored_rows, FollowInTurn, rows_put, other_tables, other_areas}
 use Rattle.capture_rows.proofs.Registrations.{state_of}
 use Rattle.capture_rows.proofs.RowsSoFar.{rows_with, earlier_rows, rows_captured_so, rows_not_captured, rows_inactive, rows_started}
@@ -90,11 +91,11 @@ module _ (server : Server) (seq : ℕ) (lt : server.captured < seq) (number : �
 
   -- a start makes the registration active, unless it is
   start_made : (table : List ℕ) (xs : List CdRow) → bytes_eq table now.reg.table ≡ true → rows_with server seq reg now rows ≡ rows_with server seq reg now xs
-      → IsThen (registered_after_change seq now (Start table)) xs (cond now.active c (with_state number (record { active = true; start = seq; floor = now.floor }) c))
+      → IsThen (registered_after_change seq now (Start table)) xs (started seq number (state_of now) c)
   start_made table xs own same = pick now.active refl
     where
-      started : Registered
-      started = record now { active = true; start = seq }
+      after : Registered
+      after = record now { active = true; start = seq }
 
       with_start : Contents
       with_start = with_state number (record { active = true; start = seq; floor = now.floor }) c
@@ -103,10 +104,10 @@ module _ (server : Server) (seq : ℕ) (lt : server.captured < seq) (number : �
       tests = bytes_eq table now.reg.table && not now.active
 
       pick : (t : Bool) → now.active ≡ t → IsThen (registered_after_change seq now (Start table)) xs (cond now.active c with_start)
-      pick true e = same_then xs now (cond tests started now) c (cond now.active c with_start) (ap (λ (t : Bool). cond t started now) (and_right (bytes_eq table now.reg.table) (not now.active) (ap not e))) (ap (λ (t : Bool). cond t c with_start) e) (unchanged xs now same refl)
-      pick false e = same_then xs started (cond tests started now) with_start (cond now.active c with_start) (ap (λ (t : Bool). cond t started now) (and_from (bytes_eq table now.reg.table) (not now.active) own (ap not e))) (ap (λ (t : Bool). cond t c with_start) e)
+      pick true e = same_then xs now (cond tests after now) c (cond now.active c with_start) (ap (λ (t : Bool). cond t after now) (and_right (bytes_eq table now.reg.table) (not now.active) (ap not e))) (ap (λ (t : Bool). cond t c with_start) e) (unchanged xs now same refl)
+      pick false e = same_then xs after (cond tests after now) with_start (cond now.active c with_start) (ap (λ (t : Bool). cond t after now) (and_from (bytes_eq table now.reg.table) (not now.active) own (ap not e))) (ap (λ (t : Bool). cond t c with_start) e)
           (record {
-            own = has.table ∙ ap keyed_table (rows_inactive server seq reg now rows e ∙ sym (rows_started server seq reg started xs lt refl));
+            own = has.table ∙ ap keyed_table (rows_inactive server seq reg now rows e ∙ sym (rows_started server seq reg after xs lt refl));
             others = λ n ne. refl;
             states = refl;
             units = refl;
@@ -114,30 +115,32 @@ module _ (server : Server) (seq : ℕ) (lt : server.captured < seq) (number : �
           })
 
   -- a stop makes it inactive, and empties its table
-  stop_made : (table : List ℕ) (xs : List CdRow) → bytes_eq table now.reg.table ≡ true
-      → IsThen (registered_after_change seq now (Stop table)) xs (cond now.active (with_table (with_state number (record (state_of now) { active = false }) c) areas.Cd number no_rows) c)
+  stop_made : (table : List ℕ) (xs : List CdRow) → bytes_eq table now.reg.table ≡ true → IsThen (registered_after_change seq now (Stop table)) xs (stopped number (state_of now) c)
   stop_made table xs own = pick now.active refl
     where
-      stopped : Registered
-      stopped = record now { active = false }
+      after : Registered
+      after = record now { active = false }
 
       with_stop : Contents
-      with_stop = with_table (with_state number (record (state_of now) { active = false }) c) areas.Cd number no_rows
+      with_stop = with_cleared number (with_state number (record (state_of now) { active = false }) c)
 
-      is_stopped : cond (bytes_eq table now.reg.table) stopped now ≡ stopped
-      is_stopped = ap (λ (t : Bool). cond t stopped now) own
+      is_after : cond (bytes_eq table now.reg.table) after now ≡ after
+      is_after = ap (λ (t : Bool). cond t after now) own
+
+      emptied : cleared (c areas.Cd number) ≡ no_rows
+      emptied = cleared_empty (c areas.Cd number) (ap (λ (t : Table). t []) has.table ∙ rows_keyed (rows_with server seq reg now rows))
 
       pick : (t : Bool) → now.active ≡ t → IsThen (registered_after_change seq now (Stop table)) xs (cond now.active with_stop c)
-      pick true e = same_then xs stopped (cond (bytes_eq table now.reg.table) stopped now) with_stop (cond now.active with_stop c) is_stopped (ap (λ (t : Bool). cond t with_stop c) e)
+      pick true e = same_then xs after (cond (bytes_eq table now.reg.table) after now) with_stop (cond now.active with_stop c) is_after (ap (λ (t : Bool). cond t with_stop c) e)
           (record {
-            own = ap (λ (t : Bool). cond t no_rows (c areas.Cd number)) (eq-eqb number number refl) ∙ sym (ap keyed_table (rows_inactive server seq reg stopped xs refl));
-            others = λ n ne. ap (λ (t : Bool). cond t no_rows (c areas.Cd n)) (differ_numbers number n ne);
+            own = ap (λ (t : Bool). cond t (cleared (c areas.Cd number)) (c areas.Cd number)) (eq-eqb number number refl) ∙ emptied ∙ sym (ap keyed_table (rows_inactive server seq reg after xs refl));
+            others = λ n ne. ap (λ (t : Bool). cond t (cleared (c areas.Cd number)) (c areas.Cd n)) (differ_numbers number n ne);
             states = refl;
             units = refl;
             registrations = refl;
           })
-      pick false e = same_then xs stopped (cond (bytes_eq table now.reg.table) stopped now) c (cond now.active with_stop c) is_stopped (ap (λ (t : Bool). cond t with_stop c) e)
-          (unchanged xs stopped (rows_inactive server seq reg now rows e ∙ sym (rows_inactive server seq reg stopped xs refl)) (ap (λ (t : Bool). record { active = t; start = now.start; floor = now.floor }) e))
+      pick false e = same_then xs after (cond (bytes_eq table now.reg.table) after now) c (cond now.active with_stop c) is_after (ap (λ (t : Bool). cond t with_stop c) e)
+          (unchanged xs after (rows_inactive server seq reg now rows e ∙ sym (rows_inactive server seq reg after xs refl)) (ap (λ (t : Bool). record { active = t; start = now.start; floor = now.floor }) e))
 
   -- ---- any change
 

@@ -14,10 +14,9 @@ use Rattle.repl_records.specs.Capture.{change_row_spelling, uow_spelling, regist
 use Rattle.repl_records.specs.declared.record_keys.CdKey.{CdKey}
 use Rattle.repl_records.specs.declared.capture.ChangeRow.{ChangeRow}
 use Rattle.repl_records.specs.declared.capture.RegState.{RegState}
-use Rattle.keep_core.specs.Contents.{Contents, with_table, put_at}
+use Rattle.keep_core.specs.Contents.{Contents, Table, with_table, put_at}
 use Rattle.repl_model.specs.Tables.{table_of}
 use Rattle.repl_model.specs.ChangeRows.{rows_of}
-use Rattle.world_store.specs.Tables.{no_rows}
 
 -- ---- the unit-of-work table
 
@@ -40,6 +39,15 @@ abbrev pub with_change_rows : ℕ → List CdRow → Contents → Contents
 with_change_rows number [] c = c
 with_change_rows number (r ∷ rs) c = with_change_rows number rs (with_change_row number r c)
 
+-- a table without its rows: what it has at the empty key stays, which is the key of no row
+abbrev pub cleared : Table → Table
+cleared t [] = t []
+cleared t (b ∷ key) = None
+
+-- the contents without the change rows of the registration with a number
+abbrev pub with_cleared : ℕ → Contents → Contents
+with_cleared number c = with_table c areas.Cd number (cleared (c areas.Cd number))
+
 -- ---- one change
 
 -- the changes of a unit with this seq are captured for a registration in this state: it is active from a unit
@@ -55,8 +63,16 @@ with_state number state c = put_at c areas.Capture 1 (b32 number) (Some (registr
 abbrev pub with_rows_of : ℕ → Placed → DefinedRegistration → RegState → Contents → Contents
 with_rows_of seq placed reg state c = if is_captured seq state then with_change_rows reg.number (rows_of reg.registration seq placed.pos placed.change) c else c
 
+-- the contents after a start in a unit with this seq of the registration with a number, which is in this state
+abbrev pub started : ℕ → ℕ → RegState → Contents → Contents
+started seq number state c = if state.active then c else with_state number (record { active = true; start = seq; floor = state.floor }) c
+
+-- the contents after a stop of it
+abbrev pub stopped : ℕ → RegState → Contents → Contents
+stopped number state c = if state.active then with_cleared number (with_state number (record state { active = false }) c) else c
+
 -- The contents after a change in a unit with this seq, by the registration of its table and the registration's
--- state: a start makes it active, a stop makes it inactive and empties its table, and any other change is
+-- state: a start makes it active, a stop makes it inactive and removes its change rows, and any other change is
 -- captured.
 abbrev pub with_change : ℕ → Placed → DefinedRegistration → RegState → Contents → Contents
 with_change seq placed reg state c = by_change placed.change
@@ -65,8 +81,8 @@ with_change seq placed reg state c = by_change placed.change
     by_change (Insert table row) = with_rows_of seq placed reg state c
     by_change (Update table before after) = with_rows_of seq placed reg state c
     by_change (Delete table row) = with_rows_of seq placed reg state c
-    by_change (Start table) = if state.active then c else with_state reg.number (record { active = true; start = seq; floor = state.floor }) c
-    by_change (Stop table) = if state.active then with_table (with_state reg.number (record state { active = false }) c) areas.Cd reg.number no_rows else c
+    by_change (Start table) = started seq reg.number state c
+    by_change (Stop table) = stopped reg.number state c
 
 -- how many change rows it has then put
 abbrev pub rows_put : ℕ → Placed → DefinedRegistration → RegState → ℕ

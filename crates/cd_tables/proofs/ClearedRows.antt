@@ -4,19 +4,20 @@ use Rattle.std.specs.Prelude.{◌==◌, ◌&&◌, Option, Some, None}
 use Rattle.std.specs.Ordering.{is_lt, is_eq, ordering_reverse}
 use Rattle.std.specs.declared.cmp.Ordering.{Ordering}
 use Rattle.std.specs.declared.cmp.Ordering.TheVariants.{Less, Equal, Greater}
-use Rattle.std.proofs.lemmas.Bool.{eqb-true}
+use Rattle.std.proofs.lemmas.Bool.{eqb-true, false_from_ne_true}
 use Rattle.repl_types.specs.Area.{same_area}
 use Rattle.repl_types.specs.Bytes.{bytes_cmp}
 use Rattle.repl_types.specs.declared.area.Area.{Area}
 use Rattle.repl_types.specs.declared.area.Area.TheVariants as areas
 use Rattle.keep_core.specs.Contents.{Contents, Table, same_key, set_key}
-use Rattle.row_codec.specs.Spelling.{b16, b64}
 use Rattle.repl_records.specs.RecordKeys.{change_key_spelling}
 use Rattle.repl_records.specs.declared.record_keys.CdKey.{CdKey}
 use Rattle.rows_in_order.specs.Rows.{is_before}
-use Rattle.rows_in_order.specs.laws.Before.{order, is_less, not_both}
+use Rattle.rows_in_order.specs.laws.Before.{order, is_less, not_both, empty_first}
+use Rattle.rows_in_order.specs.laws.Rising.{same_is}
 use Rattle.site_store.specs.Damage.{ShownBefore}
-use Rattle.cd_tables.specs.Clearing.{ClearsNext, cleared, with_cleared}
+use Rattle.capture_rows.specs.StoredChanges.{cleared, with_cleared}
+use Rattle.cd_tables.specs.Clearing.{ClearsNext}
 use Rattle.cd_tables.specs.Rules.{rules}
 use Rattle.cd_tables.proofs.Shown.{adds_shown}
 
@@ -40,22 +41,20 @@ before_key k q upto apart = pick (bytes_cmp k q) refl
     pick Equal e = absurd (not_both (same_key k q) (ap is_eq e) apart)
     pick Greater e = order.antisymm q k ∙ ap ordering_reverse e
 
--- the key of a row isn't empty
-pub not_empty : (key : CdKey) → same_key (change_key_spelling key) [] ≡ false
-unfolding b16 b64
-not_empty key = refl
-
 -- the next row is removed
-pub cleared_next : (number : ℕ) (after : List ℕ) (key : CdKey) (c d e : Contents) → HasCleared number after c d → ClearsNext number after (Some key) d e → HasCleared number (change_key_spelling key) c e
-cleared_next number after key c d e before step = record {
+pub cleared_next : (number : ℕ) (after : List ℕ) (key : CdKey) (c d e : Contents) → bytes_cmp after (change_key_spelling key) ≡ Less → HasCleared number after c d → ClearsNext number after (Some key) d e → HasCleared number (change_key_spelling key) c e
+cleared_next number after key c d e above before step = record {
   others = λ a n other. ap (λ (f : Contents). f a n) step.0 ∙ ap (λ (b : Bool). cond b (set_key (d areas.Cd number) k None) (d a n)) other ∙ before.others a n other;
-  empty = at [] ∙ ap (λ (b : Bool). cond b None (d areas.Cd number [])) (not_empty key) ∙ before.empty;
+  empty = at [] ∙ ap (λ (b : Bool). cond b None (d areas.Cd number [])) not_empty ∙ before.empty;
   left = λ q value has. before.left q value (still (same_key k q) (d areas.Cd number q) value (sym (at q) ∙ has));
   gone = λ q some upto. at q ∙ pick q some upto (same_key k q) refl (is_before after q) refl;
 }
   where
     k : List ℕ
     k = change_key_spelling key
+
+    not_empty : same_key k [] ≡ false
+    not_empty = false_from_ne_true (same_key k []) (λ same. not_both (is_before after []) (ap is_lt (subst (λ (q : List ℕ). bytes_cmp after q ≡ Less) (same_is k [] same) above)) (empty_first after))
 
     own : e areas.Cd number ≡ set_key (d areas.Cd number) k None
     own = ap (λ (f : Contents). f areas.Cd number) step.0 ∙ ap (λ (b : Bool). cond b (set_key (d areas.Cd number) k None) (d areas.Cd number)) (eq-eqb number number refl)

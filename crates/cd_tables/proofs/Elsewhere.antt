@@ -15,9 +15,8 @@ use Rattle.repl_records.specs.Capture.{change_row_spelling, registration_state_s
 use Rattle.repl_records.specs.RecordKeys.{change_key_spelling}
 use Rattle.repl_records.specs.declared.capture.RegState.{RegState}
 use Rattle.repl_model.specs.ChangeRows.{rows_of}
-use Rattle.capture_rows.specs.StoredChanges.{stored_change, with_change_row, with_change_rows, is_captured, with_state}
-use Rattle.cd_tables.specs.Appending.{carried_out, CarriesOut, is_of_unit}
-use Rattle.cd_tables.specs.Clearing.{cleared, with_cleared}
+use Rattle.capture_rows.specs.StoredChanges.{stored_change, with_change_row, with_change_rows, cleared, with_cleared, is_captured, with_state, with_change, CapturesChange}
+use Rattle.cd_tables.specs.Appending.{is_of_unit}
 use Rattle.cd_tables.proofs.Signals.{active_state, inactive_state}
 
 -- numbers that differ
@@ -53,9 +52,9 @@ rows_elsewhere number (r ∷ rows) c a n other =
     rows_elsewhere number rows (with_change_row number r c) a n other
     ∙ cd_elsewhere number (set_key (c areas.Cd number) (change_key_spelling (stored_change r).0) (Some (change_row_spelling (stored_change r).1))) c a n other
 
--- a change is carried out
-carried_elsewhere : (seq : ℕ) (placed : Placed) (reg : DefinedRegistration) (state : RegState) (c : Contents) (a : Area) (n : ℕ) → is_of_unit a n ≡ false → carried_out seq placed reg state c a n ≡ c a n
-carried_elsewhere seq placed reg state c a n other = by_kind placed.change
+-- a change is captured
+captured_elsewhere : (seq : ℕ) (placed : Placed) (reg : DefinedRegistration) (state : RegState) (c : Contents) (a : Area) (n : ℕ) → is_of_unit a n ≡ false → with_change seq placed reg state c a n ≡ c a n
+captured_elsewhere seq placed reg state c a n other = by_kind placed.change
   where
     rows : (b : Bool) (made : List CdRow) → cond b (with_change_rows reg.number made c) c a n ≡ c a n
     rows true made = rows_elsewhere reg.number made c a n other
@@ -71,7 +70,7 @@ carried_elsewhere seq placed reg state c a n other = by_kind placed.change
         cd_elsewhere reg.number (cleared (d areas.Cd reg.number)) d a n other ∙ put_elsewhere reg.number (inactive_state state) c a n other
     stop false = refl
 
-    by_kind : (change : Change) → carried_out seq (record placed { change = change }) reg state c a n ≡ c a n
+    by_kind : (change : Change) → with_change seq (record placed { change = change }) reg state c a n ≡ c a n
     by_kind (Insert table row) = rows (is_captured seq state) (rows_of reg.registration seq placed.pos (Insert table row))
     by_kind (Update table before after) = rows (is_captured seq state) (rows_of reg.registration seq placed.pos (Update table before after))
     by_kind (Delete table row) = rows (is_captured seq state) (rows_of reg.registration seq placed.pos (Delete table row))
@@ -79,6 +78,6 @@ carried_elsewhere seq placed reg state c a n other = by_kind placed.change
     by_kind (Stop table) = stop state.active
 
 -- if its table is registered
-pub change_elsewhere : (seq : ℕ) (placed : Placed) (count : ℕ) (c d : Contents) → CarriesOut seq placed count c d → (a : Area) (n : ℕ) → is_of_unit a n ≡ false → d a n ≡ c a n
+pub change_elsewhere : (seq : ℕ) (placed : Placed) (count : ℕ) (c d : Contents) → CapturesChange seq placed count c d → (a : Area) (n : ℕ) → is_of_unit a n ≡ false → d a n ≡ c a n
 change_elsewhere seq placed count c d (inl none) a n other = ap (λ (f : Contents). f a n) none.1
-change_elsewhere seq placed count c d (inr some) a n other = ap (λ (f : Contents). f a n) some.3 ∙ carried_elsewhere seq placed some.0 some.1 c a n other
+change_elsewhere seq placed count c d (inr some) a n other = ap (λ (f : Contents). f a n) some.3 ∙ captured_elsewhere seq placed some.0 some.1 c a n other

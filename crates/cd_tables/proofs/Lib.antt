@@ -6,5 +6,4 @@ mod Signals
 mod PutRows
 mod Carried
 mod Elsewhere
-mod EmptyKeys
 mod Parts

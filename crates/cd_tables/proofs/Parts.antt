@@ -19,7 +19,6 @@ use Rattle.capture_rows.specs.StoredCaptures.{HasCaptured, HasPart, IsNextUnit, 
 use Rattle.cd_tables.specs.Appending.{Becomes, AppendsChange, is_of_unit, CapturesUnit}
 use Rattle.cd_tables.specs.Rules.{rules}
 use Rattle.cd_tables.proofs.Elsewhere.{uow_elsewhere, change_elsewhere}
-use Rattle.cd_tables.proofs.EmptyKeys.{part_keyed, change_captured}
 use Rattle.cd_tables.proofs.Shown.{shown_then}
 
 -- Some changes of a unit were captured, and so many change rows put.
@@ -51,11 +50,11 @@ part_begins begins u c d now = record {
 -- one more change is captured
 part_goes_on : UnitGoesOn → (u : Unit) (changes : List Placed) (placed : Placed) (rest : List Placed) (rows more : ℕ) (c d e : Contents) → u.changes ≡ changes ++ placed ∷ rest → CapturesPart u changes rows c d → AppendsChange u.head.seq placed more d e → CapturesPart u (changes ++ placed ∷ []) (rows + more) c e
 part_goes_on goes_on u changes placed rest rows more c d e split before now = record {
-  others = λ a n other. change_elsewhere u.head.seq placed more d e now.carries a n other ∙ before.others a n other;
+  others = λ a n other. change_elsewhere u.head.seq placed more d e now.captures a n other ∙ before.others a n other;
   shown = shown_then c d e before.shown now.shown;
   part = λ world server next has.
       let p = before.part world server next has in
-      let q = goes_on world server u changes placed rest more d e next split p.0 (change_captured u.head.seq placed more d e (part_keyed server u changes d p.0) now.carries) in
+      let q = goes_on world server u changes placed rest more d e next split p.0 now.captures in
       (q.0, ap (λ (n : ℕ). n + more) p.1 ∙ sym q.1);
 }
 

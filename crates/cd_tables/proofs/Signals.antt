@@ -3,9 +3,8 @@ use Rattle.std.proofs.Common.{◌≡◌, ℕ, true, false, refl}
 use Rattle.keep_core.specs.Contents.{Contents}
 use Rattle.repl_records.specs.Capture.{IsRegistrationState}
 use Rattle.repl_records.specs.declared.capture.RegState.{RegState}
-use Rattle.capture_rows.specs.StoredChanges.{with_state}
-use Rattle.cd_tables.specs.Appending.{Becomes, started, stopped}
-use Rattle.cd_tables.specs.Clearing.{with_cleared}
+use Rattle.capture_rows.specs.StoredChanges.{with_cleared, with_state, started, stopped}
+use Rattle.cd_tables.specs.Appending.{Becomes}
 use Rattle.cd_tables.proofs.Shown.{becomes_state, becomes_then, becomes_if}
 
 -- the state of a registration that is started

@@ -1,24 +1,19 @@
 -- What the capture of a unit makes of contents.
-use Rattle.std.specs.Prelude.{◌≡◌, ◌⊎◌, ℕ, zero, suc, Bool, true, false, if◌then◌else◌}
+use Rattle.std.specs.Prelude.{◌≡◌, ℕ, zero, suc, Bool, true, false}
 use Rattle.repl_types.specs.declared.area.Area.{Area}
 use Rattle.repl_types.specs.declared.area.Area.TheVariants as areas
 use Rattle.repl_types.specs.declared.change_row.CdRow.{CdRow}
-use Rattle.repl_types.specs.declared.record.Change.{Change}
-use Rattle.repl_types.specs.declared.record.Change.TheVariants.{Insert, Update, Delete, Start, Stop}
 use Rattle.repl_types.specs.declared.unit.Placed.{Placed}
 use Rattle.repl_types.specs.declared.unit.Unit.{Unit}
 use Rattle.keep_core.specs.Contents.{Contents}
 use Rattle.row_codec.specs.Storable.{IsStorable}
 use Rattle.repl_records.specs.Capture.{IsChangeRow, HasChangeRowSpelling, change_row_spelling}
-use Rattle.repl_records.specs.declared.capture.RegState.{RegState}
-use Rattle.repl_definitions.specs.declared.defined.DefinedRegistration.{DefinedRegistration}
 use Rattle.repl_model.specs.World.{Server, World}
 use Rattle.site_store.specs.Damage.{ShownBefore}
 use Rattle.log_rows.specs.SourceTables.{HasRows}
 use Rattle.capture_worlds.specs.Captures.{with_unit, rows_captured}
-use Rattle.capture_rows.specs.StoredChanges.{stored_change, with_state, with_rows_of, rows_put, IsUnregistered, IsRegistered}
+use Rattle.capture_rows.specs.StoredChanges.{stored_change, CapturesChange}
 use Rattle.capture_rows.specs.StoredCaptures.{HasCaptured, IsNextUnit}
-use Rattle.cd_tables.specs.Clearing.{with_cleared}
 use Rattle.cd_tables.specs.Rules.{rules}
 
 -- a change row is one of rows of values, and can be stored
@@ -35,34 +30,10 @@ IsTyped placed = HasRows placed.change
 abbrev pub Becomes : (Contents → Contents) → Contents → Contents → Type 0
 Becomes made c d = (d ≡ made c) × ShownBefore rules c d
 
--- the contents after a start in a unit with this seq of the registration with a number, which is in this state
-abbrev pub started : ℕ → ℕ → RegState → Contents → Contents
-started seq number state c = if state.active then c else with_state number (record { active = true; start = seq; floor = state.floor }) c
-
--- the contents after a stop
-abbrev pub stopped : ℕ → RegState → Contents → Contents
-stopped number state c = if state.active then with_cleared number (with_state number (record state { active = false }) c) else c
-
--- The contents after a change in a unit with this seq, by the registration of its table and the registration's
--- state. This is `with_change` of `capture_rows` if no change-data table has anything at the empty key.
-abbrev pub carried_out : ℕ → Placed → DefinedRegistration → RegState → Contents → Contents
-carried_out seq placed reg state c = by_change placed.change
-  where
-    by_change : Change → Contents
-    by_change (Insert table row) = with_rows_of seq placed reg state c
-    by_change (Update table before after) = with_rows_of seq placed reg state c
-    by_change (Delete table row) = with_rows_of seq placed reg state c
-    by_change (Start table) = started seq reg.number state c
-    by_change (Stop table) = stopped reg.number state c
-
--- A change in a unit with this seq was carried out, if its table is registered, and so many change rows were put.
-abbrev pub CarriesOut : ℕ → Placed → ℕ → Contents → Contents → Type 0
-CarriesOut seq placed rows c d = (IsUnregistered placed c × (d ≡ c) × (rows ≡ 0))
-    ⊎ ((reg : DefinedRegistration) × (state : RegState) × IsRegistered placed reg state c × (d ≡ carried_out seq placed reg state c) × (rows ≡ rows_put seq placed reg state))
-
--- A change was carried out so, and no damage is shown that wasn't shown before.
+-- A change in a unit with this seq was captured, so many change rows were put, and no damage is shown that wasn't
+-- shown before.
 pub record AppendsChange (seq : ℕ) (placed : Placed) (rows : ℕ) (c d : Contents) : Type 0 where
-  pub carries : CarriesOut seq placed rows c d
+  pub captures : CapturesChange seq placed rows c d
   pub shown : ShownBefore rules c d
 
 -- ---- units

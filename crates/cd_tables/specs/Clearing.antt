@@ -1,9 +1,9 @@
 -- What removing the change rows of a registration, one after another, makes of contents.
-use Rattle.std.specs.Prelude.{◌≡◌, ℕ, List, [], ◌∷◌, Option, Some, None}
+use Rattle.std.specs.Prelude.{◌≡◌, ℕ, List, Option, Some, None}
 use Rattle.std.specs.declared.cmp.Ordering.TheVariants.{Less}
 use Rattle.repl_types.specs.Bytes.{bytes_cmp}
 use Rattle.repl_types.specs.declared.area.Area.TheVariants as areas
-use Rattle.keep_core.specs.Contents.{Contents, Table, IsLastKey, put_at, with_table}
+use Rattle.keep_core.specs.Contents.{Contents, IsLastKey, put_at}
 use Rattle.repl_records.specs.RecordKeys.{change_key_spelling, IsChangeKey}
 use Rattle.repl_records.specs.declared.record_keys.CdKey.{CdKey}
 
@@ -17,12 +17,3 @@ ClearsNext number after (Some key) c d = (d ≡ put_at c areas.Cd number (change
 pub record IsCleared (after : List ℕ) (key : CdKey) : Type 0 where
   pub above : bytes_cmp after (change_key_spelling key) ≡ Less
   pub fits : IsChangeKey key
-
--- a table without its rows: what it has at the empty key stays, which is the key of no row
-abbrev pub cleared : Table → Table
-cleared t [] = t []
-cleared t (b ∷ key) = None
-
--- the contents without the change rows of the registration with a number
-abbrev pub with_cleared : ℕ → Contents → Contents
-with_cleared number c = with_table c areas.Cd number (cleared (c areas.Cd number))

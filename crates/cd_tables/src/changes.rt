@@ -12,9 +12,9 @@ ghost use Rattle.server_steps.specs.Calls.{GoesOn, Breaks, FailsToWrite};
 ghost use Rattle.capture_rows.specs.StoredChanges.{is_captured as is_captured_lem};
 ghost use Rattle.capture_rows.specs.StoredChanges.{stored_change as stored_change_lem};
 ghost use Rattle.capture_rows.specs.StoredChanges.{with_change_rows, with_rows_of, rows_put};
+ghost use Rattle.capture_rows.specs.StoredChanges.{started, stopped, with_change};
 ghost use Rattle.cd_tables.specs.Rules.{rules, IsRegistrationOf};
-ghost use Rattle.cd_tables.specs.Appending.{CanBeStored, Becomes, started, stopped};
-ghost use Rattle.cd_tables.specs.Appending.{carried_out, AppendsChange};
+ghost use Rattle.cd_tables.specs.Appending.{CanBeStored, Becomes, AppendsChange};
 
 use crate::clearing::clear_changes;
 use crate::laws::laws_of_rows;
@@ -199,7 +199,7 @@ fn carry_out<K: Keeper>(
     requires typed { HasRows placed.now.change }
     requires fits { IsRegistrationState state.now }
     ensures ok { OnOk result (GoesOn K.kept sites.old sites.new server
-        (Becomes (carried_out seq placed.now reg.now state.now))) }
+        (Becomes (with_change seq placed.now reg.now state.now))) }
     ensures count { IfOk result (λ rows. (rows ≡ rows_put seq placed.now reg.now state.now)
         × (rows ≤ 2)) }
     ensures fault { IfErr result (Breaks rules K.kept sites.old sites.new server) }

@@ -5,8 +5,9 @@ ghost use Rattle.repl_records.specs.RecordKeys.{change_key_spelling};
 ghost use Rattle.site_store.specs.Records.{after_key};
 ghost use Rattle.site_store.specs.Views.{names, work, IsOpenAt};
 ghost use Rattle.server_steps.specs.Calls.{GoesOn, Breaks};
+ghost use Rattle.capture_rows.specs.StoredChanges.{with_cleared};
 ghost use Rattle.cd_tables.specs.Rules.{rules};
-ghost use Rattle.cd_tables.specs.Clearing.{ClearsNext, IsCleared, with_cleared};
+ghost use Rattle.cd_tables.specs.Clearing.{ClearsNext, IsCleared};
 ghost use Rattle.cd_tables.specs.Appending.{Becomes};
 
 use faults::Fault;

@@ -4,10 +4,11 @@ use Rattle.std.proofs.lemmas.Result.{err_from_is_err_and}
 use Rattle.keep_core.specs.Contents.{Contents}
 use Rattle.site_store.specs.Views.{sees}
 use Rattle.stored_defs.specs.laws.Passing.{if_seen, if_both_seen}
+use Rattle.capture_rows.specs.StoredChanges.{with_change}
 use Rattle.server_steps.specs.laws.Damage.{breaks_after}
 use Rattle.server_steps.specs.laws.Reads.{looks_then, sees_on, sees_back}
 use Rattle.server_steps.specs.laws.Steps.{goes_saw, saw_then, looks_open}
-use Rattle.cd_tables.specs.Appending.{Becomes, carried_out, AppendsChange}
+use Rattle.cd_tables.specs.Appending.{Becomes, AppendsChange}
 use Rattle.cd_tables.specs.Rules.{rules, IsRegistrationOf, IsRegistrationIn, FindsRegistration, HasStateOf}
 use Rattle.cd_tables.proofs.Carried.{appends_nothing, appends_rows}
 use Rattle.cd_tables.proofs.changes.append_change.Goals as goal
@@ -78,4 +79,4 @@ returns-clause-ok g c =
     let stands : IfSome saw (FindsRegistration name (Some reg)) = rw c.in-Some.is at c.in_ok-reg.ensures.found in
     let N = λ (d : Contents). FindsRegistration name (Some reg) d × HasStateOf reg state d in
     let found : IfSome saw N = if_both_seen saw (FindsRegistration name (Some reg)) (HasStateOf reg state) N (λ d under has. (under, has)) stands (sees_back kept s0 s1 server (HasStateOf reg state) c.in_ok-reg.ensures.ok c.in_ok-state.ensures.state) in
-    saw_then kept s0 s2 c.carry_out.new.sites server N (Becomes (carried_out seq placed reg state)) (AppendsChange seq placed rows) c.requires.open (looks_then kept s0 s1 s2 c.in_ok-reg.ensures.ok c.in_ok-state.ensures.ok) found c.in_ok-rows.ensures.ok (λ d e has now. appends_rows seq placed name c.table_of-name.ensures rows reg state d e (rw c.in-Some.is at fits) has c.in_ok-rows.ensures.count.0 now)
+    saw_then kept s0 s2 c.carry_out.new.sites server N (Becomes (with_change seq placed reg state)) (AppendsChange seq placed rows) c.requires.open (looks_then kept s0 s1 s2 c.in_ok-reg.ensures.ok c.in_ok-state.ensures.ok) found c.in_ok-rows.ensures.ok (λ d e has now. appends_rows seq placed name c.table_of-name.ensures rows reg state d e (rw c.in-Some.is at fits) has c.in_ok-rows.ensures.count.0 now)

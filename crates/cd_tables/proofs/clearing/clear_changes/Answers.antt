@@ -2,10 +2,11 @@ use Rattle.std.proofs.Common.{Some, None, ◌<◌, ℕ, List, length, sym, subst
 use Rattle.std.proofs.lemmas.Result.{err_from_is_err_and}
 use Rattle.repl_records.specs.RecordKeys.{change_key_spelling}
 use Rattle.site_store.specs.Records.{after_key}
+use Rattle.capture_rows.specs.StoredChanges.{with_cleared}
 use Rattle.server_steps.specs.laws.Damage.{breaks_on}
 use Rattle.server_steps.specs.laws.Steps.{goes_none, goes_then, goes_open}
 use Rattle.cd_tables.specs.Appending.{Becomes}
-use Rattle.cd_tables.specs.Clearing.{ClearsNext, with_cleared}
+use Rattle.cd_tables.specs.Clearing.{ClearsNext}
 use Rattle.cd_tables.specs.Rules.{rules}
 use Rattle.cd_tables.proofs.KeyRanks.{rank_rises, rank_small}
 use Rattle.cd_tables.proofs.ClearedRows.{HasCleared, cleared_none, cleared_next, cleared_all, cleared_shown}
@@ -46,5 +47,5 @@ loop-key-preserved g c =
     let key = c.in-Some.key in
     record {
       fits = is.fits;
-      goes = goes_then g.K.Keeper.kept c.args.sites.now c.loop-key.sites c.clear_next.new.sites c.args.server (HasCleared number after) (ClearsNext number after (Some key)) (HasCleared number (change_key_spelling key)) c.requires.open c.loop-key.invariant.goes (rw c.in-Some.is at c.in_ok-key.ensures.ok) (λ d e f cleared next. cleared_next number after key d e f cleared next);
+      goes = goes_then g.K.Keeper.kept c.args.sites.now c.loop-key.sites c.clear_next.new.sites c.args.server (HasCleared number after) (ClearsNext number after (Some key)) (HasCleared number (change_key_spelling key)) c.requires.open c.loop-key.invariant.goes (rw c.in-Some.is at c.in_ok-key.ensures.ok) (λ d e f cleared next. cleared_next number after key d e f is.above cleared next);
     }
