@@ -2,7 +2,7 @@
 //! texts that keep all, worked out by hand.
 
 use crate::texts::{
-    LARGE_ORDERS, MEMBER, ORDERS, PENS_AND_INKS, REGISTRATION, SECOND_MEMBER, SET, TABLE,
+    LARGE_ORDERS, MEMBER, ORDERS, PENS_AND_INKS, REGISTRATION, Row, SECOND_MEMBER, SET, TABLE,
     break_of_edited, edit, find_wrong, join,
 };
 use repl_types::DefPlace;
@@ -15,7 +15,7 @@ const LAST_MEMBER: DefPlace = DefPlace::Member { set: 2, member: 2 };
 fn a_name_is_spelled_as_a_name(rt: HostRuntime) -> Result<(), Fail> {
     let alloc = rt.alloc();
     let text = join(alloc, &[ORDERS, LARGE_ORDERS])?;
-    let rows = [
+    const ROWS: [Row<'static>; 25] = [
         (
             "server = 'hq'\nname",
             "server = 'h q'\nname",
@@ -74,7 +74,7 @@ fn a_name_is_spelled_as_a_name(rt: HostRuntime) -> Result<(), Fail> {
         ("'id = id'", "' id  = id'", None),
         ("'qty = qty'", "'count = qty'", None),
     ];
-    let wrong = find_wrong(alloc, text.as_str(), &rows)?;
+    let wrong = find_wrong(alloc, text.as_str(), &ROWS)?;
     assert!(rt; wrong.is_none(), "{wrong:?}");
     Ok(())
 }
@@ -83,7 +83,7 @@ fn a_name_is_spelled_as_a_name(rt: HostRuntime) -> Result<(), Fail> {
 fn nothing_stands_twice(rt: HostRuntime) -> Result<(), Fail> {
     let alloc = rt.alloc();
     let text = join(alloc, &[ORDERS, LARGE_ORDERS])?;
-    let rows = [
+    const ROWS: [Row<'static>; 11] = [
         ("'item text'", "'id text'", Some((3, TABLE))),
         ("key = ['id']", "key = ['id', 'id']", Some((3, TABLE))),
         ("fixed = ['id']", "fixed = ['id', 'id']", Some((3, TABLE))),
@@ -114,9 +114,9 @@ fn nothing_stands_twice(rt: HostRuntime) -> Result<(), Fail> {
             None,
         ),
     ];
-    let wrong = find_wrong(alloc, text.as_str(), &rows)?;
+    let wrong = find_wrong(alloc, text.as_str(), &ROWS)?;
     assert!(rt; wrong.is_none(), "{wrong:?}");
-    let rows = [
+    const MORE_ROWS: [Row<'static>; 8] = [
         ("name = 'inks'", "name = 'pens'", Some((3, TABLE))),
         ("table = 'inks'", "table = 'pens'", Some((3, REGISTRATION))),
         ("name = 'far'", "name = 'near'", Some((3, SET))),
@@ -142,7 +142,7 @@ fn nothing_stands_twice(rt: HostRuntime) -> Result<(), Fail> {
             Some((3, DefPlace::Member { set: 2, member: 1 })),
         ),
     ];
-    let wrong = find_wrong(alloc, PENS_AND_INKS, &rows)?;
+    let wrong = find_wrong(alloc, PENS_AND_INKS, &MORE_ROWS)?;
     assert!(rt; wrong.is_none(), "{wrong:?}");
     Ok(())
 }
@@ -151,7 +151,7 @@ fn nothing_stands_twice(rt: HostRuntime) -> Result<(), Fail> {
 fn a_table_has_a_key_and_a_registration_a_table(rt: HostRuntime) -> Result<(), Fail> {
     let alloc = rt.alloc();
     let text = join(alloc, &[ORDERS, LARGE_ORDERS])?;
-    let rows = [
+    const ROWS: [Row<'static>; 15] = [
         ("'item text'", "'item txt'", Some((4, TABLE))),
         ("'item text'", "'item  text'", Some((4, TABLE))),
         ("'item text'", "'item\ttext'", Some((4, TABLE))),
@@ -188,9 +188,9 @@ fn a_table_has_a_key_and_a_registration_a_table(rt: HostRuntime) -> Result<(), F
             Some((6, REGISTRATION)),
         ),
     ];
-    let wrong = find_wrong(alloc, text.as_str(), &rows)?;
+    let wrong = find_wrong(alloc, text.as_str(), &ROWS)?;
     assert!(rt; wrong.is_none(), "{wrong:?}");
-    let rows = [
+    const IMAGES: [(&str, Option<(u8, DefPlace)>); 7] = [
         ("after = ['qty']\nbefore = ['qty']", Some((7, REGISTRATION))),
         ("after = []", Some((7, REGISTRATION))),
         ("after = ['id', 'nope']", Some((7, REGISTRATION))),
@@ -205,7 +205,7 @@ fn a_table_has_a_key_and_a_registration_a_table(rt: HostRuntime) -> Result<(), F
             None,
         ),
     ];
-    for (images, wanted) in rows {
+    for (images, wanted) in IMAGES {
         let answer = break_of_edited(alloc, text.as_str(), "before = ['qty']", images)?;
         assert_eq!(rt; answer, wanted, "{images}");
     }
@@ -215,21 +215,21 @@ fn a_table_has_a_key_and_a_registration_a_table(rt: HostRuntime) -> Result<(), F
 #[test]
 fn the_lowest_rule_is_answered_at_the_first_item(rt: HostRuntime) -> Result<(), Fail> {
     let alloc = rt.alloc();
-    let far_copy = (
+    const FAR_COPY: (&str, &str) = (
         "target = 'depot_pens'\ntype = 'ccd'\ncomplete = true\ncondensed = true",
         "target = 'depot_pens'\ntype = 'user_copy'\nwhere = 'ink is null'",
     );
-    let near_ccd = (
+    const NEAR_CCD: (&str, &str) = (
         "target = 'shop_pens'\ntype = 'user_copy'",
         "target = 'shop_pens'\ntype = 'ccd'\ncomplete = true\ncondensed = true\n\
          where = 'ink is null'",
     );
-    let near_replica = (
+    const NEAR_REPLICA: (&str, &str) = (
         "where = 'price >= 3 and label is not null'",
         "[[set.member]]\nsource = 'pens'\ntarget = 'pens'\ntype = 'replica'",
     );
     // rule by rule: a break of the rule, and one of the next rule that mostly stands before it
-    let rows = [
+    const ROWS: [((&str, &str), (&str, &str), (u8, DefPlace)); 20] = [
         (
             ("'top = max", "'Top = max"),
             ("'nib text'", "'ink text'"),
@@ -272,8 +272,8 @@ fn the_lowest_rule_is_answered_at_the_first_item(rt: HostRuntime) -> Result<(), 
             (10, LAST_MEMBER),
         ),
         (
-            far_copy,
-            near_ccd,
+            FAR_COPY,
+            NEAR_CCD,
             (11, DefPlace::Member { set: 2, member: 1 }),
         ),
         (
@@ -283,7 +283,7 @@ fn the_lowest_rule_is_answered_at_the_first_item(rt: HostRuntime) -> Result<(), 
         ),
         (
             ("'n = count(*)'", "'n = 1'"),
-            near_replica,
+            NEAR_REPLICA,
             (13, LAST_MEMBER),
         ),
         // two breaks of one rule, the second of which stands first or is the one at the set
@@ -334,7 +334,7 @@ fn the_lowest_rule_is_answered_at_the_first_item(rt: HostRuntime) -> Result<(), 
             (10, SECOND_MEMBER),
         ),
     ];
-    for ((old, new), other, wanted) in rows {
+    for ((old, new), other, wanted) in ROWS {
         let edited = edit(alloc, PENS_AND_INKS, old, new)?;
         let answer = break_of_edited(alloc, edited.as_str(), other.0, other.1)?;
         assert_eq!(rt; answer, Some(wanted), "{old} -> {new}");

@@ -53,7 +53,7 @@ fn is_no_predicate(alloc: Global, text: &str) -> Result<bool, Fail> {
 
 #[test]
 fn expressions_group_from_the_left_and_products_come_first(rt: HostRuntime) -> Result<(), Fail> {
-    let texts: [(&str, &[u8]); 8] = [
+    const TEXTS: [(&str, &[u8]); 8] = [
         ("a", b"\x01\x10\0\0"),
         ("(a)", b"\x01\x10\0\0"),
         ("a + b", b"\x01\x12\x10\0\0\x10\0\x01"),
@@ -63,7 +63,7 @@ fn expressions_group_from_the_left_and_products_come_first(rt: HostRuntime) -> R
         ("a * b + a", b"\x01\x12\x14\x10\0\0\x10\0\x01\x10\0\0"),
         ("t || u||t", b"\x01\x15\x15\x10\0\x02\x10\0\x03\x10\0\x02"),
     ];
-    for (text, bytes) in texts {
+    for (text, bytes) in TEXTS {
         assert!(rt; is_source(rt.alloc(), text, bytes)?);
     }
     Ok(())
@@ -75,7 +75,7 @@ fn a_sign_belongs_to_a_number_only_if_one_is_expected(rt: HostRuntime) -> Result
     assert!(rt; is_source(rt.alloc(), "a -1", one_less)?);
     assert!(rt; is_source(rt.alloc(), "a - 1", one_less)?);
     assert!(rt; is_source(rt.alloc(), "a-1", one_less)?);
-    let texts: [(&str, &[u8]); 4] = [
+    const TEXTS: [(&str, &[u8]); 4] = [
         ("-1", b"\x01\x11\x01\x7f\xff\xff\xff\xff\xff\xff\xff"),
         (
             "a*-1",
@@ -87,7 +87,7 @@ fn a_sign_belongs_to_a_number_only_if_one_is_expected(rt: HostRuntime) -> Result
         ),
         ("-9223372036854775808", b"\x01\x11\x01\0\0\0\0\0\0\0\0"),
     ];
-    for (text, bytes) in texts {
+    for (text, bytes) in TEXTS {
         assert!(rt; is_source(rt.alloc(), text, bytes)?);
     }
     for text in ["- 1", "-0", "--1", "9223372036854775808", "007", "-a"] {
@@ -98,7 +98,7 @@ fn a_sign_belongs_to_a_number_only_if_one_is_expected(rt: HostRuntime) -> Result
 
 #[test]
 fn sums_stand_alone(rt: HostRuntime) -> Result<(), Fail> {
-    let texts: [(&str, &[u8]); 7] = [
+    const TEXTS: [(&str, &[u8]); 7] = [
         ("count(*)", b"\x02"),
         ("count ( * )", b"\x02"),
         ("COUNT(*)", b"\x02"),
@@ -107,7 +107,7 @@ fn sums_stand_alone(rt: HostRuntime) -> Result<(), Fail> {
         ("min(t)", b"\x05\0\x02"),
         ("MAX(a)", b"\x06\0\0"),
     ];
-    for (text, bytes) in texts {
+    for (text, bytes) in TEXTS {
         assert!(rt; is_source(rt.alloc(), text, bytes)?);
     }
     for text in [
@@ -147,13 +147,13 @@ fn other_texts_are_no_columns(rt: HostRuntime) -> Result<(), Fail> {
 
 #[test]
 fn a_quote_in_a_text_is_doubled(rt: HostRuntime) -> Result<(), Fail> {
-    let texts: [(&str, &[u8]); 4] = [
+    const TEXTS: [(&str, &[u8]); 4] = [
         ("'it''s a'", b"\x01\x11\x02it's a\0\0"),
         ("'a'''", b"\x01\x11\x02a'\0\0"),
         ("'''b'''", b"\x01\x11\x02'b'\0\0"),
         (r"'a\\''b'", b"\x01\x11\x02a\\'b\0\0"),
     ];
-    for (text, bytes) in texts {
+    for (text, bytes) in TEXTS {
         assert!(rt; is_source(rt.alloc(), text, bytes)?);
     }
     Ok(())
@@ -179,7 +179,7 @@ fn a_text_between_quotes_has_at_most_1000_bytes(rt: HostRuntime) -> Result<(), F
 
 #[test]
 fn and_binds_before_or(rt: HostRuntime) -> Result<(), Fail> {
-    let texts: [(&str, &[u8]); 9] = [
+    const TEXTS: [(&str, &[u8]); 9] = [
         ("a = 1", b"\x20\x30\0\0\x01\x31\x01\x80\0\0\0\0\0\0\x01"),
         (
             "a>=1and b=1",
@@ -202,7 +202,7 @@ fn and_binds_before_or(rt: HostRuntime) -> Result<(), Fail> {
         ),
         ("t = 'x y''z'", b"\x20\x30\0\x02\x01\x31\x02x y'z\0\0"),
     ];
-    for (text, bytes) in texts {
+    for (text, bytes) in TEXTS {
         assert!(rt; is_predicate(rt.alloc(), text, bytes)?);
     }
     Ok(())

@@ -6,7 +6,7 @@ use std::test::*;
 
 #[test]
 fn an_entry_of_a_table_is_split_at_its_first_blank(rt: HostRuntime) {
-    let table: [(&str, Option<(&str, Option<(Kind, bool)>)>); 12] = [
+    const TABLE: [(&str, Option<(&str, Option<(Kind, bool)>)>); 12] = [
         ("id int", Some(("id", Some((Kind::Int, false))))),
         ("qty int null", Some(("qty", Some((Kind::Int, true))))),
         ("item text", Some(("item", Some((Kind::Text, false))))),
@@ -20,7 +20,7 @@ fn an_entry_of_a_table_is_split_at_its_first_blank(rt: HostRuntime) {
         ("id\tint", None),
         ("", None),
     ];
-    for (entry, wanted) in table {
+    for (entry, wanted) in TABLE {
         let wanted = wanted.map(|(name, form)| (name.as_bytes(), form));
         assert_eq!(rt;
             split_column(entry.as_bytes()),

@@ -1,7 +1,7 @@
 //! Texts that break a rule on members, and nearly the same texts that keep all, worked out by hand.
 
 use crate::texts::{
-    CHANGED_ORDERS, ITEMS, LARGE_ORDERS, MEMBER, ORDERS, ORDERS_BY_ITEM, PARTS, PENS_AND_INKS,
+    CHANGED_ORDERS, ITEMS, LARGE_ORDERS, MEMBER, ORDERS, ORDERS_BY_ITEM, PARTS, PENS_AND_INKS, Row,
     SECOND_MEMBER, SET, STOCK, STOCK_AT_BRANCH, STOCK_AT_DEPOT, break_beside, break_of_edited,
     find_wrong, join, join_two, stock_at,
 };
@@ -13,7 +13,7 @@ use std::test::Fail;
 fn the_texts_of_a_member_are_read(rt: HostRuntime) -> Result<(), Fail> {
     let alloc = rt.alloc();
     let text = join(alloc, &[ORDERS, LARGE_ORDERS])?;
-    let rows = [
+    const ROWS: [Row<'static>; 22] = [
         ("target = 'shop'", "target = 'hq'", Some((9, SET))),
         ("source = 'hq'", "source = 'depot'", Some((9, MEMBER))),
         ("source = 'orders'", "source = 'order'", Some((9, MEMBER))),
@@ -45,9 +45,9 @@ fn the_texts_of_a_member_are_read(rt: HostRuntime) -> Result<(), Fail> {
         ("qty >= 10", "qty >= 10 And qty < 20", Some((10, MEMBER))),
         ("qty >= 10", "qty >= 10 AND qty < 20", None),
     ];
-    let wrong = find_wrong(alloc, text.as_str(), &rows)?;
+    let wrong = find_wrong(alloc, text.as_str(), &ROWS)?;
     assert!(rt; wrong.is_none(), "{wrong:?}");
-    let rows = [
+    const MORE_ROWS: [Row<'static>; 7] = [
         ("'ink = ink'", "'ink = nib'", Some((10, MEMBER))),
         ("'ink = ink'", "'ink = count'", Some((10, MEMBER))),
         ("'ink = ink'", "'count = ink'", None),
@@ -72,7 +72,7 @@ fn the_texts_of_a_member_are_read(rt: HostRuntime) -> Result<(), Fail> {
             None,
         ),
     ];
-    let wrong = find_wrong(alloc, PENS_AND_INKS, &rows)?;
+    let wrong = find_wrong(alloc, PENS_AND_INKS, &MORE_ROWS)?;
     assert!(rt; wrong.is_none(), "{wrong:?}");
     Ok(())
 }
@@ -82,7 +82,7 @@ fn a_text_has_4096_bytes_and_nests_64_deep_at_most(rt: HostRuntime) -> Result<()
     let alloc = rt.alloc();
     let text = join(alloc, &[ORDERS, LARGE_ORDERS])?;
     // each ~ stands for this many blanks, and each < and > for this many parentheses
-    let rows = [
+    const ROWS: [(&str, &str, usize, Option<(u8, DefPlace)>); 11] = [
         ("'qty = qty'", "'qty = qty +~0'", 4084, None),
         ("'qty = qty'", "'qty = qty +~0'", 4085, Some((10, MEMBER))),
         ("'qty = qty'", "'qty~= qty'", 4088, None),
@@ -95,7 +95,7 @@ fn a_text_has_4096_bytes_and_nests_64_deep_at_most(rt: HostRuntime) -> Result<()
         ("'qty >= 10'", "'<qty = 10>'", 65, Some((10, MEMBER))),
         ("'qty >= 10'", "\"qty = 1 or '<>' = ''\"", 65, None),
     ];
-    for (old, form, count, wanted) in rows {
+    for (old, form, count, wanted) in ROWS {
         let wide = form.replace(alloc, "~", " ".repeat(alloc, count)?.as_str())?;
         let opened = wide.replace(alloc, "<", "(".repeat(alloc, count)?.as_str())?;
         let new = opened.replace(alloc, ">", ")".repeat(alloc, count)?.as_str())?;
@@ -109,7 +109,7 @@ fn a_text_has_4096_bytes_and_nests_64_deep_at_most(rt: HostRuntime) -> Result<()
 fn rows_may_move_only_if_the_changes_say_from_where(rt: HostRuntime) -> Result<(), Fail> {
     let alloc = rt.alloc();
     let text = join(alloc, &[ORDERS, LARGE_ORDERS])?;
-    let rows = [
+    const ROWS: [Row<'static>; 11] = [
         ("before = ['qty']\n", "", Some((11, MEMBER))),
         (
             "before = ['qty']",
@@ -138,9 +138,9 @@ fn rows_may_move_only_if_the_changes_say_from_where(rt: HostRuntime) -> Result<(
             None,
         ),
     ];
-    let wrong = find_wrong(alloc, text.as_str(), &rows)?;
+    let wrong = find_wrong(alloc, text.as_str(), &ROWS)?;
     assert!(rt; wrong.is_none(), "{wrong:?}");
-    let rows = [
+    const MORE_ROWS: [Row<'static>; 2] = [
         ("'name = name']", "'name = name']\nwhere = 'id > 1'", None),
         (
             "'name = name']",
@@ -148,9 +148,9 @@ fn rows_may_move_only_if_the_changes_say_from_where(rt: HostRuntime) -> Result<(
             Some((11, MEMBER)),
         ),
     ];
-    let wrong = find_wrong(alloc, ITEMS, &rows)?;
+    let wrong = find_wrong(alloc, ITEMS, &MORE_ROWS)?;
     assert!(rt; wrong.is_none(), "{wrong:?}");
-    let rows = [
+    const LAST_ROWS: [Row<'static>; 3] = [
         ("before = ['code']", "before = ['qty']", Some((11, MEMBER))),
         (
             "before = ['code']",
@@ -159,10 +159,10 @@ fn rows_may_move_only_if_the_changes_say_from_where(rt: HostRuntime) -> Result<(
         ),
         ("key = ['code']", "key = ['code']\nfixed = []", None),
     ];
-    let wrong = find_wrong(alloc, PARTS, &rows)?;
+    let wrong = find_wrong(alloc, PARTS, &LAST_ROWS)?;
     assert!(rt; wrong.is_none(), "{wrong:?}");
     let text = join(alloc, &[ORDERS, CHANGED_ORDERS])?;
-    let rows = [
+    const OTHER_ROWS: [Row<'static>; 6] = [
         (
             "condensed = true",
             "condensed = true\nwhere = 'qty > 1'",
@@ -194,7 +194,7 @@ fn rows_may_move_only_if_the_changes_say_from_where(rt: HostRuntime) -> Result<(
             None,
         ),
     ];
-    let wrong = find_wrong(alloc, text.as_str(), &rows)?;
+    let wrong = find_wrong(alloc, text.as_str(), &OTHER_ROWS)?;
     assert!(rt; wrong.is_none(), "{wrong:?}");
     let condensed = "type = 'ccd'\ncomplete = true\ncondensed = true";
     let answer = break_of_edited(alloc, PENS_AND_INKS, "type = 'point_in_time'", condensed)?;
@@ -210,7 +210,7 @@ fn rows_may_move_only_if_the_changes_say_from_where(rt: HostRuntime) -> Result<(
 fn sums_stand_in_aggregates(rt: HostRuntime) -> Result<(), Fail> {
     let alloc = rt.alloc();
     let text = join(alloc, &[ORDERS, ORDERS_BY_ITEM])?;
-    let rows = [
+    const ROWS: [Row<'static>; 10] = [
         (
             ", 'n = count(*)', 'total = sum(qty)'",
             "",
@@ -231,7 +231,7 @@ fn sums_stand_in_aggregates(rt: HostRuntime) -> Result<(), Fail> {
             Some((13, MEMBER)),
         ),
     ];
-    let wrong = find_wrong(alloc, text.as_str(), &rows)?;
+    let wrong = find_wrong(alloc, text.as_str(), &ROWS)?;
     assert!(rt; wrong.is_none(), "{wrong:?}");
     let texts = [LARGE_ORDERS, CHANGED_ORDERS];
     for set in texts {
@@ -251,7 +251,7 @@ fn a_replica_set_has_only_replicas(rt: HostRuntime) -> Result<(), Fail> {
     let alloc = rt.alloc();
     let branch = stock_at(alloc, "branch")?;
     let text = join(alloc, &[STOCK, branch.as_str(), STOCK_AT_BRANCH])?;
-    let rows = [
+    const ROWS: [Row<'static>; 10] = [
         (
             "target = 'branch'",
             "target = 'branch'\ncommit_count = 1",
@@ -303,10 +303,10 @@ fn a_replica_set_has_only_replicas(rt: HostRuntime) -> Result<(), Fail> {
             Some((14, MEMBER)),
         ),
     ];
-    let wrong = find_wrong(alloc, text.as_str(), &rows)?;
+    let wrong = find_wrong(alloc, text.as_str(), &ROWS)?;
     assert!(rt; wrong.is_none(), "{wrong:?}");
     // lines of a replica member that only others may have
-    let rows = [
+    const LINES: [(&str, u8); 8] = [
         ("columns = ['id = id']", 14),
         ("columns = []", 14),
         ("where = 'qty > 1'", 14),
@@ -316,7 +316,7 @@ fn a_replica_set_has_only_replicas(rt: HostRuntime) -> Result<(), Fail> {
         ("where = 'qty >'", 10),
         ("columns = ['n = count(*)']", 13),
     ];
-    for (line, rule) in rows {
+    for (line, rule) in LINES {
         let longer = join_two(alloc, text.as_str(), line)?;
         let answer = break_beside(alloc, "", longer.as_str())?;
         assert_eq!(rt; answer, Some((rule, MEMBER)), "{line}");
@@ -336,7 +336,7 @@ fn a_replica_set_has_only_replicas(rt: HostRuntime) -> Result<(), Fail> {
             STOCK_AT_DEPOT,
         ],
     )?;
-    let rows = [
+    const MORE_ROWS: [Row<'static>; 5] = [
         ("name = 'd'", "name = 'e'", None),
         (
             "source = 'hq'\ntarget = 'depot'",
@@ -355,7 +355,7 @@ fn a_replica_set_has_only_replicas(rt: HostRuntime) -> Result<(), Fail> {
         ),
         ("target = 'depot'", "target = 'branch'", Some((3, MEMBER))),
     ];
-    let wrong = find_wrong(alloc, text.as_str(), &rows)?;
+    let wrong = find_wrong(alloc, text.as_str(), &MORE_ROWS)?;
     assert!(rt; wrong.is_none(), "{wrong:?}");
     Ok(())
 }

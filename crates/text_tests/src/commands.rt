@@ -191,7 +191,7 @@ fn generates_are_read(rt: HostRuntime) {
 
 #[test]
 fn lines_that_are_nearly_a_command_are_bad(rt: HostRuntime) {
-    let lines = [
+    const LINES: [&str; 33] = [
         "load x",
         "load load",
         "feed",
@@ -226,7 +226,7 @@ fn lines_that_are_nearly_a_command_are_bad(rt: HostRuntime) {
         "status Q s",
         "status q s s",
     ];
-    for line in lines {
+    for line in LINES {
         assert!(rt;
             is_refused(rt.alloc(), line.as_bytes(), LineError::BadLine),
             "{line}"
@@ -236,7 +236,7 @@ fn lines_that_are_nearly_a_command_are_bad(rt: HostRuntime) {
 
 #[test]
 fn lines_that_are_nearly_a_capture_are_bad(rt: HostRuntime) {
-    let lines = [
+    const LINES: [&str; 24] = [
         "capture",
         "capture Hq",
         "capture hq 5",
@@ -262,7 +262,7 @@ fn lines_that_are_nearly_a_capture_are_bad(rt: HostRuntime) {
         "capture hq units 1 every 2 units 3 every 4",
         "capture hq units 1 cold",
     ];
-    for line in lines {
+    for line in LINES {
         assert!(rt;
             is_refused(rt.alloc(), line.as_bytes(), LineError::BadLine),
             "{line}"
@@ -272,7 +272,7 @@ fn lines_that_are_nearly_a_capture_are_bad(rt: HostRuntime) {
 
 #[test]
 fn lines_that_nearly_generate_or_show_are_bad(rt: HostRuntime) {
-    let lines = [
+    const LINES: [&str; 28] = [
         "generate hq nums 1 2",
         "generate hq nums 1 2 3 4",
         "generate hq nums 1 2 3 4 5 6 7",
@@ -302,7 +302,7 @@ fn lines_that_nearly_generate_or_show_are_bad(rt: HostRuntime) {
         "show hq rejected q S",
         "show source orders",
     ];
-    for line in lines {
+    for line in LINES {
         assert!(rt;
             is_refused(rt.alloc(), line.as_bytes(), LineError::BadLine),
             "{line}"

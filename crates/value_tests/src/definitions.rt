@@ -29,20 +29,20 @@ fn tables_and_registrations_have_their_spellings(rt: HostRuntime) -> Result<(), 
 
 #[test]
 fn other_bytes_are_no_tables_or_registrations(rt: HostRuntime) {
-    let tables: [&[u8]; 4] = [
+    const TABLES: [&[u8]; 4] = [
         b"\0\0\0\x03\x05items\0\x01\x02id\x03\0\0\x01\0\0\0\0",
         b"\0\0\0\x03\x05items\0\x01\x02id\x01\x02\0\x01\0\0\0\0",
         b"\0\0\0\x03\x05items\0\x02\x02id\x01\0\0\x01\0\0\0\0",
         b"\0\0\0\x03\x05items\0\x01\x02Id\x01\0\0\x01\0\0\0\0",
     ];
-    for table in tables {
+    for table in TABLES {
         assert!(rt; is_refused::<DefinedTable>(rt.alloc(), table));
     }
-    let registrations: [&[u8]; 2] = [
+    const REGISTRATIONS: [&[u8]; 2] = [
         b"\0\0\0\x03\x05items\0\x02\0\0\0\x01\0\0\x02\0\0",
         b"\0\0\0\x03\x05items\0\x03\0\0\0\x01\0\0\x01\0\0",
     ];
-    for registration in registrations {
+    for registration in REGISTRATIONS {
         assert!(rt; is_refused::<DefinedRegistration>(rt.alloc(), registration));
     }
 }
@@ -60,7 +60,7 @@ fn set_with(alloc: Global, member: &[u8]) -> Result<Vec<u8>, Fail> {
 #[test]
 fn sets_have_their_spellings(rt: HostRuntime) -> Result<(), Fail> {
     let alloc = rt.alloc();
-    let members: [&[u8]; 6] = [
+    const MEMBERS: [&[u8]; 6] = [
         b"\x01\0\0\0",
         b"\x02\0\0\x01\x24\x23\x20\x30\0\0\x06\x31\x01\x80\0\0\0\0\0\0\x0a\x21\0\x01\x22\0\x02",
         b"\x03\0\x06\x01i\x01\x10\0\x01\x01n\x02\x01c\x03\0\x02\x01s\x04\0\x02\x01l\x05\0\x02\x01h\x06\0\x02\0",
@@ -68,7 +68,7 @@ fn sets_have_their_spellings(rt: HostRuntime) -> Result<(), Fail> {
         b"\x05\0\x01\0\x01\x01x\x01\x15\x11\x02a\0\0\x11\x02b\0\0\0",
         b"\x06\0\0\x01\x20\x31\x02a\0\0\x01\x30\0\x01",
     ];
-    for member in members {
+    for member in MEMBERS {
         let set = set_with(alloc, member)?;
         assert!(rt; comes_back::<SourceSet>(alloc, set.as_slice())?);
         assert!(rt; comes_back::<TargetSet>(alloc, set.as_slice())?);
@@ -79,7 +79,7 @@ fn sets_have_their_spellings(rt: HostRuntime) -> Result<(), Fail> {
 #[test]
 fn other_bytes_are_no_sets(rt: HostRuntime) -> Result<(), Fail> {
     let alloc = rt.alloc();
-    let members: [&[u8]; 11] = [
+    const MEMBERS: [&[u8]; 11] = [
         b"\0\0\0\0",
         b"\x07\0\0\0",
         b"\x05\0\x02\0\0\0",
@@ -92,7 +92,7 @@ fn other_bytes_are_no_sets(rt: HostRuntime) -> Result<(), Fail> {
         b"\x01\0\0\x01\x20\x30\0\0\x07\x30\0\0",
         b"\x01\0\0\x01\x25\x21\0\0\x21\0\0",
     ];
-    for member in members {
+    for member in MEMBERS {
         let set = set_with(alloc, member)?;
         assert!(rt; is_refused::<SourceSet>(alloc, set.as_slice()));
     }

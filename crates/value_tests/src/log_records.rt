@@ -19,7 +19,7 @@ fn is_refused(alloc: Global, bytes: &[u8]) -> bool {
 
 #[test]
 fn log_records_have_their_spellings(rt: HostRuntime) -> Result<(), Fail> {
-    let records: [&[u8]; 8] = [
+    const RECORDS: [&[u8]; 8] = [
         b"\x11\0\0\0\x01\x06orders\0\x03\x01\x80\0\0\0\0\0\0\x01\x02pen\0\0\x01\x80\0\0\0\0\0\0\x14",
         b"\x12\0\0\0\x07\x01t\0\x01\0\0\x01\x02a\0\0",
         b"\x13\0\0\0\x07\x01t\0\x01\x01\x80\0\0\0\0\0\0\0",
@@ -29,7 +29,7 @@ fn log_records_have_their_spellings(rt: HostRuntime) -> Result<(), Fail> {
         b"\x16\0\0\0\0\x01t",
         b"\x17\0\0\0\0\x01t",
     ];
-    for record in records {
+    for record in RECORDS {
         assert!(rt; comes_back(rt.alloc(), record)?);
     }
     Ok(())
@@ -37,7 +37,7 @@ fn log_records_have_their_spellings(rt: HostRuntime) -> Result<(), Fail> {
 
 #[test]
 fn other_bytes_are_no_log_records(rt: HostRuntime) {
-    let records: [&[u8]; 8] = [
+    const RECORDS: [&[u8]; 8] = [
         b"",
         b"\x10\0\0\0\x07",
         b"\x18\0\0\0\x07",
@@ -47,7 +47,7 @@ fn other_bytes_are_no_log_records(rt: HostRuntime) {
         b"\x13\0\0\0\x07\x01t\0\x01\x03",
         b"\x14\0\0\0\x07\0\0\0\0\0\0\0\x3c\x03ann\x02\x01q\x01n",
     ];
-    for record in records {
+    for record in RECORDS {
         assert!(rt; is_refused(rt.alloc(), record));
     }
 }

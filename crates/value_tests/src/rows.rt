@@ -43,7 +43,7 @@ fn a_row_of_each_kind_of_value(rt: HostRuntime) -> Result<(), Fail> {
 
 #[test]
 fn bytes_that_are_no_row(rt: HostRuntime) -> Result<(), Fail> {
-    let refused: [&[u8]; 14] = [
+    const REFUSED: [&[u8]; 14] = [
         // no whole count
         &[],
         &[0],
@@ -68,7 +68,7 @@ fn bytes_that_are_no_row(rt: HostRuntime) -> Result<(), Fail> {
         // the second of two values is missing
         &[0, 2, 2, b'a', 0, 0],
     ];
-    for bytes in refused {
+    for bytes in REFUSED {
         assert!(rt; is_refused(rt.alloc(), bytes));
     }
     Ok(())

@@ -6,12 +6,12 @@ use std::test::*;
 
 #[test]
 fn a_sequence_is_twenty_digits(rt: HostRuntime) -> Result<(), Fail> {
-    let table: [(u64, u16, &[u8]); 3] = [
+    const TABLE: [(u64, u16, &[u8]); 3] = [
         (0, 0, b"00000000000000000000"),
         (1_999_999_999, 1, b"00000000773593ff0001"),
         (u64::MAX, 0xabcd, b"ffffffffffffffffabcd"),
     ];
-    for (position, sub, text) in table {
+    for (position, sub, text) in TABLE {
         let mut out = Vec::new(rt.alloc());
         write_sequence(&Sequence { position, sub }, &mut out)?;
         assert!(rt; out.as_slice() == text);

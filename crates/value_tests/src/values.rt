@@ -68,7 +68,7 @@ fn null_has_one_spelling(rt: HostRuntime) -> Result<(), Fail> {
 
 #[test]
 fn other_words_spell_no_value(rt: HostRuntime) -> Result<(), Fail> {
-    let table = [
+    const TABLE: [&str; 18] = [
         "",
         "-",
         "-0",
@@ -88,7 +88,7 @@ fn other_words_spell_no_value(rt: HostRuntime) -> Result<(), Fail> {
         r"'\t'",
         "'a\nb'",
     ];
-    for word in table {
+    for word in TABLE {
         assert_eq!(rt;
             read_value(rt.alloc(), word.as_bytes())?,
             None,
