@@ -19,14 +19,8 @@ ghost use Rattle.sqlrep.specs.Asked.{asks_text, asks_nothing};
 ghost use Rattle.sqlrep.specs.Endings.{usage_code, cannot_open_line};
 ghost use Rattle.sqlrep.specs.Opened.{on_disk as on_disk_lem};
 
-#[cfg(test)]
-mod capture_tests;
 mod ending;
-#[cfg(test)]
-mod feed_tests;
 mod help;
-#[cfg(test)]
-mod load_tests;
 mod servers;
 mod streams;
 #[cfg(test)]

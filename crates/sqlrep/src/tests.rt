@@ -98,7 +98,7 @@ impl io::Write for Failing {
     }
 }
 
-pub fn words_of(alloc: Global, line: &str) -> Result<Vec<String>, AllocError> {
+fn words_of(alloc: Global, line: &str) -> Result<Vec<String>, AllocError> {
     let mut words = Vec::new(alloc);
     for word in line.split_ascii_whitespace() {
         words.push(String::from_str(alloc, word)?)?;
@@ -106,7 +106,7 @@ pub fn words_of(alloc: Global, line: &str) -> Result<Vec<String>, AllocError> {
     Ok(words)
 }
 
-pub fn source_of(alloc: Global, bytes: &[u8]) -> Result<BytesSource, AllocError> {
+fn source_of(alloc: Global, bytes: &[u8]) -> Result<BytesSource, AllocError> {
     Ok(BytesSource::new(List::from_vec(Vec::from_slice(alloc, bytes)?)))
 }
 

@@ -1,7 +1,7 @@
 //! A script that loads definitions at three servers, and what is left there if a call of one of
 //! their keepers fails.
 
-use crate::tests::{source_of, words_of};
+use crate::runs::{CALLS, source_of, words_of};
 use keep_core::Keeper;
 use keep_map::{BytesSink, MapKeeper};
 use repl_types::{List, Name, Status};
@@ -94,9 +94,6 @@ set q/back mark 00000000000000000000 signal 00000000000000000000
 ok last 00000000000000000000 commit 00000000000000000000 time 0 \
 captured 00000000000000000000 restart 00000000000000010000 floor 00000000000000000000
 ";
-
-/// More calls than a run makes at one server.
-const CALLS: u64 = 1_000;
 
 /// These replies to the loads, and the statuses.
 fn with_statuses(alloc: Global, loads: &[u8]) -> Result<Vec<u8>, AllocError> {

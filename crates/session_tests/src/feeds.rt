@@ -1,12 +1,10 @@
 //! A script that feeds the log of a server, and what is left there if a call of its keeper fails.
 
-use crate::tests::{source_of, words_of};
-use keep_core::Keeper;
-use keep_map::{BytesSink, MapKeeper};
-use repl_types::{List, Name, Status};
-use session_core::session;
-use site_store::{Site, Sites};
-use std::alloc::{AllocError, Global};
+use crate::runs::{CALLS, check, empty_server, failing_at, run};
+use keep_map::MapKeeper;
+use repl_types::Status;
+use site_store::Sites;
+use std::alloc::Global;
 use std::process::Abort;
 use std::test::Fail;
 
@@ -105,65 +103,6 @@ ok rows 2
 ok last 00000000000000070000 commit 00000000000000070000 time 110 \
 captured 00000000000000000000 restart 00000000000000010000 floor 00000000000000000000
 ";
-
-/// More calls than a run makes.
-pub const CALLS: u64 = 1_000;
-
-/// The server hq, which holds nothing.
-pub fn empty_server(alloc: Global) -> Result<Sites<MapKeeper>, Fail> {
-    let mut keeper = MapKeeper::new(alloc);
-    keeper.rollback();
-    let mut list = List::new(alloc);
-    list.push(Site::open_site(Name::new(alloc, "hq")?, keeper))?;
-    Ok(Sites::new(list)?)
-}
-
-/// The server with the same keeper, of which the call of this number fails from now on; 0 is the
-/// number of none.
-pub fn failing_at(
-    alloc: Global,
-    sites: Sites<MapKeeper>,
-    call: u64,
-    takes_place: bool,
-) -> Result<Sites<MapKeeper>, Fail> {
-    let mut list = List::new(alloc);
-    for site in sites.into_list().into_vec() {
-        let mut keeper = site.into_keeper();
-        keeper.fail_at(List::from_vec(vec![in alloc; call]?));
-        keeper.doubt_new(takes_place);
-        keeper.rollback();
-        list.push(Site::open_site(Name::new(alloc, "hq")?, keeper))?;
-    }
-    Ok(Sites::new(list)?)
-}
-
-/// Runs a script, and answers what it wrote and its status.
-pub fn run(
-    alloc: Global,
-    sites: &mut Sites<MapKeeper>,
-    script: &[u8],
-) -> Result<(BytesSink, Status), AllocError> {
-    let words = words_of(alloc, "hq=:map:")?;
-    let mut input = source_of(alloc, script)?;
-    let mut output = BytesSink::new(alloc);
-    sites.rollback_all();
-    let status = session(alloc, words.as_slice(), sites, &mut input, &mut output);
-    Ok((output, status))
-}
-
-/// Runs a script that ends in Ok and writes this.
-pub fn check(
-    rt: &impl Abort,
-    alloc: Global,
-    sites: &mut Sites<MapKeeper>,
-    script: &[u8],
-    wanted: &[u8],
-) -> Result<(), Fail> {
-    let (output, status) = run(alloc, sites, script)?;
-    assert_eq!(rt; status, Status::Ok);
-    assert_eq!(rt; output.bytes(), wanted);
-    Ok(())
-}
 
 /// Feeds what is missing at a server that an earlier run left early, as its status says it, and
 /// compares what is shown with that of a run without failure.

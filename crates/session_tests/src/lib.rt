@@ -1,0 +1,13 @@
+//! Tests of whole scripts, run by `session` at servers in memory, with a failure at each call.
+//!
+//! It has no code but tests. It stands on `session_core`, and nothing stands on it.
+#![tactic(auto)]
+
+#[cfg(test)]
+mod captures;
+#[cfg(test)]
+mod feeds;
+#[cfg(test)]
+mod loads;
+#[cfg(test)]
+mod runs;
