@@ -36,15 +36,16 @@ use Rattle.site_store.specs.Calls.{Bounds, no_access, Passes, Begins, ClosesOne,
 use Rattle.site_store.specs.Damage.{Shows, IsUndamaged, IsNoDamage}
 use Rattle.site_store.specs.laws.Damage.{no_damage}
 use Rattle.site_store.specs.laws.Transactions.{begun_sees, took, closed_again}
+use Rattle.server_steps.specs.Calls.{GoesOn}
+use Rattle.server_steps.specs.laws.Faults.{stops_as, stops_after}
+use Rattle.server_steps.specs.laws.Steps.{goes_then}
 use Rattle.stored_defs.specs.Known.{server_in}
 use Rattle.stored_defs.specs.laws.Standing.{all_at_place, same_count, keeps_at, seen_at}
 use Rattle.world_store.specs.Stands.{shown, Holds, Stands}
 use Rattle.source_log.specs.Appending.{taken, error_at, append_error, stop_at, HasTaken, TakesAll, PutsEnd, CommitsEnd, MayCommitEnd, StandGrown, HasAppended, HasNotAppended}
-use Rattle.source_log.specs.Calls.{GoesOn, BreaksFirst}
-use Rattle.source_log.specs.Rules.{all_rules, ShowsDamage}
+use Rattle.source_log.specs.Rules.{all_rules, ShowsDamage, BreaksFirst}
 use Rattle.source_log.specs.Storing.{IsKept, StoresWhole, MayAppend}
 use Rattle.source_log.specs.declared.progress.Progress.{Progress}
-use Rattle.source_log.proofs.Calls.{goes_then, stops_as, stops_after}
 use Rattle.source_log.proofs.Drops.{take_whole}
 use Rattle.source_log.specs.laws.Whole.{held_whole, end_put}
 use Rattle.source_log.proofs.Grown.{in_at, grown_nothing, found_there, stands_grown}

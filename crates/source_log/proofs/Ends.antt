@@ -1,5 +1,5 @@
 -- The end of a log is read: proofs.
-use Rattle.std.proofs.Common.{◌≡◌, ℕ, List, refl, subst, inl, inr}
+use Rattle.std.proofs.Common.{◌≡◌, ℕ, List, inl, inr}
 use Rattle.std.specs.Prelude.{Option, Some, IfSome}
 use Rattle.repl_types.specs.declared.area.Area.{Area}
 use Rattle.repl_types.specs.declared.area.Area.TheVariants as areas
@@ -18,11 +18,12 @@ use Rattle.site_store.specs.declared.sites.Sites.{Sites}
 use Rattle.site_store.specs.Views.{sees}
 use Rattle.site_store.specs.Calls.{no_access, Reads, ClosesAll, IsMemoryOr}
 use Rattle.site_store.specs.Damage.{Shows, Damages}
+use Rattle.server_steps.specs.Calls.{Looks, Breaks}
+use Rattle.server_steps.specs.laws.Damage.{breaks_after, unfit_breaks}
+use Rattle.server_steps.specs.laws.Faults.{stops_as}
+use Rattle.server_steps.specs.laws.Reads.{sees_on}
 use Rattle.stored_defs.specs.laws.Passing.{if_seen, if_both_seen}
-use Rattle.source_log.specs.Calls.{Looks, Breaks, BreaksFirst}
-use Rattle.source_log.specs.Rules.{rules, all_rules, EndIs, ShowsDamage}
-use Rattle.source_log.proofs.Calls.{stops_as, stops_after, looks_sees}
-use Rattle.source_log.proofs.Strays.{unfit_stops}
+use Rattle.source_log.specs.Rules.{rules, all_rules, EndIs, ShowsDamage, BreaksFirst}
 
 -- what the rules show, all rules show
 all_rules_show : (a : Area) (cause : DamageCause) (saw : Option Contents) → Shows rules a cause saw → Shows all_rules a cause saw
@@ -33,16 +34,15 @@ all_rules_show a (causes.NoRest steps) saw h = h
 
 module _ {K : Type 0} (kept : K → Kept) where
   -- a read failed
-  pub first_breaks : (s0 s1 : Sites K) (server : ℕ) (e : Fault) → Breaks kept s0 s1 server e → BreaksFirst kept s0 s1 server e
+  pub first_breaks : (s0 s1 : Sites K) (server : ℕ) (e : Fault) → Breaks rules kept s0 s1 server e → BreaksFirst kept s0 s1 server e
   first_breaks s0 s1 server e f = stops_as kept s0 s1 (Damages (λ s. s ≡ server) rules kept s0) (ShowsDamage kept s0 server) e (λ s a cause h. (h.0, all_rules_show a cause (sees kept s0 s) h.1)) f
 
   -- the log has a record after its end
   pub end_breaks : (s0 s1 s2 s3 : Sites K) (server : ℕ) (head : Head) (key : List ℕ) (r : LogRecord) (e : Fault) → Looks kept s0 s1 → Reads kept s1 s2 server areas.Log → ClosesAll kept s2 s3 no_access → IsHead head → IfSome (sees kept s0 server) (EndIs head) → IfSome (sees kept s1 server) (λ c. IsNextKey (c areas.Log 0) (b64 head.last) key (log_spelling r)) → IsMemoryOr (faults.Damaged server areas.Log (causes.Unfit (log_spelling r))) e → BreaksFirst kept s0 s3 server e
-  end_breaks s0 s1 s2 s3 server head key r e looks read closes fits end next fault = stops_after kept s0 s1 s3 looks.most (ShowsDamage kept s0 server) e looks.stays.passes looks.stays.held
-      (unfit_stops kept s1 s2 s3 server areas.Log (log_spelling r) (ShowsDamage kept s0 server) e read closes (refl, (0, if_both_seen (sees kept s0 server) (EndIs head) N U (λ c is at. (key, at.has, inr (head, fits, is, at.above))) end (subst (λ (o : Option Contents). IfSome o N) (looks_sees kept s0 s1 looks server) next))) fault)
-    where
-      N : Contents → Type 0
-      N c = IsNextKey (c areas.Log 0) (b64 head.last) key (log_spelling r)
-
-      U : Contents → Type 0
-      U c = (key : List ℕ) × (c areas.Log 0 key ≡ Some (log_spelling r)) × all_rules.is_unfit areas.Log 0 key (log_spelling r) c
+  end_breaks s0 s1 s2 s3 server head key r e looks read closes fits end next fault =
+      let saw = sees kept s1 server in
+      let bytes = log_spelling r in
+      let N = λ (c : Contents). IsNextKey (c areas.Log 0) (b64 head.last) key bytes in
+      let there = if_seen saw N (λ c. c areas.Log 0 key ≡ Some bytes) (λ c at. at.has) next in
+      let past = if_both_seen saw (EndIs head) N (all_rules.is_unfit areas.Log 0 key bytes) (λ c is at. inr (head, fits, is, at.above)) (sees_on kept s0 s1 server (EndIs head) looks end) next in
+      breaks_after all_rules kept s0 s1 s3 server e looks (unfit_breaks all_rules kept s1 s2 s3 server areas.Log 0 key bytes e read there past closes fault)

@@ -1,4 +1,3 @@
-mod Calls
 mod MayStand
 mod Makes
 mod Decides

@@ -43,13 +43,11 @@ use Rattle.site_store.specs.Calls.{reads_of_one, AtServer, Blames, Fails}
 use Rattle.site_store.specs.Damage.{Rules, IsUndamaged, IsSpelt, IsNoDamage}
 use Rattle.site_store.specs.Records.{after_key, Misread, MisspeltNext}
 use Rattle.site_store.specs.Views.{sees}
-use Rattle.site_store.specs.laws.Counts.{at_most_itself}
 use Rattle.site_store.specs.laws.Damage.{rows_spelt, spelt_undamaged, no_damage}
-use Rattle.site_store.specs.laws.Steps.{next_fails}
+use Rattle.server_steps.specs.Calls.{Stops}
+use Rattle.server_steps.specs.laws.Damage.{next_breaks}
 use Rattle.stored_defs.specs.Reading.{RowFits, table_rules}
-use Rattle.source_log.specs.Calls.{Stops}
 use Rattle.source_log.specs.Scanning.{HasCommitted, rows_left, IsFirstLeft, ShowsBadRow}
-use Rattle.source_log.proofs.Calls.{stops_at}
 use Rattle.source_log.proofs.MayStand.{some_byte}
 use Rattle.source_log.proofs.OwnTables.{own_tables_keep}
 
@@ -186,8 +184,7 @@ module _ {K : Type 0} (kept : K → Kept) (s0 s1 : Sites K) (server : ℕ) where
   pub scan_fails : (number : ℕ) (after : List ℕ) (e : Fault) → Fails kept s0 s1 (reads_of_one 1 server areas.Source) (AtServer server (Misread areas.Source (MisspeltNext IsKey key_spelling IsSourceRow source_row_spelling areas.Source number after (sees kept s0 server)))) e → Stops kept s0 s1 (ShowsBadRow kept s0 server number) e
   scan_fails number after e f =
       let of_table = table_rules IsKey key_spelling IsSourceRow source_row_spelling areas.Source number in
-      let most = reads_of_one 1 server areas.Source in
-      stops_at kept s0 s1 most (ShowsBadRow kept s0 server number) e (next_fails kept IsKey key_spelling IsSourceRow source_row_spelling (λ s. s ≡ server) of_table s0 s1 server areas.Source number after most e refl (λ bytes h. h refl refl) (λ bytes h. h refl refl) (at_most_itself most) f)
+      next_breaks of_table kept IsKey key_spelling IsSourceRow source_row_spelling s0 s1 server areas.Source number after (reads_of_one 1 server areas.Source) e (λ bytes h. h refl refl) (λ bytes h. h refl refl) f
 
   -- no damage is reported of committed rows
   pub none_bad : KeysOfRowsFit → SourceRowsStand → (of : Server) (table : DefinedTable) (c : Contents) → HasCommitted of table c → sees kept s0 server ≡ Some c → (e : Fault) → Blames kept s0 s1 (ShowsBadRow kept s0 server table.number) e → IsNoDamage e

@@ -19,17 +19,17 @@ use Rattle.repl_model.specs.Tables.{table_of}
 use Rattle.load_worlds.specs.laws.Members.{In}
 use Rattle.site_store.specs.declared.sites.Sites.{Sites}
 use Rattle.site_store.specs.Calls.{Bounds, no_access, Reads, ClosesAll, AtServer, Fails, IsMemoryOr}
-use Rattle.site_store.specs.Damage.{Shows, ShownBefore}
+use Rattle.site_store.specs.Damage.{joined, Shows, ShownBefore}
 use Rattle.site_store.specs.Records.{RowIs, Misspelt, MissesOrMisreads, IsMissing}
 use Rattle.site_store.specs.Views.{sees}
-use Rattle.site_store.specs.laws.Damage.{shows_at, shown_first, shown_second}
+use Rattle.site_store.specs.laws.Damage.{shown_first, shown_second}
+use Rattle.server_steps.specs.Calls.{Looks, GoesOn, Stops, FailsToWrite}
+use Rattle.server_steps.specs.laws.Damage.{write_breaks_after, needed_breaks, unfit_breaks, breaks_after}
+use Rattle.server_steps.specs.laws.Faults.{stops_as, write_fails_on}
 use Rattle.stored_defs.specs.laws.Passing.{if_seen, any_seen}
-use Rattle.source_log.specs.Calls.{Looks, GoesOn, Stops, BreaksFirst, FailsToWrite}
 use Rattle.source_log.specs.Fitting.{may_stand}
-use Rattle.source_log.specs.Rules.{all_rules, ShowsDamage}
+use Rattle.source_log.specs.Rules.{all_rules, ShowsDamage, BreaksFirst}
 use Rattle.source_log.specs.Units.{may_be_table, calls_for_table, is_unfit_table, table_rules, ShowsBadTable, ShowsUnitDamage}
-use Rattle.source_log.proofs.Calls.{looks_sees, stops_as, stops_at, stops_after, write_fails_on}
-use Rattle.source_log.proofs.Strays.{needed_shows, unfit_stops}
 
 -- ---- one change of some
 
@@ -95,20 +95,15 @@ module _ {K : Type 0} (kept : K → Kept) (s0 s1 : Sites K) (server : ℕ) where
   pub bad_of_some : (changes : List Placed) (p : Placed) → In p changes → (e : Fault) → Stops kept s0 s1 (ShowsBadTable kept s0 server (p ∷ [])) e → Stops kept s0 s1 (ShowsBadTable kept s0 server changes) e
   bad_of_some changes p i e f = stops_as kept s0 s1 (ShowsBadTable kept s0 server (p ∷ [])) (ShowsBadTable kept s0 server changes) e (λ s a cause h. (h.0, shows_too changes p i a cause (sees kept s0 s) h.1)) f
 
-  -- a call that only writes failed
-  pub write_is_bad : (damage : ℕ → Area → DamageCause → Type 0) (e : Fault) → FailsToWrite kept s0 s1 e → Stops kept s0 s1 damage e
-  write_is_bad damage e f = stops_as kept s0 s1 (λ s a cause. ⊥) damage e (λ s a cause h. absurd h) f
-
   -- the table of a change can't be read
   pub table_fails : (p : Placed) (most : Bounds) (e : Fault) → is_signal p.change ≡ false → Fails kept s0 s1 most (AtServer server (MissesOrMisreads areas.Defs (IsMissing areas.Defs 0 (short_text (table_of p.change)) (sees kept s0 server)) (Misspelt IsDefinedTable defined_table_spelling areas.Defs 0 (short_text (table_of p.change)) (sees kept s0 server)))) e
       → Stops kept s0 s1 (ShowsBadTable kept s0 server (p ∷ [])) e
   table_fails p most e plain f =
       let key = short_text (table_of p.change) in
       let saw = sees kept s0 server in
-      let damage = MissesOrMisreads areas.Defs (IsMissing areas.Defs 0 key saw) (Misspelt IsDefinedTable defined_table_spelling areas.Defs 0 key saw) in
       let all = table_rules (p ∷ []) in
       let needed : IfSome saw (all.is_needed areas.Defs 0 key) = if_seen saw (λ _. Unit {0}) (all.is_needed areas.Defs 0 key) (λ c _. (p, inl refl, plain, refl)) (any_seen saw) in
-      stops_as kept s0 s1 (AtServer server damage) (ShowsBadTable kept s0 server (p ∷ [])) e (λ s b cause h. (h.0, shows_at kept s0 all server damage (needed_shows IsDefinedTable defined_table_spelling all areas.Defs 0 key saw (λ bytes h. h) needed) s b cause h)) (stops_at kept s0 s1 most (AtServer server damage) e f)
+      needed_breaks all kept IsDefinedTable defined_table_spelling s0 s1 server areas.Defs 0 key most e (λ bytes h. h) needed f
 
   -- or the change may not stand there
   pub table_is_bad : (s2 : Sites K) (p : Placed) (table : DefinedTable) (e : Fault) → is_signal p.change ≡ false → Reads kept s0 s1 server areas.Defs → IfSome (sees kept s0 server) (RowIs defined_table_spelling areas.Defs 0 (short_text (table_of p.change)) (Some table)) → IsDefinedTable table → may_stand table.def p.change ≡ false
@@ -117,9 +112,9 @@ module _ {K : Type 0} (kept : K → Kept) (s0 s1 : Sites K) (server : ℕ) where
       let key = short_text (table_of p.change) in
       let saw = sees kept s0 server in
       let bytes = defined_table_spelling table in
-      unfit_stops kept s0 s1 s2 server areas.Defs bytes (ShowsBadTable kept s0 server (p ∷ [])) e read closes
-      (refl, (0, if_seen saw (RowIs defined_table_spelling areas.Defs 0 key (Some table)) (λ c. (k : List ℕ) × (c areas.Defs 0 k ≡ Some bytes) × is_unfit_table (p ∷ []) areas.Defs 0 k bytes) (λ c is. (key, is, (p, inl refl, plain, refl, (table, fits, refl, refused)))) row))
-      fault
+      let all = table_rules (p ∷ []) in
+      let unfit : IfSome saw (all.is_unfit areas.Defs 0 key bytes) = if_seen saw (λ _. Unit {0}) (all.is_unfit areas.Defs 0 key bytes) (λ c _. (p, inl refl, plain, refl, (table, fits, refl, refused))) (any_seen saw) in
+      unfit_breaks all kept s0 s1 s2 server areas.Defs 0 key bytes e read row unfit closes fault
 
 -- ---- a unit
 
@@ -130,10 +125,11 @@ module _ {K : Type 0} (kept : K → Kept) (s0 s1 : Sites K) (server : ℕ) (unit
 
   -- or a table of its changes, after that
   pub unit_tables_fail : (s2 : Sites K) (e : Fault) → Looks kept s0 s1 → Stops kept s1 s2 (ShowsBadTable kept s1 server unit.changes) e → Stops kept s0 s2 (ShowsUnitDamage kept s0 server unit) e
-  unit_tables_fail s2 e looks f = stops_after kept s0 s1 s2 looks.most (ShowsUnitDamage kept s0 server unit) e looks.stays.passes looks.stays.held
-      (stops_as kept s1 s2 (ShowsBadTable kept s1 server unit.changes) (ShowsUnitDamage kept s0 server unit) e (λ s a cause h. (h.0, shown_second all_rules (table_rules unit.changes) a cause (sees kept s0 s) (subst (Shows (table_rules unit.changes) a cause) (looks_sees kept s0 s1 looks s) h.1))) f)
+  unit_tables_fail s2 e looks f =
+      let tables = table_rules unit.changes in
+      breaks_after (joined all_rules tables) kept s0 s1 s2 server e looks
+      (stops_as kept s1 s2 (ShowsBadTable kept s1 server unit.changes) (ShowsUnitDamage kept s1 server unit) e (λ s a cause h. (h.0, shown_second all_rules tables a cause (sees kept s1 s) h.1)) f)
 
   -- or its commit can't be put
   pub unit_commit_fails : (s2 s3 : Sites K) (P : Contents → Contents → Type 0) (e : Fault) → Looks kept s0 s1 → GoesOn kept s1 s2 server P → FailsToWrite kept s2 s3 e → Stops kept s0 s3 (ShowsUnitDamage kept s0 server unit) e
-  unit_commit_fails s2 s3 P e looks goes f = write_is_bad kept s0 s3 server (ShowsUnitDamage kept s0 server unit) e
-      (stops_after kept s0 s1 s3 looks.most (λ s b cause. ⊥) e looks.stays.passes looks.stays.held (write_fails_on kept s1 s2 s3 server P e goes f))
+  unit_commit_fails s2 s3 P e looks goes f = write_breaks_after (joined all_rules (table_rules unit.changes)) kept s0 s1 s3 server e looks (write_fails_on kept s1 s2 s3 server P e goes f)

@@ -25,7 +25,7 @@ use Rattle.site_store.specs.declared.sites.Sites.{Sites}
 use Rattle.site_store.specs.Damage.{Rules, joined, IsUndamaged, IsSpelt, IsNoDamage}
 use Rattle.site_store.specs.Views.{sees}
 use Rattle.site_store.specs.laws.Damage.{no_damage}
-use Rattle.source_log.specs.Calls.{Stops}
+use Rattle.server_steps.specs.Calls.{Stops}
 use Rattle.source_log.specs.Fitting.{may_stand}
 use Rattle.source_log.specs.Rules.{all_rules, HasTable}
 use Rattle.source_log.specs.Storing.{StoresWhole}

@@ -25,8 +25,8 @@ use Rattle.site_store.specs.Servers.{AllClosed}
 use Rattle.site_store.specs.Views.{names, held, work, sees}
 use Rattle.site_store.specs.Calls.{Bounds, Passes, Commits, Blames}
 use Rattle.site_store.specs.Damage.{IsNoDamage}
+use Rattle.server_steps.specs.Calls.{GoesOn}
 use Rattle.stored_defs.specs.Known.{server_in}
-use Rattle.source_log.specs.Calls.{GoesOn}
 use Rattle.source_log.specs.Rules.{EndIs}
 use Rattle.source_log.specs.Storing.{IsKept, Stores}
 use Rattle.source_log.specs.declared.outcome.Outcome.{Outcome}

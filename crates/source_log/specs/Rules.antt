@@ -7,6 +7,7 @@ use Rattle.repl_types.specs.declared.area.Area.TheVariants as areas
 use Rattle.repl_types.specs.declared.record.Change.{Change}
 use Rattle.repl_types.specs.declared.record.LogRecord.TheVariants as records
 use Rattle.repl_types.specs.declared.status.DamageCause.{DamageCause}
+use Rattle.faults.specs.declared.fault.Fault.{Fault}
 use Rattle.keep_core.specs.Contents.{Contents}
 use Rattle.keep_core.specs.Kept.{Kept}
 use Rattle.row_codec.specs.LogRecords.{IsLogRecord, log_spelling}
@@ -22,6 +23,7 @@ use Rattle.repl_model.specs.Tables.{table_of}
 use Rattle.site_store.specs.declared.sites.Sites.{Sites}
 use Rattle.site_store.specs.Damage.{Rules, Damages}
 use Rattle.site_store.specs.Records.{StateIs}
+use Rattle.server_steps.specs.Calls.{Breaks}
 use Rattle.stored_defs.specs.Reading.{Spells}
 use Rattle.source_log.specs.Fitting.{may_stand}
 
@@ -105,3 +107,7 @@ all_rules = record { is_key = may_be_key; is_value = may_be_value; is_needed = i
 -- what the server was seen to have shows damage by these rules
 abbrev pub ShowsDamage : {K : Type 0} → (K → Kept) → Sites K → ℕ → ℕ → Area → DamageCause → Type 0
 ShowsDamage kept sites server = Damages (λ s. s ≡ server) all_rules kept sites
+
+-- a call that reads the end of the log first failed: if damage is reported, these rules show it
+abbrev pub BreaksFirst : {K : Type 0} → (K → Kept) → Sites K → Sites K → ℕ → Fault → Type 0
+BreaksFirst kept old new server e = Breaks all_rules kept old new server e

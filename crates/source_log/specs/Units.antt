@@ -38,8 +38,8 @@ use Rattle.site_store.specs.declared.sites.Sites.{Sites}
 use Rattle.site_store.specs.Damage.{Rules, joined, Damages, IsNoDamage}
 use Rattle.site_store.specs.Servers.{AllClosed}
 use Rattle.site_store.specs.Views.{work}
+use Rattle.server_steps.specs.Calls.{GoesOn, Stops}
 use Rattle.stored_defs.specs.Reading.{Spells}
-use Rattle.source_log.specs.Calls.{GoesOn, Stops}
 use Rattle.source_log.specs.Fitting.{may_stand}
 use Rattle.source_log.specs.Making.{HasSource, SourceStands, with_made}
 use Rattle.source_log.specs.Rules.{all_rules, EndIs, HasTable}

@@ -9,9 +9,9 @@ ghost use Rattle.repl_records.specs.SourceSide.{IsHead};
 ghost use Rattle.repl_model.specs.World.{World};
 ghost use Rattle.site_store.specs.Servers.{AllClosed};
 ghost use Rattle.site_store.specs.Views.{names, held, work, sees, IsOpenAt};
+ghost use Rattle.server_steps.specs.Calls.{Looks, GoesOn, Breaks};
 ghost use Rattle.world_store.specs.Stands.{Stands};
-ghost use Rattle.source_log.specs.Calls.{Looks, GoesOn, Breaks, BreaksFirst};
-ghost use Rattle.source_log.specs.Rules.{EndIs, ShowsDamage};
+ghost use Rattle.source_log.specs.Rules.{rules, EndIs, ShowsDamage, BreaksFirst};
 ghost use Rattle.source_log.specs.Storing.{MayAppend};
 ghost use Rattle.site_store.specs.Calls.{ClosesOne, KeepsServers};
 ghost use Rattle.source_log.specs.Appending.{TakesFirst, TakesAll, CommitsEnd, MayCommitEnd};
@@ -70,7 +70,7 @@ fn take_first<K: Keeper>(
     ensures ok { IfOk result (λ progress. GoesOn K.kept sites.old sites.new server
         (TakesFirst head records.now progress)) }
     ensures few { IfOk result (λ progress. progress.taken ≤ length records.now) }
-    ensures fault { IfErr result (Breaks K.kept sites.old sites.new server) }
+    ensures fault { IfErr result (Breaks rules K.kept sites.old sites.new server) }
 {
     laws_of_worlds();
     let mut end = head;

@@ -2,8 +2,9 @@
 
 ghost use Rattle.std.specs.Prelude.{◌≡◌, ◌<◌, length, OnOk, IfOk, IfErr, IfSome};
 ghost use Rattle.site_store.specs.Views.{names, work, sees, IsOpenAt};
-ghost use Rattle.source_log.specs.Calls.{Looks, GoesOn, Breaks, FailsToWrite};
+ghost use Rattle.server_steps.specs.Calls.{Looks, GoesOn, Breaks, FailsToWrite};
 ghost use Rattle.source_log.specs.Reading.{IsNextPosition, IsAbove, ArePositions, with_dropped};
+ghost use Rattle.source_log.specs.Rules.{rules};
 
 use crate::laws::laws_of_transactions;
 use faults::Fault;
@@ -27,7 +28,7 @@ fn next_position<K: Keeper>(
     ensures next { IfOk result (λ next. IfSome (sees K.kept sites.old server)
         (IsNextPosition tx after next)) }
     ensures rises { IfOk result (λ next. IfSome next (IsAbove after)) }
-    ensures fault { IfErr result (Breaks K.kept sites.old sites.new server) }
+    ensures fault { IfErr result (Breaks rules K.kept sites.old sites.new server) }
 {
     laws_of_transactions();
     let last = InFlightKey { tx, pos: after };
@@ -51,7 +52,7 @@ pub fn positions_of<K: Keeper>(
     ensures ok { OnOk result (Looks K.kept sites.old sites.new) }
     ensures positions { IfOk result (λ positions. IfSome (sees K.kept sites.old server)
         (ArePositions tx positions)) }
-    ensures fault { IfErr result (Breaks K.kept sites.old sites.new server) }
+    ensures fault { IfErr result (Breaks rules K.kept sites.old sites.new server) }
 {
     laws_of_transactions();
     let mut positions = List::new(alloc);

@@ -3,9 +3,10 @@
 ghost use Rattle.std.specs.Prelude.{◌≡◌, ◌<◌, ◌+◌, true, length, OnOk, IfOk, IfErr};
 ghost use Rattle.std.specs.List.{AllByRecursion};
 ghost use Rattle.site_store.specs.Views.{names, work, IsOpenAt};
-ghost use Rattle.source_log.specs.Calls.{GoesOn, Breaks, FailsToWrite};
+ghost use Rattle.server_steps.specs.Calls.{GoesOn, Breaks, FailsToWrite};
 ghost use Rattle.source_log.specs.Making.{StepCanBeMade, MakesOne, MakesFirst, MakesAll};
 ghost use Rattle.source_log.specs.Making.{all_unmade};
+ghost use Rattle.source_log.specs.Rules.{rules};
 
 use crate::laws::laws_of_turns;
 use crate::outcome::Outcome;
@@ -28,7 +29,7 @@ fn make_one<K: Keeper>(
     requires can { StepCanBeMade step.now }
     ensures ok { IfOk result (λ made. GoesOn K.kept sites.old sites.new server
         (MakesOne step.now made)) }
-    ensures fault { IfErr result (Breaks K.kept sites.old sites.new server) }
+    ensures fault { IfErr result (Breaks rules K.kept sites.old sites.new server) }
 {
     let applies = change_applies(sites, alloc, server, &step.table, &step.change)?;
     if !applies {
@@ -51,7 +52,7 @@ fn make_first<K: Keeper>(
     ensures ok { IfOk result (λ made. GoesOn K.kept sites.old sites.new server
         (MakesFirst steps.now made)) }
     ensures few { IfOk result (λ made. made < length steps.now + 1) }
-    ensures fault { IfErr result (Breaks K.kept sites.old sites.new server) }
+    ensures fault { IfErr result (Breaks rules K.kept sites.old sites.new server) }
 {
     laws_of_turns();
     'steps: for (made, step) in steps.iter().enumerate() {
@@ -101,7 +102,7 @@ pub fn make_all<K: Keeper>(
     ensures ok { IfOk result (λ outcome. GoesOn K.kept sites.old sites.new server
         (MakesAll steps.now has_room outcome)) }
     ensures room { IfOk result (λ outcome. outcome ≡ Outcome.Taken → has_room ≡ true) }
-    ensures fault { IfErr result (Breaks K.kept sites.old sites.new server) }
+    ensures fault { IfErr result (Breaks rules K.kept sites.old sites.new server) }
 {
     let made = make_first(sites, alloc, server, steps)?;
     if made < steps.len() {

@@ -10,10 +10,10 @@ ghost use Rattle.keep_core.specs.Contents.{Contents};
 ghost use Rattle.site_store.specs.Damage.{IsNoDamage};
 ghost use Rattle.site_store.specs.Servers.{AllClosed};
 ghost use Rattle.site_store.specs.Views.{names, work, sees};
+ghost use Rattle.server_steps.specs.Calls.{Looks, Stops};
 ghost use Rattle.world_store.specs.LogRows.{head_of};
 ghost use Rattle.stored_defs.specs.Known.{server_in};
-ghost use Rattle.source_log.specs.Calls.{Looks, Stops, BreaksFirst};
-ghost use Rattle.source_log.specs.Rules.{EndIs};
+ghost use Rattle.source_log.specs.Rules.{EndIs, BreaksFirst};
 ghost use Rattle.source_log.specs.Scanning.{IsSeenAs, HasCommitted, IsNextCommitted, ShowsBadRow};
 
 use crate::appending::read_end;

@@ -8,11 +8,12 @@ ghost use Rattle.keep_core.specs.Contents.{put_at};
 ghost use Rattle.row_codec.specs.Spelling.{IsRow, key_spelling, row_spelling};
 ghost use Rattle.repl_model.specs.Tables.{key_of as key_of_lem, is_row as is_row_lem, inverse};
 ghost use Rattle.site_store.specs.Views.{names, work, sees, IsOpenAt};
+ghost use Rattle.server_steps.specs.Calls.{Looks, GoesOn, Breaks, FailsToWrite};
 ghost use Rattle.log_rows.specs.SourceReads.{values_read};
-ghost use Rattle.source_log.specs.Calls.{Looks, GoesOn, Breaks, FailsToWrite};
 ghost use Rattle.source_log.specs.Fitting.{RowMayStand, CanBeMade};
 ghost use Rattle.source_log.specs.Making.{Tells, with_made};
 ghost use Rattle.source_log.specs.Reading.{FindsRow, HasFreeKey};
+ghost use Rattle.source_log.specs.Rules.{rules};
 
 use crate::laws::{laws_of_reads, laws_of_source};
 use faults::Fault;
@@ -53,7 +54,7 @@ fn find_row<K: Keeper>(
     ensures ok { OnOk result (Looks K.kept sites.old sites.new) }
     ensures row { IfOk result (λ found. IfSome (sees K.kept sites.old server)
         (FindsRow table key.now found)) }
-    ensures fault { IfErr result (Breaks K.kept sites.old sites.new server) }
+    ensures fault { IfErr result (Breaks rules K.kept sites.old sites.new server) }
 {
     let found = sites.get::<SourceRow>(alloc, server, table, key)?;
     Ok(found)
@@ -188,7 +189,7 @@ fn insert_applies<K: Keeper>(
     ensures ok { OnOk result (Looks K.kept sites.old sites.new) }
     ensures tells { IfOk result (λ answer. IfSome (sees K.kept sites.old server)
         (λ c. (name : List ℕ) → Tells table.now (Insert name row.now) answer c)) }
-    ensures fault { IfErr result (Breaks K.kept sites.old sites.new server) }
+    ensures fault { IfErr result (Breaks rules K.kept sites.old sites.new server) }
 {
     laws_of_reads();
     let key = key_of(alloc, &table.def, row)?;
@@ -209,7 +210,7 @@ fn delete_applies<K: Keeper>(
     ensures ok { OnOk result (Looks K.kept sites.old sites.new) }
     ensures tells { IfOk result (λ answer. IfSome (sees K.kept sites.old server)
         (λ c. (name : List ℕ) → Tells table.now (Delete name row.now) answer c)) }
-    ensures fault { IfErr result (Breaks K.kept sites.old sites.new server) }
+    ensures fault { IfErr result (Breaks rules K.kept sites.old sites.new server) }
 {
     laws_of_reads();
     let key = key_of(alloc, &table.def, row)?;
@@ -231,7 +232,7 @@ fn key_is_free<K: Keeper>(
     ensures ok { OnOk result (Looks K.kept sites.old sites.new) }
     ensures free { IfOk result (λ answer. IfSome (sees K.kept sites.old server)
         (HasFreeKey table.now old_key.now after.now answer)) }
-    ensures fault { IfErr result (Breaks K.kept sites.old sites.new server) }
+    ensures fault { IfErr result (Breaks rules K.kept sites.old sites.new server) }
 {
     let new_key = key_of(alloc, &table.def, after)?;
     if same_values(old_key, &new_key) {
@@ -256,7 +257,7 @@ fn update_applies<K: Keeper>(
     ensures ok { OnOk result (Looks K.kept sites.old sites.new) }
     ensures tells { IfOk result (λ answer. IfSome (sees K.kept sites.old server)
         (λ c. (name : List ℕ) → Tells table.now (Update name before.now after.now) answer c)) }
-    ensures fault { IfErr result (Breaks K.kept sites.old sites.new server) }
+    ensures fault { IfErr result (Breaks rules K.kept sites.old sites.new server) }
 {
     laws_of_reads();
     let old_key = key_of(alloc, &table.def, before)?;
@@ -281,7 +282,7 @@ pub fn change_applies<K: Keeper>(
     ensures ok { OnOk result (Looks K.kept sites.old sites.new) }
     ensures tells { IfOk result (λ answer. IfSome (sees K.kept sites.old server)
         (Tells table.now change.now answer)) }
-    ensures fault { IfErr result (Breaks K.kept sites.old sites.new server) }
+    ensures fault { IfErr result (Breaks rules K.kept sites.old sites.new server) }
 {
     match change {
         Change::Insert { row, .. } => insert_applies(sites, alloc, server, table, row),

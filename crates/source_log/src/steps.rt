@@ -4,10 +4,10 @@ ghost use Rattle.std.specs.Prelude.{◌≡◌, ◌<◌, true, None, length, OnOk
 ghost use Rattle.std.specs.List.{AllByRecursion};
 ghost use Rattle.row_codec.specs.LogRecords.{IsLogRecord};
 ghost use Rattle.site_store.specs.Views.{names, sees};
-ghost use Rattle.source_log.specs.Calls.{Looks, Breaks};
+ghost use Rattle.server_steps.specs.Calls.{Looks, Breaks};
 ghost use Rattle.source_log.specs.Fitting.{may_stand as may_stand_lem};
 ghost use Rattle.source_log.specs.Making.{StepCanBeMade, IsStepAt, AreSteps};
-ghost use Rattle.source_log.specs.Rules.{IsInFlight, IsLogged, HasTable, IsKeptChange};
+ghost use Rattle.source_log.specs.Rules.{rules, IsInFlight, IsLogged, HasTable, IsKeptChange};
 
 use crate::fitting::may_stand;
 use crate::laws::laws_of_changes;
@@ -38,7 +38,7 @@ fn stray<K: Keeper>(sites: &mut Sites<K>, alloc: Global, server: u32, tx: u32, p
     requires server { server < length (names sites.old) }
     requires stray { IfSome (sees K.kept sites.old server) (λ c. IsInFlight tx c pos
         × ((change : Change) → IsKeptChange tx c pos change → ⊥)) }
-    ensures { Breaks K.kept sites.old sites.new server result }
+    ensures { Breaks rules K.kept sites.old sites.new server result }
 {
     let key = InFlightKey { tx, pos };
     match sites.get::<InFlight>(alloc, server, Table0, &key) {
@@ -64,7 +64,7 @@ fn read_table<K: Keeper>(
     ensures table { IfOk result (λ table. IfSome (sees K.kept sites.old server)
         (λ c. HasTable c change.now table)) }
     ensures can { IfOk result (λ table. may_stand_lem table.def change.now ≡ true) }
-    ensures fault { IfErr result (Breaks K.kept sites.old sites.new server) }
+    ensures fault { IfErr result (Breaks rules K.kept sites.old sites.new server) }
 {
     let table = sites.get_needed::<DefinedTable>(alloc, server, Table0, table_of(change))?;
     let fit = may_stand(alloc, &table.def, change)?;
@@ -88,7 +88,7 @@ fn read_step<K: Keeper>(
     ensures step { IfOk result (λ step. IfSome (sees K.kept sites.old server)
         (λ c. IsStepAt tx c pos step)) }
     ensures can { IfOk result StepCanBeMade }
-    ensures fault { IfErr result (Breaks K.kept sites.old sites.new server) }
+    ensures fault { IfErr result (Breaks rules K.kept sites.old sites.new server) }
 {
     laws_of_changes();
     let logged = sites.get_needed::<LogRecord>(alloc, server, Table0, &pos)?;
@@ -114,7 +114,7 @@ pub fn read_steps<K: Keeper>(
     ensures steps { IfOk result (λ steps. IfSome (sees K.kept sites.old server)
         (AreSteps tx positions.now steps)) }
     ensures can { IfOk result (AllByRecursion StepCanBeMade) }
-    ensures fault { IfErr result (Breaks K.kept sites.old sites.new server) }
+    ensures fault { IfErr result (Breaks rules K.kept sites.old sites.new server) }
 {
     let mut steps = List::new(alloc);
     'positions: for pos in positions {

@@ -10,10 +10,10 @@ ghost use Rattle.row_codec.specs.Storable.{IsStorable};
 ghost use Rattle.repl_records.specs.SourceSide.{in_flight_spelling};
 ghost use Rattle.repl_model.specs.SoundLogs.{log_limit};
 ghost use Rattle.site_store.specs.Views.{names, work, IsOpenAt};
+ghost use Rattle.server_steps.specs.Calls.{GoesOn, Breaks, FailsToWrite};
 ghost use Rattle.log_rows.specs.LongerTables.{head_after as head_after_lem};
-ghost use Rattle.source_log.specs.Calls.{GoesOn, Breaks, FailsToWrite};
 ghost use Rattle.source_log.specs.Reading.{with_dropped};
-ghost use Rattle.source_log.specs.Rules.{flight_key};
+ghost use Rattle.source_log.specs.Rules.{rules, flight_key};
 ghost use Rattle.source_log.specs.Storing.{TakesRecord, HasRoom, IsCommit};
 
 use crate::fitting::may_stand;
@@ -124,7 +124,7 @@ fn take_change<K: Keeper>(
     ensures ok { IfOk result (λ outcome. GoesOn K.kept sites.old sites.new server
         (TakesRecord head.now logged.now outcome)) }
     ensures room { IfOk result (HasRoom head.now) }
-    ensures fault { IfErr result (Breaks K.kept sites.old sites.new server) }
+    ensures fault { IfErr result (Breaks rules K.kept sites.old sites.new server) }
 {
     laws_of_source();
     laws_of_logs();
@@ -158,7 +158,7 @@ fn take_abort<K: Keeper>(
     ensures ok { IfOk result (λ outcome. GoesOn K.kept sites.old sites.new server
         (TakesRecord head.now logged.now outcome)) }
     ensures room { IfOk result (HasRoom head.now) }
-    ensures fault { IfErr result (Breaks K.kept sites.old sites.new server) }
+    ensures fault { IfErr result (Breaks rules K.kept sites.old sites.new server) }
 {
     laws_of_source();
     laws_of_logs();
@@ -196,7 +196,7 @@ fn take_commit<K: Keeper>(
     ensures ok { IfOk result (λ outcome. GoesOn K.kept sites.old sites.new server
         (TakesRecord head.now logged.now outcome)) }
     ensures room { IfOk result (HasRoom head.now) }
-    ensures fault { IfErr result (Breaks K.kept sites.old sites.new server) }
+    ensures fault { IfErr result (Breaks rules K.kept sites.old sites.new server) }
 {
     laws_of_source();
     laws_of_logs();
@@ -236,7 +236,7 @@ pub fn take_record<K: Keeper>(
     ensures ok { IfOk result (λ outcome. GoesOn K.kept sites.old sites.new server
         (TakesRecord head.now logged.now outcome)) }
     ensures room { IfOk result (HasRoom head.now) }
-    ensures fault { IfErr result (Breaks K.kept sites.old sites.new server) }
+    ensures fault { IfErr result (Breaks rules K.kept sites.old sites.new server) }
 {
     match logged {
         LogRecord::Change { tx, change } => {

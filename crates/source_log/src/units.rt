@@ -8,7 +8,7 @@ ghost use Rattle.repl_model.specs.SoundLogs.{log_limit};
 ghost use Rattle.repl_model.specs.World.{Server};
 ghost use Rattle.keep_core.specs.Contents.{Contents};
 ghost use Rattle.site_store.specs.Views.{names, work, sees, IsOpenAt};
-ghost use Rattle.source_log.specs.Calls.{GoesOn, Stops, FailsToWrite};
+ghost use Rattle.server_steps.specs.Calls.{GoesOn, Stops, FailsToWrite};
 ghost use Rattle.source_log.specs.Units.{own_change, own_commit, MayBePut, MayAppendUnit};
 ghost use Rattle.source_log.specs.Units.{MakesOwn, PutsOwn, PutsChanges, PutsCommit};
 ghost use Rattle.source_log.specs.Units.{AppendsUnit, AppendsIfRoom, IsFullFor, FailsUnit};

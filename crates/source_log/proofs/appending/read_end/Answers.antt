@@ -6,19 +6,21 @@ use Rattle.row_codec.specs.Spelling.{Is64, b64}
 use Rattle.repl_records.specs.RecordKeys.{single_spelling}
 use Rattle.repl_records.specs.SourceSide.{head_spelling, IsHead}
 use Rattle.site_store.specs.Calls.{reads_of_one}
-use Rattle.source_log.proofs.Calls.{get_breaks, next_breaks, breaks_after, looks_then}
+use Rattle.server_steps.specs.laws.Damage.{get_breaks, next_breaks, breaks_after}
+use Rattle.server_steps.specs.laws.Reads.{looks_then}
+use Rattle.source_log.specs.Rules.{rules}
 use Rattle.source_log.proofs.Ends.{first_breaks, end_breaks}
 use Rattle.source_log.proofs.appending.read_end.Goals as goal
 
 pub returns-in_err-head-clause-fault : goal.returns-in_err-head-clause-fault
 returns-in_err-head-clause-fault g c =
     let p = err_from_is_err_and c.from_residual.result c.from_residual.ensures.1 in
-    rw (p.1, p.2) (first_breaks g.K.Keeper.kept c.args.sites.now c.get_state.new.self c.args.server c.in_err-head.field-0.0 (get_breaks g.K.Keeper.kept IsHead head_spelling c.args.sites.now c.get_state.new.self c.args.server areas.Head 0 (single_spelling (record {})) (reads_of_one 1 c.args.server areas.Head) c.in_err-head.field-0.0 (λ bytes h. h) c.in_err-head.ensures.fault))
+    rw (p.1, p.2) (first_breaks g.K.Keeper.kept c.args.sites.now c.get_state.new.self c.args.server c.in_err-head.field-0.0 (get_breaks rules g.K.Keeper.kept IsHead head_spelling c.args.sites.now c.get_state.new.self c.args.server areas.Head 0 (single_spelling (record {})) (reads_of_one 1 c.args.server areas.Head) c.in_err-head.field-0.0 (λ bytes h. h) c.in_err-head.ensures.fault))
 
 pub returns-in_err-next-clause-fault : goal.returns-in_err-next-clause-fault
 returns-in_err-next-clause-fault g c =
     let p = err_from_is_err_and c.from_residual-in_err-next.result c.from_residual-in_err-next.ensures.1 in
-    rw (p.1, p.2) (first_breaks g.K.Keeper.kept c.args.sites.now c.next.new.self c.args.server c.in_err-next.field-0.0 (breaks_after g.K.Keeper.kept c.args.sites.now c.get_state.new.self c.next.new.self c.args.server c.in_err-next.field-0.0 (record { most = reads_of_one 1 c.args.server areas.Head; stays = c.in_ok-head.ensures.ok.stays }) (next_breaks g.K.Keeper.kept Is64 b64 IsLogRecord log_spelling c.get_state.new.self c.next.new.self c.args.server areas.Log 0 (b64 c.in_ok-head.head.last) (reads_of_one 1 c.args.server areas.Log) c.in_err-next.field-0.0 (λ bytes h. h) (λ bytes h. h) c.in_err-next.ensures.fault)))
+    rw (p.1, p.2) (first_breaks g.K.Keeper.kept c.args.sites.now c.next.new.self c.args.server c.in_err-next.field-0.0 (breaks_after rules g.K.Keeper.kept c.args.sites.now c.get_state.new.self c.next.new.self c.args.server c.in_err-next.field-0.0 (record { most = reads_of_one 1 c.args.server areas.Head; stays = c.in_ok-head.ensures.ok.stays }) (next_breaks rules g.K.Keeper.kept Is64 b64 IsLogRecord log_spelling c.get_state.new.self c.next.new.self c.args.server areas.Log 0 (b64 c.in_ok-head.head.last) (reads_of_one 1 c.args.server areas.Log) c.in_err-next.field-0.0 (λ bytes h. h) (λ bytes h. h) c.in_err-next.ensures.fault)))
 
 pub returns-in_default-clause-ok : goal.returns-in_default-clause-ok
 returns-in_default-clause-ok g c = looks_then g.K.Keeper.kept c.args.sites.now c.get_state.new.self c.next.new.self (record { most = reads_of_one 1 c.args.server areas.Head; stays = c.in_ok-head.ensures.ok.stays }) (record { most = reads_of_one 1 c.args.server areas.Log; stays = c.in_ok-next.ensures.ok.stays })

@@ -2,9 +2,10 @@ use Rattle.std.proofs.lemmas.Result.{err_from_is_err_and}
 use Rattle.repl_types.specs.declared.area.Area.TheVariants as areas
 use Rattle.keep_core.specs.Contents.{IsLastKey}
 use Rattle.row_codec.specs.Spelling.{b64}
+use Rattle.server_steps.specs.laws.Damage.{breaks_after}
+use Rattle.server_steps.specs.laws.Steps.{saw_then}
 use Rattle.source_log.specs.Appending.{TakesFirst, TakesAll}
-use Rattle.source_log.specs.Rules.{EndIs}
-use Rattle.source_log.proofs.Calls.{saw_then, breaks_after}
+use Rattle.source_log.specs.Rules.{rules, EndIs}
 use Rattle.source_log.proofs.Ends.{first_breaks}
 use Rattle.source_log.proofs.appending.take_all.Goals as goal
 
@@ -15,7 +16,7 @@ returns-in_err-progress-clause-fault g c =
     let s2 = c.take_first.new.sites in
     let e = c.in_err-progress.field-0.0 in
     let p = err_from_is_err_and c.from_residual-in_err-progress.result c.from_residual-in_err-progress.ensures.1 in
-    rw (p.1, p.2) (first_breaks kept s0 s2 c.args.server e (breaks_after kept s0 c.read_end.new.sites s2 c.args.server e c.in_ok-head.ensures.ok c.in_err-progress.ensures.fault))
+    rw (p.1, p.2) (first_breaks kept s0 s2 c.args.server e (breaks_after rules kept s0 c.read_end.new.sites s2 c.args.server e c.in_ok-head.ensures.ok c.in_err-progress.ensures.fault))
 
 pub returns-clause-ok : goal.returns-clause-ok
 returns-clause-ok g c =

@@ -5,13 +5,16 @@ use Rattle.keep_core.specs.Contents.{Contents, IsLastKey}
 use Rattle.row_codec.specs.LogRecords.{IsLogRecord}
 use Rattle.row_codec.specs.Spelling.{b64}
 use Rattle.repl_records.specs.declared.source_side.Head.{Head}
+use Rattle.server_steps.specs.Calls.{GoesOn}
+use Rattle.server_steps.specs.laws.Damage.{breaks_on}
+use Rattle.server_steps.specs.laws.Reads.{looks_none}
+use Rattle.server_steps.specs.laws.Steps.{goes_saw, goes_as, goes_then, goes_open}
 use Rattle.stored_defs.specs.laws.Standing.{all_at_place}
-use Rattle.source_log.specs.Calls.{GoesOn}
 use Rattle.source_log.specs.Appending.{TakesFirst}
+use Rattle.source_log.specs.Rules.{rules}
 use Rattle.source_log.specs.Storing.{MayAppend, TakesRecord}
 use Rattle.source_log.specs.declared.outcome.Outcome.{Outcome}
 use Rattle.source_log.specs.declared.outcome.Outcome.TheVariants as outcomes
-use Rattle.source_log.proofs.Calls.{goes_saw, goes_as, goes_then, goes_open, looks_none, breaks_on}
 use Rattle.source_log.proofs.Extending.{extended_shown}
 use Rattle.source_log.proofs.TakenFirst.{TookSome, took_none, took_more, took_first, took_all}
 use Rattle.source_log.proofs.appending.take_first.Goals as goal
@@ -39,7 +42,7 @@ returns-in_err-outcome-clause-fault g c =
     let end = c.records.end in
     let P = λ (d e : Contents). IsLastKey (d areas.Log 0) (b64 head.last) × TookSome head records n end d e in
     let p = err_from_is_err_and c.from_residual.result c.from_residual.ensures.1 in
-    rw (p.1, p.2) (breaks_on g.K.Keeper.kept c.args.sites.now c.records.sites c.take_record.new.sites c.args.server P c.in_err-outcome.field-0.0 c.requires.open (λ d e took. extended_shown d e (took.1.extends took.0)) c.records.invariant c.in_err-outcome.ensures.fault)
+    rw (p.1, p.2) (breaks_on rules g.K.Keeper.kept c.args.sites.now c.records.sites c.take_record.new.sites c.args.server P c.in_err-outcome.field-0.0 c.requires.open (λ d e took. extended_shown d e (took.1.extends took.0)) c.records.invariant c.in_err-outcome.ensures.fault)
 
 pub returns-in_default-clause-ok : goal.returns-in_default-clause-ok
 returns-in_default-clause-ok g c =

@@ -3,9 +3,10 @@ use Rattle.std.proofs.lemmas.Result.{err_from_is_err_and}
 use Rattle.repl_types.specs.declared.area.Area.TheVariants as areas
 use Rattle.site_store.specs.Works.{Sets}
 use Rattle.site_store.specs.Calls.{writes_of_one}
+use Rattle.server_steps.specs.laws.Faults.{put_fails, write_fails_on}
+use Rattle.server_steps.specs.laws.Steps.{goes_none, goes_as, goes_put, goes_then}
 use Rattle.source_log.specs.Reading.{with_dropped}
 use Rattle.source_log.specs.Rules.{flight_key}
-use Rattle.source_log.proofs.Calls.{goes_none, goes_as, goes_put, goes_then, put_fails, write_fails_on}
 use Rattle.source_log.proofs.Drops.{dropped_next, take_whole}
 use Rattle.source_log.proofs.in_flight.drop_changes.Goals as goal
 

@@ -9,10 +9,10 @@ use Rattle.repl_records.specs.RecordKeys.{in_flight_key_spelling, IsInFlightKey}
 use Rattle.repl_records.specs.SourceSide.{in_flight_spelling}
 use Rattle.site_store.specs.Calls.{reads_of_one}
 use Rattle.site_store.specs.Views.{sees}
+use Rattle.server_steps.specs.laws.Damage.{next_breaks}
 use Rattle.stored_defs.specs.laws.Passing.{if_seen}
 use Rattle.source_log.specs.Reading.{IsNextPosition}
-use Rattle.source_log.specs.Rules.{flight_key}
-use Rattle.source_log.proofs.Calls.{next_breaks}
+use Rattle.source_log.specs.Rules.{rules, flight_key}
 use Rattle.source_log.proofs.Flights.{none_last, none_past, next_at, position_above}
 use Rattle.source_log.proofs.in_flight.next_position.Goals as goal
 
@@ -22,7 +22,7 @@ differ a b ne = grind (arith, nat_tests)
 pub returns-in_err-key-clause-fault : goal.returns-in_err-key-clause-fault
 returns-in_err-key-clause-fault g c =
     let p = err_from_is_err_and c.from_residual.result c.from_residual.ensures.1 in
-    rw (p.1, p.2) (next_breaks g.K.Keeper.kept IsInFlightKey in_flight_key_spelling Any in_flight_spelling c.args.sites.now c.next.new.self c.args.server areas.Inflight 0 (flight_key c.args.tx c.args.after) (reads_of_one 1 c.args.server areas.Inflight) c.in_err-key.field-0.0 (λ bytes h. h) (λ bytes h. h) c.in_err-key.ensures.fault)
+    rw (p.1, p.2) (next_breaks rules g.K.Keeper.kept IsInFlightKey in_flight_key_spelling Any in_flight_spelling c.args.sites.now c.next.new.self c.args.server areas.Inflight 0 (flight_key c.args.tx c.args.after) (reads_of_one 1 c.args.server areas.Inflight) c.in_err-key.field-0.0 (λ bytes h. h) (λ bytes h. h) c.in_err-key.ensures.fault)
 
 pub returns-in_default-clause-next : goal.returns-in_default-clause-next
 returns-in_default-clause-next g c = if_seen (sees g.K.Keeper.kept c.args.sites.now c.args.server) (λ d. IsLastKey (d areas.Inflight 0) (flight_key c.args.tx c.args.after)) (IsNextPosition c.args.tx c.args.after None) (λ d last. none_last c.laws_of_transactions.ensures.prefix c.args.tx c.args.after d (omega arith) last) (rw c.in_default.is at c.in_ok-key.ensures.row)

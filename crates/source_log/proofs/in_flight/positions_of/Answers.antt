@@ -2,9 +2,11 @@ use Rattle.std.proofs.Common.{ℕ, List, sym, subst, arith}
 use Rattle.std.specs.Prelude.{Some, None}
 use Rattle.std.proofs.lemmas.Result.{err_from_is_err_and}
 use Rattle.site_store.specs.Views.{sees}
+use Rattle.server_steps.specs.laws.Damage.{breaks_after, memory_after}
+use Rattle.server_steps.specs.laws.Reads.{looks_none, looks_then, sees_back}
 use Rattle.stored_defs.specs.laws.Passing.{if_seen, if_both_seen, any_seen}
 use Rattle.source_log.specs.Reading.{IsNextPosition, ArePositions}
-use Rattle.source_log.proofs.Calls.{looks_none, looks_then, sees_back, breaks_after, memory_after}
+use Rattle.source_log.specs.Rules.{rules}
 use Rattle.source_log.proofs.Flights.{SoFar, none_yet, one_more, all_found}
 use Rattle.source_log.proofs.in_flight.positions_of.Goals as goal
 
@@ -17,12 +19,12 @@ loop-positions-init g c = record {
 pub returns-in_err-pos-clause-fault : goal.returns-in_err-pos-clause-fault
 returns-in_err-pos-clause-fault g c =
     let p = err_from_is_err_and c.from_residual.result c.from_residual.ensures.1 in
-    rw (p.1, p.2) (breaks_after g.K.Keeper.kept c.args.sites.now c.loop-positions.sites c.next_position.new.sites c.args.server c.in_err-pos.field-0.0 c.loop-positions.invariant.looks c.in_err-pos.ensures.fault)
+    rw (p.1, p.2) (breaks_after rules g.K.Keeper.kept c.args.sites.now c.loop-positions.sites c.next_position.new.sites c.args.server c.in_err-pos.field-0.0 c.loop-positions.invariant.looks c.in_err-pos.ensures.fault)
 
 pub returns-in_err-push-clause-fault : goal.returns-in_err-push-clause-fault
 returns-in_err-push-clause-fault g c =
     let p = err_from_is_err_and c.from_residual-in_err-push.result c.from_residual-in_err-push.ensures.1 in
-    rw (p.1, p.2) (memory_after g.K.Keeper.kept c.args.sites.now c.next_position.new.sites c.args.server (looks_then g.K.Keeper.kept c.args.sites.now c.loop-positions.sites c.next_position.new.sites c.loop-positions.invariant.looks c.in_ok-pos.ensures.ok))
+    rw (p.1, p.2) (memory_after rules g.K.Keeper.kept c.args.sites.now c.next_position.new.sites c.args.server (looks_then g.K.Keeper.kept c.args.sites.now c.loop-positions.sites c.next_position.new.sites c.loop-positions.invariant.looks c.in_ok-pos.ensures.ok))
 
 pub returns-in_default-clause-ok : goal.returns-in_default-clause-ok
 returns-in_default-clause-ok g c = looks_then g.K.Keeper.kept c.args.sites.now c.loop-positions.sites c.next_position.new.sites c.loop-positions.invariant.looks c.in_ok-pos.ensures.ok

@@ -1,16 +1,18 @@
 use Rattle.std.proofs.Common.{◌≡◌, ◌≤◌, List, length, take, ◌∙◌, ap, sym, arith}
 use Rattle.std.proofs.lemmas.Result.{err_from_is_err_and}
+use Rattle.server_steps.specs.laws.Damage.{write_breaks_on}
+use Rattle.server_steps.specs.laws.Steps.{goes_as, goes_then}
 use Rattle.source_log.specs.Making.{MakesFirst, MakesAll, all_made, all_unmade}
+use Rattle.source_log.specs.Rules.{rules}
 use Rattle.source_log.specs.declared.step.Step.{Step}
 use Rattle.source_log.specs.declared.outcome.Outcome.TheVariants as outcomes
-use Rattle.source_log.proofs.Calls.{goes_as, goes_then, write_breaks_on}
 use Rattle.source_log.proofs.Drops.{take_whole}
 use Rattle.source_log.proofs.making.make_all.Goals as goal
 
 pub returns-in_err-unmake_all-clause-fault : goal.returns-in_err-unmake_all-clause-fault
 returns-in_err-unmake_all-clause-fault g c =
     let p = err_from_is_err_and c.from_residual-in_err-unmake_all.result c.from_residual-in_err-unmake_all.ensures.1 in
-    rw (p.1, p.2) (write_breaks_on g.K.Keeper.kept c.args.sites.now c.make_first.new.sites c.unmake_all.new.sites c.args.server (MakesFirst c.args.steps.now c.in_ok-made.made) c.in_err-unmake_all.field-0.0 c.in_ok-made.ensures.ok c.in_err-unmake_all.ensures.fault)
+    rw (p.1, p.2) (write_breaks_on rules g.K.Keeper.kept c.args.sites.now c.make_first.new.sites c.unmake_all.new.sites c.args.server (MakesFirst c.args.steps.now c.in_ok-made.made) c.in_err-unmake_all.field-0.0 c.in_ok-made.ensures.ok c.in_err-unmake_all.ensures.fault)
 
 pub returns-then-made-steps-clause-ok : goal.returns-then-made-steps-clause-ok
 returns-then-made-steps-clause-ok g c =
@@ -21,7 +23,7 @@ returns-then-made-steps-clause-ok g c =
 pub returns-in_err-unmake_all-2-clause-fault : goal.returns-in_err-unmake_all-2-clause-fault
 returns-in_err-unmake_all-2-clause-fault g c =
     let p = err_from_is_err_and c.from_residual-in_err-unmake_all-2.result c.from_residual-in_err-unmake_all-2.ensures.1 in
-    rw (p.1, p.2) (write_breaks_on g.K.Keeper.kept c.args.sites.now c.make_first.new.sites c.unmake_all-then-not-has_room.new.sites c.args.server (MakesFirst c.args.steps.now c.in_ok-made.made) c.in_err-unmake_all-2.field-0.0 c.in_ok-made.ensures.ok c.in_err-unmake_all-2.ensures.fault)
+    rw (p.1, p.2) (write_breaks_on rules g.K.Keeper.kept c.args.sites.now c.make_first.new.sites c.unmake_all-then-not-has_room.new.sites c.args.server (MakesFirst c.args.steps.now c.in_ok-made.made) c.in_err-unmake_all-2.field-0.0 c.in_ok-made.ensures.ok c.in_err-unmake_all-2.ensures.fault)
 
 pub returns-then-not-has_room-clause-ok : goal.returns-then-not-has_room-clause-ok
 returns-then-not-has_room-clause-ok g c =

@@ -1,8 +1,10 @@
 use Rattle.std.proofs.Common.{◌+◌, Bool, length, sym, subst}
 use Rattle.std.proofs.lemmas.Result.{err_from_is_err_and}
+use Rattle.server_steps.specs.laws.Damage.{breaks_on}
+use Rattle.server_steps.specs.laws.Steps.{goes_none, goes_as, goes_then}
 use Rattle.stored_defs.specs.laws.Standing.{all_at_place}
 use Rattle.source_log.specs.Making.{StepCanBeMade, MakesOne, MakesFirst}
-use Rattle.source_log.proofs.Calls.{goes_none, goes_as, goes_then, breaks_on}
+use Rattle.source_log.specs.Rules.{rules}
 use Rattle.source_log.proofs.Turns.{MadeFirst, first_none, first_next, first_stops, first_all, made_shown}
 use Rattle.source_log.proofs.making.make_first.Goals as goal
 
@@ -15,7 +17,7 @@ make_one-requires-clause-can g c = subst StepCanBeMade (sym c.index-steps-made.i
 pub returns-in_err-applies-clause-fault : goal.returns-in_err-applies-clause-fault
 returns-in_err-applies-clause-fault g c =
     let p = err_from_is_err_and c.from_residual.result c.from_residual.ensures.1 in
-    rw (p.1, p.2) (breaks_on g.K.Keeper.kept c.args.sites.now c.steps.sites c.make_one.new.sites c.args.server (MadeFirst c.args.steps.now c.steps.made) c.in_err-applies.field-0.0 c.requires.open (λ d e made. made_shown c.args.steps.now c.steps.made d e c.requires.can made) c.steps.invariant c.in_err-applies.ensures.fault)
+    rw (p.1, p.2) (breaks_on rules g.K.Keeper.kept c.args.sites.now c.steps.sites c.make_one.new.sites c.args.server (MadeFirst c.args.steps.now c.steps.made) c.in_err-applies.field-0.0 c.requires.open (λ d e made. made_shown c.args.steps.now c.steps.made d e c.requires.can made) c.steps.invariant c.in_err-applies.ensures.fault)
 
 pub returns-then-not-applies-clause-ok : goal.returns-then-not-applies-clause-ok
 returns-then-not-applies-clause-ok g c =

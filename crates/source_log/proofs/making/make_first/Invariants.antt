@@ -1,4 +1,4 @@
-use Rattle.source_log.specs.Calls.{GoesOn}
+use Rattle.server_steps.specs.Calls.{GoesOn}
 use Rattle.source_log.proofs.Turns.{MadeFirst}
 use Rattle.source_log.proofs.making.make_first.Given as goal
 

@@ -1,7 +1,9 @@
 use Rattle.std.proofs.Common.{◌≡◌, Bool, true, false, subst, refl}
 use Rattle.std.proofs.lemmas.Result.{err_from_is_err_and}
+use Rattle.server_steps.specs.laws.Damage.{write_breaks_after}
+use Rattle.server_steps.specs.laws.Steps.{goes_saw, saw_then}
 use Rattle.source_log.specs.Making.{Tells, MakesOne, with_made}
-use Rattle.source_log.proofs.Calls.{goes_saw, saw_then, write_breaks_after}
+use Rattle.source_log.specs.Rules.{rules}
 use Rattle.source_log.proofs.making.make_one.Goals as goal
 
 pub returns-then-not-applies-clause-ok : goal.returns-then-not-applies-clause-ok
@@ -12,7 +14,7 @@ returns-then-not-applies-clause-ok g c =
 pub returns-in_err-make_change-clause-fault : goal.returns-in_err-make_change-clause-fault
 returns-in_err-make_change-clause-fault g c =
     let p = err_from_is_err_and c.from_residual-in_err-make_change.result c.from_residual-in_err-make_change.ensures.1 in
-    rw (p.1, p.2) (write_breaks_after g.K.Keeper.kept c.args.sites.now c.change_applies.new.sites c.make_change.new.sites c.args.server c.in_err-make_change.field-0.0 c.in_ok-applies.ensures.ok c.in_err-make_change.ensures.fault)
+    rw (p.1, p.2) (write_breaks_after rules g.K.Keeper.kept c.args.sites.now c.change_applies.new.sites c.make_change.new.sites c.args.server c.in_err-make_change.field-0.0 c.in_ok-applies.ensures.ok c.in_err-make_change.ensures.fault)
 
 pub returns-clause-ok : goal.returns-clause-ok
 returns-clause-ok g c =

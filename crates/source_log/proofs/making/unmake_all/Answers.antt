@@ -1,10 +1,11 @@
 use Rattle.std.proofs.Common.{◌≡◌, ◌<◌, ◌-◌, ◌+◌, ℕ, List, length, take, sym, ap, subst, ◌∙◌, arith}
 use Rattle.std.proofs.lemmas.Result.{err_from_is_err_and}
 use Rattle.repl_model.specs.Tables.{inverse}
+use Rattle.server_steps.specs.laws.Faults.{write_fails_on}
+use Rattle.server_steps.specs.laws.Steps.{goes_none, goes_as, goes_then}
 use Rattle.stored_defs.specs.laws.Standing.{all_at_place}
 use Rattle.source_log.specs.Making.{StepCanBeMade, all_unmade, with_made}
 use Rattle.source_log.specs.declared.step.Step.{Step}
-use Rattle.source_log.proofs.Calls.{goes_none, goes_as, goes_then, write_fails_on}
 use Rattle.source_log.proofs.Drops.{take_whole}
 use Rattle.source_log.proofs.Turns.{unmade_next}
 use Rattle.source_log.proofs.making.unmake_all.Goals as goal

@@ -3,11 +3,13 @@ use Rattle.std.proofs.lemmas.Result.{err_from_is_err_and}
 use Rattle.repl_types.specs.declared.record.Change.TheVariants.{Update}
 use Rattle.site_store.specs.Damage.{Damages}
 use Rattle.site_store.specs.Views.{sees}
+use Rattle.server_steps.specs.laws.Damage.{breaks_after}
+use Rattle.server_steps.specs.laws.Faults.{no_memory}
+use Rattle.server_steps.specs.laws.Reads.{looks_then, sees_back}
 use Rattle.stored_defs.specs.laws.Passing.{if_seen, if_both_seen}
 use Rattle.source_log.specs.Making.{Tells}
 use Rattle.source_log.specs.Reading.{FindsRow, HasFreeKey}
 use Rattle.source_log.specs.Rules.{rules}
-use Rattle.source_log.proofs.Calls.{no_memory, looks_then, sees_back, breaks_after}
 use Rattle.source_log.proofs.Decides.{update_tells, update_tells_none}
 use Rattle.source_log.proofs.source.update_applies.Goals as goal
 
@@ -19,7 +21,7 @@ returns-in_err-old_key-clause-fault g c =
 pub returns-in_err-free-clause-fault : goal.returns-in_err-free-clause-fault
 returns-in_err-free-clause-fault g c =
     let p = err_from_is_err_and c.from_residual-in_err-free.result c.from_residual-in_err-free.ensures.1 in
-    rw (p.1, p.2) (breaks_after g.K.Keeper.kept c.args.sites.now c.find_row.new.sites c.key_is_free.new.sites c.args.server c.in_err-free.field-0.0 c.in_ok-found.ensures.ok c.in_err-free.ensures.fault)
+    rw (p.1, p.2) (breaks_after rules g.K.Keeper.kept c.args.sites.now c.find_row.new.sites c.key_is_free.new.sites c.args.server c.in_err-free.field-0.0 c.in_ok-found.ensures.ok c.in_err-free.ensures.fault)
 
 pub returns-then-not-is_row-clause-tells : goal.returns-then-not-is_row-clause-tells
 returns-then-not-is_row-clause-tells g c = if_seen (sees g.K.Keeper.kept c.args.sites.now c.args.server) (FindsRow c.args.table.now.number c.in_ok-old_key.old_key c.in_ok-found.found) (λ d. (name : List ℕ) → Tells c.args.table.now (Update name c.args.before.now c.args.after.now) false d) (λ d f. update_tells_none c.laws_of_reads.ensures.insert c.laws_of_reads.ensures.delete c.args.table.now c.args.before.now c.args.after.now c.in_ok-old_key.old_key c.in_ok-found.found d c.requires.values c.requires.after c.in_ok-old_key.ensures f (sym c.is_row.ensures ∙ c.if-not-is_row.true)) c.in_ok-found.ensures.row

@@ -11,18 +11,19 @@ use Rattle.row_codec.specs.Spelling.{b64}
 use Rattle.site_store.specs.Calls.{reads_of_one}
 use Rattle.site_store.specs.Records.{RowIs}
 use Rattle.site_store.specs.Views.{sees}
+use Rattle.server_steps.specs.laws.Damage.{needed_breaks, breaks_after}
+use Rattle.server_steps.specs.laws.Reads.{sees_on, sees_back, looks_then}
 use Rattle.stored_defs.specs.laws.Passing.{if_seen, if_both_seen}
 use Rattle.source_log.specs.Making.{IsStepAt}
 use Rattle.source_log.specs.Rules.{rules, IsInFlight, IsLogged, HasTable}
-use Rattle.source_log.proofs.Calls.{breaks_after, sees_on, sees_back, looks_then}
-use Rattle.source_log.proofs.Strays.{needed_breaks, other_record, IsStray}
+use Rattle.source_log.proofs.Strays.{other_record, IsStray}
 use Rattle.source_log.proofs.steps.read_step.Goals as goal
 
 pub returns-in_err-logged-clause-fault : goal.returns-in_err-logged-clause-fault
 returns-in_err-logged-clause-fault g c =
     let p = err_from_is_err_and c.from_residual.result c.from_residual.ensures.1 in
     let key = b64 c.args.pos in
-    rw (p.1, p.2) (needed_breaks g.K.Keeper.kept IsLogRecord log_spelling c.args.sites.now c.get_needed.new.self c.args.server areas.Log 0 key (reads_of_one 1 c.args.server areas.Log) c.in_err-logged.field-0.0 (λ bytes h. h) (if_seen (sees g.K.Keeper.kept c.args.sites.now c.args.server) (λ d. IsInFlight c.args.tx d c.args.pos) (rules.is_needed areas.Log 0 key) (λ d h. (c.args.tx, c.args.pos, refl, h)) c.requires.in_flight) c.in_err-logged.ensures.fault)
+    rw (p.1, p.2) (needed_breaks rules g.K.Keeper.kept IsLogRecord log_spelling c.args.sites.now c.get_needed.new.self c.args.server areas.Log 0 key (reads_of_one 1 c.args.server areas.Log) c.in_err-logged.field-0.0 (λ bytes h. h) (if_seen (sees g.K.Keeper.kept c.args.sites.now c.args.server) (λ d. IsInFlight c.args.tx d c.args.pos) (rules.is_needed areas.Log 0 key) (λ d h. (c.args.tx, c.args.pos, refl, h)) c.requires.in_flight) c.in_err-logged.ensures.fault)
 
 pub stray-requires-clause-stray : goal.stray-requires-clause-stray
 stray-requires-clause-stray g c =
@@ -32,7 +33,7 @@ stray-requires-clause-stray g c =
     sees_on kept s0 c.get_needed.new.self c.args.server (IsStray c.args.tx c.args.pos) (record { most = reads_of_one 1 c.args.server areas.Log; stays = c.in_ok-logged.ensures.ok.stays }) (if_both_seen (sees kept s0 c.args.server) (λ d. IsInFlight c.args.tx d c.args.pos) (RowIs log_spelling areas.Log 0 (b64 c.args.pos) (Some logged)) (IsStray c.args.tx c.args.pos) (λ d h row. other_record c.args.tx c.args.pos logged d h c.in_ok-logged.ensures.fits.fits (c.change_of.ensures.none c.in_default.is) row) c.requires.in_flight c.in_ok-logged.ensures.row)
 
 pub returns-in_default-clause-fault : goal.returns-in_default-clause-fault
-returns-in_default-clause-fault g c = breaks_after g.K.Keeper.kept c.args.sites.now c.get_needed.new.self c.stray.new.sites c.args.server c.stray.result (record { most = reads_of_one 1 c.args.server areas.Log; stays = c.in_ok-logged.ensures.ok.stays }) c.stray.ensures
+returns-in_default-clause-fault g c = breaks_after rules g.K.Keeper.kept c.args.sites.now c.get_needed.new.self c.stray.new.sites c.args.server c.stray.result (record { most = reads_of_one 1 c.args.server areas.Log; stays = c.in_ok-logged.ensures.ok.stays }) c.stray.ensures
 
 pub read_table-requires-clause-in_flight : goal.read_table-requires-clause-in_flight
 read_table-requires-clause-in_flight g c =
@@ -52,7 +53,7 @@ read_table-requires-clause-typed g c =
 pub returns-in_err-table-clause-fault : goal.returns-in_err-table-clause-fault
 returns-in_err-table-clause-fault g c =
     let p = err_from_is_err_and c.from_residual-in_err-table.result c.from_residual-in_err-table.ensures.1 in
-    rw (p.1, p.2) (breaks_after g.K.Keeper.kept c.args.sites.now c.get_needed.new.self c.read_table.new.sites c.args.server c.in_err-table.field-0.0 (record { most = reads_of_one 1 c.args.server areas.Log; stays = c.in_ok-logged.ensures.ok.stays }) c.in_err-table.ensures.fault)
+    rw (p.1, p.2) (breaks_after rules g.K.Keeper.kept c.args.sites.now c.get_needed.new.self c.read_table.new.sites c.args.server c.in_err-table.field-0.0 (record { most = reads_of_one 1 c.args.server areas.Log; stays = c.in_ok-logged.ensures.ok.stays }) c.in_err-table.ensures.fault)
 
 pub returns-clause-ok : goal.returns-clause-ok
 returns-clause-ok g c = looks_then g.K.Keeper.kept c.args.sites.now c.get_needed.new.self c.read_table.new.sites (record { most = reads_of_one 1 c.args.server areas.Log; stays = c.in_ok-logged.ensures.ok.stays }) c.in_ok-table.ensures.ok

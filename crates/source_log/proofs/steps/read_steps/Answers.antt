@@ -7,12 +7,13 @@ use Rattle.repl_types.specs.laws.Lists.{all_append}
 use Rattle.keep_core.specs.Contents.{Contents}
 use Rattle.load_worlds.specs.laws.Members.{beside_more}
 use Rattle.site_store.specs.Views.{sees}
+use Rattle.server_steps.specs.laws.Damage.{breaks_after, memory_after}
+use Rattle.server_steps.specs.laws.Reads.{looks_none, looks_then, sees_on, sees_back}
 use Rattle.stored_defs.specs.laws.Passing.{if_seen, if_both_seen, any_seen}
 use Rattle.stored_defs.specs.laws.Standing.{all_at_place}
 use Rattle.source_log.specs.Making.{StepCanBeMade, AreSteps, IsStepAt}
-use Rattle.source_log.specs.Rules.{IsInFlight}
+use Rattle.source_log.specs.Rules.{rules, IsInFlight}
 use Rattle.source_log.specs.declared.step.Step.{Step}
-use Rattle.source_log.proofs.Calls.{looks_none, looks_then, sees_on, sees_back, breaks_after, memory_after}
 use Rattle.source_log.proofs.Drops.{take_whole}
 use Rattle.source_log.proofs.steps.read_steps.Goals as goal
 
@@ -34,12 +35,12 @@ read_step-requires-clause-in_flight g c =
 pub returns-in_err-read_step-clause-fault : goal.returns-in_err-read_step-clause-fault
 returns-in_err-read_step-clause-fault g c =
     let p = err_from_is_err_and c.from_residual.result c.from_residual.ensures.1 in
-    rw (p.1, p.2) (breaks_after g.K.Keeper.kept c.args.sites.now c.positions.sites c.read_step.new.sites c.args.server c.in_err-read_step.field-0.0 c.positions.invariant.looks c.in_err-read_step.ensures.fault)
+    rw (p.1, p.2) (breaks_after rules g.K.Keeper.kept c.args.sites.now c.positions.sites c.read_step.new.sites c.args.server c.in_err-read_step.field-0.0 c.positions.invariant.looks c.in_err-read_step.ensures.fault)
 
 pub returns-in_err-push-clause-fault : goal.returns-in_err-push-clause-fault
 returns-in_err-push-clause-fault g c =
     let p = err_from_is_err_and c.from_residual-in_err-push.result c.from_residual-in_err-push.ensures.1 in
-    rw (p.1, p.2) (memory_after g.K.Keeper.kept c.args.sites.now c.read_step.new.sites c.args.server (looks_then g.K.Keeper.kept c.args.sites.now c.positions.sites c.read_step.new.sites c.positions.invariant.looks c.in_ok-read_step.ensures.ok))
+    rw (p.1, p.2) (memory_after rules g.K.Keeper.kept c.args.sites.now c.read_step.new.sites c.args.server (looks_then g.K.Keeper.kept c.args.sites.now c.positions.sites c.read_step.new.sites c.positions.invariant.looks c.in_ok-read_step.ensures.ok))
 
 pub positions-preserved : goal.positions-preserved
 positions-preserved g c =

@@ -6,10 +6,11 @@ use Rattle.repl_definitions.specs.Defined.{defined_table_spelling, IsDefinedTabl
 use Rattle.site_store.specs.Calls.{reads_of_one}
 use Rattle.site_store.specs.Records.{RowIs}
 use Rattle.site_store.specs.Views.{sees}
+use Rattle.server_steps.specs.laws.Damage.{needed_breaks, breaks_after}
+use Rattle.server_steps.specs.laws.Reads.{sees_on}
 use Rattle.stored_defs.specs.laws.Passing.{if_seen, if_both_seen}
 use Rattle.source_log.specs.Rules.{rules, IsInFlight, IsLogged}
-use Rattle.source_log.proofs.Calls.{breaks_after, sees_on}
-use Rattle.source_log.proofs.Strays.{needed_breaks, other_table, IsStray}
+use Rattle.source_log.proofs.Strays.{other_table, IsStray}
 use Rattle.source_log.proofs.steps.read_table.Goals as goal
 
 pub returns-in_err-table-clause-fault : goal.returns-in_err-table-clause-fault
@@ -17,7 +18,7 @@ returns-in_err-table-clause-fault g c =
     let p = err_from_is_err_and c.from_residual.result c.from_residual.ensures.1 in
     let key = short_text c.table_of.result.now in
     let change = c.args.change.now in
-    rw (p.1, p.2) (needed_breaks g.K.Keeper.kept IsDefinedTable defined_table_spelling c.args.sites.now c.get_needed.new.self c.args.server areas.Defs 0 key (reads_of_one 1 c.args.server areas.Defs) c.in_err-table.field-0.0 (λ bytes h. h) (if_seen (sees g.K.Keeper.kept c.args.sites.now c.args.server) (λ d. IsInFlight c.args.tx d c.args.pos × IsLogged c.args.tx d c.args.pos change) (rules.is_needed areas.Defs 0 key) (λ d h. (c.args.tx, c.args.pos, change, ap short_text c.table_of.ensures, h.0, c.requires.typed, h.1)) c.requires.in_flight) c.in_err-table.ensures.fault)
+    rw (p.1, p.2) (needed_breaks rules g.K.Keeper.kept IsDefinedTable defined_table_spelling c.args.sites.now c.get_needed.new.self c.args.server areas.Defs 0 key (reads_of_one 1 c.args.server areas.Defs) c.in_err-table.field-0.0 (λ bytes h. h) (if_seen (sees g.K.Keeper.kept c.args.sites.now c.args.server) (λ d. IsInFlight c.args.tx d c.args.pos × IsLogged c.args.tx d c.args.pos change) (rules.is_needed areas.Defs 0 key) (λ d h. (c.args.tx, c.args.pos, change, ap short_text c.table_of.ensures, h.0, c.requires.typed, h.1)) c.requires.in_flight) c.in_err-table.ensures.fault)
 
 pub stray-requires-clause-stray : goal.stray-requires-clause-stray
 stray-requires-clause-stray g c =
@@ -29,4 +30,4 @@ stray-requires-clause-stray g c =
     sees_on kept s0 c.get_needed.new.self c.args.server (IsStray c.args.tx c.args.pos) (record { most = reads_of_one 1 c.args.server areas.Defs; stays = c.in_ok-table.ensures.ok.stays }) (if_both_seen (sees kept s0 c.args.server) (λ d. IsInFlight c.args.tx d c.args.pos × IsLogged c.args.tx d c.args.pos change) (RowIs defined_table_spelling areas.Defs 0 key (Some table)) (IsStray c.args.tx c.args.pos) (λ d h row. other_table c.args.tx c.args.pos change table d h.0 c.requires.typed h.1 (ap (λ (name : List ℕ). d areas.Defs 0 (short_text name)) (sym c.table_of.ensures) ∙ row) c.in_ok-table.ensures.fits.fits (sym c.in_ok-fit.ensures ∙ c.if-not-fit.true)) c.requires.in_flight c.in_ok-table.ensures.row)
 
 pub returns-then-not-fit-clause-fault : goal.returns-then-not-fit-clause-fault
-returns-then-not-fit-clause-fault g c = breaks_after g.K.Keeper.kept c.args.sites.now c.get_needed.new.self c.stray.new.sites c.args.server c.stray.result (record { most = reads_of_one 1 c.args.server areas.Defs; stays = c.in_ok-table.ensures.ok.stays }) c.stray.ensures
+returns-then-not-fit-clause-fault g c = breaks_after rules g.K.Keeper.kept c.args.sites.now c.get_needed.new.self c.stray.new.sites c.args.server c.stray.result (record { most = reads_of_one 1 c.args.server areas.Defs; stays = c.in_ok-table.ensures.ok.stays }) c.stray.ensures

@@ -6,8 +6,9 @@ use Rattle.row_codec.specs.LogRecords.{log_spelling}
 use Rattle.row_codec.specs.Spelling.{b64}
 use Rattle.site_store.specs.Works.{Sets}
 use Rattle.site_store.specs.Calls.{writes_of_one}
+use Rattle.server_steps.specs.laws.Faults.{put_fails, write_fails_on}
+use Rattle.server_steps.specs.laws.Steps.{goes_put, goes_then}
 use Rattle.source_log.specs.Reading.{with_dropped}
-use Rattle.source_log.proofs.Calls.{goes_put, goes_then, put_fails, write_fails_on}
 use Rattle.source_log.proofs.taking.put_end.Goals as goal
 
 pub returns-in_err-put-clause-fault : goal.returns-in_err-put-clause-fault

@@ -8,11 +8,13 @@ use Rattle.keep_core.specs.Contents.{put_at}
 use Rattle.row_codec.specs.LogRecords.{IsLogRecord, log_spelling}
 use Rattle.row_codec.specs.Spelling.{b64}
 use Rattle.repl_model.specs.SoundLogs.{log_limit}
-use Rattle.source_log.specs.Calls.{GoesOn}
+use Rattle.server_steps.specs.Calls.{GoesOn}
+use Rattle.server_steps.specs.laws.Damage.{write_breaks_after}
+use Rattle.server_steps.specs.laws.Steps.{goes_none, saw_then}
 use Rattle.source_log.specs.Reading.{ArePositions, with_dropped}
+use Rattle.source_log.specs.Rules.{rules}
 use Rattle.source_log.specs.Storing.{TakesRecord}
 use Rattle.source_log.specs.declared.outcome.Outcome.TheVariants as outcomes
-use Rattle.source_log.proofs.Calls.{goes_none, saw_then, write_breaks_after}
 use Rattle.source_log.proofs.EndsTaken.{abort_full, abort_taken}
 use Rattle.source_log.proofs.taking.take_abort.Goals as goal
 
@@ -25,7 +27,7 @@ returns-then-not-has_room-clause-ok g c =
 pub returns-in_err-put_end-clause-fault : goal.returns-in_err-put_end-clause-fault
 returns-in_err-put_end-clause-fault g c =
     let p = err_from_is_err_and c.from_residual-in_err-put_end.result c.from_residual-in_err-put_end.ensures.1 in
-    rw (p.1, p.2) (write_breaks_after g.K.Keeper.kept c.args.sites.now c.positions_of.new.sites c.put_end.new.sites c.args.server c.in_err-put_end.field-0.0 c.in_ok-positions.ensures.ok c.in_err-put_end.ensures.fault)
+    rw (p.1, p.2) (write_breaks_after rules g.K.Keeper.kept c.args.sites.now c.positions_of.new.sites c.put_end.new.sites c.args.server c.in_err-put_end.field-0.0 c.in_ok-positions.ensures.ok c.in_err-put_end.ensures.fault)
 
 pub returns-clause-ok : goal.returns-clause-ok
 returns-clause-ok g c =

@@ -14,18 +14,19 @@ use Rattle.repl_records.specs.SourceSide.{in_flight_spelling}
 use Rattle.repl_model.specs.SoundLogs.{log_limit}
 use Rattle.site_store.specs.Calls.{reads_of_one}
 use Rattle.site_store.specs.Records.{RowIs, IsRecord}
-use Rattle.source_log.specs.Calls.{GoesOn}
-use Rattle.source_log.specs.Rules.{flight_key}
+use Rattle.server_steps.specs.Calls.{GoesOn}
+use Rattle.server_steps.specs.laws.Damage.{get_breaks, write_breaks_after}
+use Rattle.server_steps.specs.laws.Steps.{goes_saw, saw_then}
+use Rattle.source_log.specs.Rules.{rules, flight_key}
 use Rattle.source_log.specs.Storing.{TakesRecord}
 use Rattle.source_log.specs.declared.outcome.Outcome.TheVariants as outcomes
-use Rattle.source_log.proofs.Calls.{get_breaks, goes_saw, saw_then, write_breaks_after}
 use Rattle.source_log.proofs.ChangesTaken.{change_unknown, change_unfit, change_full, change_taken}
 use Rattle.source_log.proofs.taking.take_change.Goals as goal
 
 pub returns-in_err-found-clause-fault : goal.returns-in_err-found-clause-fault
 returns-in_err-found-clause-fault g c =
     let p = err_from_is_err_and c.from_residual.result c.from_residual.ensures.1 in
-    rw (p.1, p.2) (get_breaks g.K.Keeper.kept IsDefinedTable defined_table_spelling c.args.sites.now c.get.new.self c.args.server areas.Defs 0 (short_text c.table_of.result.now) (reads_of_one 1 c.args.server areas.Defs) c.in_err-found.field-0.0 (λ bytes h. h) c.in_err-found.ensures.fault)
+    rw (p.1, p.2) (get_breaks rules g.K.Keeper.kept IsDefinedTable defined_table_spelling c.args.sites.now c.get.new.self c.args.server areas.Defs 0 (short_text c.table_of.result.now) (reads_of_one 1 c.args.server areas.Defs) c.in_err-found.field-0.0 (λ bytes h. h) c.in_err-found.ensures.fault)
 
 pub returns-in_default-clause-ok : goal.returns-in_default-clause-ok
 returns-in_default-clause-ok g c =
@@ -67,7 +68,7 @@ returns-then-not-has_room-clause-ok g c =
 pub returns-in_err-put_change-clause-fault : goal.returns-in_err-put_change-clause-fault
 returns-in_err-put_change-clause-fault g c =
     let p = err_from_is_err_and c.from_residual-in_err-put_change.result c.from_residual-in_err-put_change.ensures.1 in
-    rw (p.1, p.2) (write_breaks_after g.K.Keeper.kept c.args.sites.now c.get.new.self c.put_change.new.sites c.args.server c.in_err-put_change.field-0.0 (record { most = reads_of_one 1 c.args.server areas.Defs; stays = c.in_ok-found.ensures.ok.stays }) c.in_err-put_change.ensures.fault)
+    rw (p.1, p.2) (write_breaks_after rules g.K.Keeper.kept c.args.sites.now c.get.new.self c.put_change.new.sites c.args.server c.in_err-put_change.field-0.0 (record { most = reads_of_one 1 c.args.server areas.Defs; stays = c.in_ok-found.ensures.ok.stays }) c.in_err-put_change.ensures.fault)
 
 pub returns-clause-ok : goal.returns-clause-ok
 returns-clause-ok g c =

@@ -8,15 +8,19 @@ use Rattle.row_codec.specs.LogRecords.{log_spelling}
 use Rattle.row_codec.specs.Spelling.{b64}
 use Rattle.repl_model.specs.SoundLogs.{log_limit}
 use Rattle.site_store.specs.Views.{sees}
+use Rattle.server_steps.specs.Calls.{GoesOn}
+use Rattle.server_steps.specs.laws.Damage.{breaks_after, write_breaks_after}
+use Rattle.server_steps.specs.laws.Faults.{write_fails_on}
+use Rattle.server_steps.specs.laws.Reads.{looks_then, sees_back}
+use Rattle.server_steps.specs.laws.Steps.{goes_none, goes_then, saw_then}
 use Rattle.stored_defs.specs.laws.Passing.{if_both_seen}
-use Rattle.source_log.specs.Calls.{GoesOn}
 use Rattle.source_log.specs.Making.{MakesAll, AreSteps}
 use Rattle.source_log.specs.Reading.{ArePositions, with_dropped}
+use Rattle.source_log.specs.Rules.{rules}
 use Rattle.source_log.specs.Storing.{TakesRecord}
 use Rattle.source_log.specs.declared.outcome.Outcome.{Outcome}
 use Rattle.source_log.specs.declared.outcome.Outcome.TheVariants as outcomes
 use Rattle.source_log.specs.declared.step.Step.{Step}
-use Rattle.source_log.proofs.Calls.{breaks_after, goes_none, goes_then, looks_then, saw_then, sees_back, write_breaks_after, write_fails_on}
 use Rattle.source_log.proofs.Commits.{commit_stays, commit_made}
 use Rattle.source_log.proofs.EndsTaken.{commit_late}
 use Rattle.source_log.proofs.taking.take_commit.Goals as goal
@@ -27,14 +31,14 @@ returns-then-time-head-clause-ok g c = goes_none g.K.Keeper.kept c.args.sites.no
 pub returns-in_err-steps-clause-fault : goal.returns-in_err-steps-clause-fault
 returns-in_err-steps-clause-fault g c =
     let p = err_from_is_err_and c.from_residual-in_err-steps.result c.from_residual-in_err-steps.ensures.1 in
-    rw (p.1, p.2) (breaks_after g.K.Keeper.kept c.args.sites.now c.positions_of.new.sites c.read_steps.new.sites c.args.server c.in_err-steps.field-0.0 c.in_ok-positions.ensures.ok c.in_err-steps.ensures.fault)
+    rw (p.1, p.2) (breaks_after rules g.K.Keeper.kept c.args.sites.now c.positions_of.new.sites c.read_steps.new.sites c.args.server c.in_err-steps.field-0.0 c.in_ok-positions.ensures.ok c.in_err-steps.ensures.fault)
 
 pub returns-in_err-outcome-clause-fault : goal.returns-in_err-outcome-clause-fault
 returns-in_err-outcome-clause-fault g c =
     let kept = g.K.Keeper.kept in
     let looks = looks_then kept c.args.sites.now c.positions_of.new.sites c.read_steps.new.sites c.in_ok-positions.ensures.ok c.in_ok-steps.ensures.ok in
     let p = err_from_is_err_and c.from_residual-in_err-outcome.result c.from_residual-in_err-outcome.ensures.1 in
-    rw (p.1, p.2) (breaks_after kept c.args.sites.now c.read_steps.new.sites c.make_all.new.sites c.args.server c.in_err-outcome.field-0.0 looks c.in_err-outcome.ensures.fault)
+    rw (p.1, p.2) (breaks_after rules kept c.args.sites.now c.read_steps.new.sites c.make_all.new.sites c.args.server c.in_err-outcome.field-0.0 looks c.in_err-outcome.ensures.fault)
 
 pub returns-in_default-clause-ok : goal.returns-in_default-clause-ok
 returns-in_default-clause-ok g c =
@@ -76,7 +80,7 @@ returns-in_err-put_end-clause-fault g c =
     let looks = looks_then kept s0 c.positions_of.new.sites s2 c.in_ok-positions.ensures.ok c.in_ok-steps.ensures.ok in
     let fails = write_fails_on kept s2 s3 s4 c.args.server (MakesAll c.as_slice-2.result.now c.has_room.result c.in_ok-outcome.outcome) c.in_err-put_end.field-0.0 c.in_ok-outcome.ensures.ok c.in_err-put_end.ensures.fault in
     let p = err_from_is_err_and c.from_residual-in_err-put_end.result c.from_residual-in_err-put_end.ensures.1 in
-    rw (p.1, p.2) (write_breaks_after kept s0 s2 s4 c.args.server c.in_err-put_end.field-0.0 looks fails)
+    rw (p.1, p.2) (write_breaks_after rules kept s0 s2 s4 c.args.server c.in_err-put_end.field-0.0 looks fails)
 
 pub returns-clause-ok : goal.returns-clause-ok
 returns-clause-ok g c =

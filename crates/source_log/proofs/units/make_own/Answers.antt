@@ -5,10 +5,11 @@ use Rattle.row_codec.specs.Spelling.{short_text}
 use Rattle.repl_definitions.specs.Defined.{defined_table_spelling}
 use Rattle.site_store.specs.Calls.{reads_of_one}
 use Rattle.site_store.specs.Records.{RowIs}
+use Rattle.server_steps.specs.laws.Damage.{write_breaks_after}
+use Rattle.server_steps.specs.laws.Steps.{goes_none, saw_then}
 use Rattle.source_log.specs.Making.{with_made}
-use Rattle.source_log.specs.Units.{MakesOwn, ShowsBadTable}
-use Rattle.source_log.proofs.Calls.{goes_none, saw_then, stops_after}
-use Rattle.source_log.proofs.UnitTables.{table_fails, table_is_bad, write_is_bad}
+use Rattle.source_log.specs.Units.{MakesOwn, table_rules}
+use Rattle.source_log.proofs.UnitTables.{table_fails, table_is_bad}
 use Rattle.source_log.proofs.units.make_own.Goals as goal
 
 pub returns-then-is_signal-clause-ok : goal.returns-then-is_signal-clause-ok
@@ -25,13 +26,9 @@ returns-then-not-fit-clause-fault g c = table_is_bad g.K.Keeper.kept c.args.site
 pub returns-in_err-make_change-clause-fault : goal.returns-in_err-make_change-clause-fault
 returns-in_err-make_change-clause-fault g c =
     let kept = g.K.Keeper.kept in
-    let s0 = c.args.sites.now in
-    let s2 = c.make_change.new.sites in
     let server = c.args.server in
-    let e = c.in_err-make_change.field-0.0 in
-    let read = c.in_ok-table.ensures.ok in
     let p = err_from_is_err_and c.from_residual-in_err-make_change.result c.from_residual-in_err-make_change.ensures.1 in
-    rw (p.1, p.2) (write_is_bad kept s0 s2 server (ShowsBadTable kept s0 server (c.args.placed.now ∷ [])) e (stops_after kept s0 c.get_needed.new.self s2 (reads_of_one 1 server areas.Defs) (λ s b cause. ⊥) e read.stays.passes read.stays.held c.in_err-make_change.ensures.fault))
+    rw (p.1, p.2) (write_breaks_after (table_rules (c.args.placed.now ∷ [])) kept c.args.sites.now c.get_needed.new.self c.make_change.new.sites server c.in_err-make_change.field-0.0 (record { most = reads_of_one 1 server areas.Defs; stays = c.in_ok-table.ensures.ok.stays }) c.in_err-make_change.ensures.fault)
 
 pub returns-clause-ok : goal.returns-clause-ok
 returns-clause-ok g c =

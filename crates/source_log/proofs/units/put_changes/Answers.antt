@@ -5,9 +5,10 @@ use Rattle.std.proofs.Common.{arith}
 use Rattle.repl_types.specs.declared.area.Area.TheVariants as areas
 use Rattle.repl_types.specs.declared.unit.Placed.{Placed}
 use Rattle.load_worlds.specs.laws.Members.{In}
+use Rattle.server_steps.specs.laws.Damage.{breaks_on}
+use Rattle.server_steps.specs.laws.Steps.{goes_none, goes_then}
 use Rattle.stored_defs.specs.laws.Standing.{all_at_place}
 use Rattle.source_log.specs.Units.{own_change, MayBePut, PutsOwn, PutsChanges, table_rules}
-use Rattle.source_log.proofs.Calls.{goes_none, goes_then, stops_on}
 use Rattle.source_log.proofs.Grown.{in_at}
 use Rattle.source_log.proofs.OwnChanges.{puts_none, puts_more}
 use Rattle.source_log.proofs.UnitTables.{tables_shown, bad_of_some}
@@ -29,7 +30,7 @@ returns-in_err-put_own-clause-fault g c =
     let e = c.in_err-put_own.field-0.0 in
     let there : In placed changes = subst (λ (q : Placed). In q changes) (sym c.index-changes-done.is) (in_at changes n placed c.changes-test.true) in
     let p = err_from_is_err_and c.from_residual.result c.from_residual.ensures.1 in
-    rw (p.1, p.2) (stops_on kept (table_rules changes) s0 s1 s2 server (PutsChanges c.args.last (take n changes)) e c.requires.open (λ d f puts. tables_shown changes d f (puts.others areas.Defs 0 refl)) c.changes.invariant (bad_of_some kept s1 s2 server changes placed there e c.in_err-put_own.ensures.fault))
+    rw (p.1, p.2) (breaks_on (table_rules changes) kept s0 s1 s2 server (PutsChanges c.args.last (take n changes)) e c.requires.open (λ d f puts. tables_shown changes d f (puts.others areas.Defs 0 refl)) c.changes.invariant (bad_of_some kept s1 s2 server changes placed there e c.in_err-put_own.ensures.fault))
 
 pub changes-preserved : goal.changes-preserved
 changes-preserved g c =

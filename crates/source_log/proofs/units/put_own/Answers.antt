@@ -6,8 +6,10 @@ use Rattle.keep_core.specs.Contents.{Contents, put_at}
 use Rattle.row_codec.specs.LogRecords.{log_spelling}
 use Rattle.row_codec.specs.Spelling.{b64}
 use Rattle.site_store.specs.Works.{Sets}
+use Rattle.server_steps.specs.laws.Damage.{breaks_on}
+use Rattle.server_steps.specs.laws.Faults.{no_memory}
+use Rattle.server_steps.specs.laws.Steps.{goes_put, goes_then}
 use Rattle.source_log.specs.Units.{MakesOwn, PutsOwn, ShowsBadTable, table_rules}
-use Rattle.source_log.proofs.Calls.{goes_put, goes_then, no_memory, stops_on}
 use Rattle.source_log.proofs.UnitTables.{tables_shown}
 use Rattle.source_log.proofs.units.put_own.Goals as goal
 
@@ -25,7 +27,7 @@ returns-in_err-make_own-clause-fault g c =
     let row = Some (log_spelling c.in_ok-logged.logged) in
     let alone = c.args.placed.now ∷ [] in
     let p = err_from_is_err_and c.from_residual-in_err-make_own.result c.from_residual-in_err-make_own.ensures.1 in
-    rw (p.1, p.2) (stops_on kept (table_rules alone) s0 s1 c.make_own.new.sites c.args.server (Sets areas.Log 0 key row) c.in_err-make_own.field-0.0 c.requires.open (λ d e puts. tables_shown alone d e (ap (λ (x : Contents). x areas.Defs 0) puts)) (goes_put kept s0 s1 c.args.server areas.Log 0 key row c.in_ok-put.ensures.ok) c.in_err-make_own.ensures.fault)
+    rw (p.1, p.2) (breaks_on (table_rules alone) kept s0 s1 c.make_own.new.sites c.args.server (Sets areas.Log 0 key row) c.in_err-make_own.field-0.0 c.requires.open (λ d e puts. tables_shown alone d e (ap (λ (x : Contents). x areas.Defs 0) puts)) (goes_put kept s0 s1 c.args.server areas.Log 0 key row c.in_ok-put.ensures.ok) c.in_err-make_own.ensures.fault)
 
 pub returns-clause-ok : goal.returns-clause-ok
 returns-clause-ok g c =
