@@ -13,6 +13,8 @@ pub mod Trails
 pub mod Aggregates
 pub mod History
 pub mod World
+pub mod NextActions
+pub mod AfterActions
 pub mod Replicas
 pub mod Rules
 pub mod SoundLogs
@@ -26,4 +28,5 @@ pub mod WorkedCopies
 pub mod WorkedExpressions
 pub mod WorkedSums
 pub mod WorkedWorld
+pub mod WorkedActions
 pub mod laws

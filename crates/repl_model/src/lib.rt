@@ -1,8 +1,8 @@
 //! What a source log means, what targets are, and what a group of servers is to a reader.
 //!
 //! Definitions stand in `specs/`: the units of a log, the rows of a table at each point, change
-//! rows, which records are applicable, the rows of each kind of target, worlds, and when a world is
-//! sound. The functions here have no code: their contracts are laws about the definitions.
+//! rows, which records are applicable, the rows of each kind of target, worlds, what a set does next
+//! in one, and when a world is sound. The functions here have no code: their contracts are laws about the definitions.
 //!
 //! It stands on `repl_types`, on `repl_definitions`, which has the trees of expressions and
 //! predicates, and members and sets, and on `row_codec`, for how long a set's definition is as it
@@ -21,6 +21,7 @@ mod log;
 mod longer_log;
 mod member_copies;
 mod sound;
+mod worked_actions;
 mod worked_copies;
 mod worked_logs;
 mod worked_sums;
@@ -37,6 +38,7 @@ pub use longer_log::{
 };
 pub use member_copies::whole_member;
 pub use sound::the_empty_world_is_sound;
+pub use worked_actions::{worked_blocks, worked_first_refresh, worked_gaps, worked_stop};
 pub use worked_copies::{
     worked_applicable, worked_change_rows, worked_interleaved, worked_point_in_time_copy,
     worked_restart, worked_user_copy,
