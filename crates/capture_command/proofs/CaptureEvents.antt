@@ -1,5 +1,5 @@
 -- How a capture is carried out.
-use Rattle.std.proofs.Common.{◌≡◌, ◌∙◌, ℕ, ◌<◌, List, [], ◌∷◌, ◌++◌, length, map, take, false, refl, sym, ap, subst, arith}
+use Rattle.std.proofs.Common.{◌≡◌, ◌∙◌, ℕ, ◌<◌, List, [], ◌∷◌, ◌++◌, length, map, take, Bool, false, refl, sym, ap, subst, arith}
 use Rattle.std.specs.Prelude.{Option, Some, IsSome}
 use Rattle.std.specs.Option.{option_map_or}
 use Rattle.repl_types.specs.declared.refusal.Refusal.TheVariants as refusals
