@@ -4,8 +4,9 @@
 //! changes of each transaction here until the transaction ends: its commit takes them, and its
 //! abort drops them.
 //!
-//! It stands on `repl_types`, whose placed changes it keeps. Above it, `copy_lists` keeps in a
-//! buffer what is in flight in its log.
+//! It stands on `repl_types`, whose placed changes it keeps. Above it, `capture_core` keeps in a
+//! buffer what is in flight in the log that it captures, and `copy_lists` what is in flight in its
+//! own.
 //!
 //! For example, after `push` of a change at position 1 for transaction 7, of one at position 2 for
 //! transaction 8, and of one at position 3 for transaction 7, `first` answers 1, `take` of 7 gives
