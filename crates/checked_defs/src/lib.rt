@@ -19,6 +19,7 @@ ghost use Rattle.repl_types.specs.declared.refusal.DefPlace.{DefPlace as Place};
 ghost use Rattle.spelled_defs.specs.Context.{context_of as context_of_lem, defs_of};
 ghost use Rattle.checked_defs.specs.Broken.{all_rules, first_broken};
 ghost use Rattle.checked_defs.specs.Whole.{have_kinds, LeavesNothingOut};
+
 mod find_break;
 mod members;
 mod names;

@@ -17,6 +17,7 @@
 //! `rows_in_order` and on `faults`. The layers that work on servers stand on it; `two_areas` and
 //! `rows_at_work` show its use.
 #![tactic(auto)]
+
 mod records;
 mod site;
 mod sites;
