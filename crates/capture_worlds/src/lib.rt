@@ -4,8 +4,8 @@
 //! the server: it is captured up to the last of them, and its registrations are started and stopped
 //! as the units say. The laws here show that the world stays sound. It has no code. It stands on
 //! `repl_model`, which says what a world is and when it is sound, and on `load_worlds`, for the
-//! elements of lists and for where a known set stands. `capture_rows`, `capture_store` and
-//! `capture_logs` stand on it, and the code of a capture.
+//! elements of lists and for where a known set stands. `capture_rows`, `capture_store`,
+//! `capture_logs` and `action_worlds` stand on it, and the code of a capture.
 //!
 //! For example, a server has captured up to 5, and its log has commits at 3, 5, 8 and 9. A capture
 //! of one unit takes that of the commit at 8, and the server is then captured up to 8. If that unit

@@ -2,7 +2,6 @@
 use Rattle.std.specs.Prelude.{ℕ, ◌+◌, ◌*◌, Bool, true, false, not, ◌&&◌, ◌||◌, ◌==◌, nat_lt, nat_le, if◌then◌else◌, List, [], ◌∷◌, map, filter, Option, Some, None}
 use Rattle.std.specs.List.{filter_map, enumerate_from, last_or, list_any}
 use Rattle.std.specs.Option.{option_map_or, option_and_then}
-use Rattle.std.specs.Str.{bytes_eq}
 use Rattle.repl_types.specs.declared.refusal.GapPlace.{GapPlace}
 use Rattle.repl_types.specs.declared.refusal.GapPlace.TheVariants as gaps
 use Rattle.repl_types.specs.declared.unit.Unit.{Unit}

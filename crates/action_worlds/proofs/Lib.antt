@@ -1,0 +1,13 @@
+mod Changed
+mod ChangedSets
+mod ChangedDefinitions
+mod ChangedWorlds
+mod OneSet
+mod SourceSides
+mod TargetSides
+mod Commits
+mod Trails
+mod SignalUnits
+mod SignalLogs
+mod Signals
+mod StaysSound
