@@ -1,0 +1,4 @@
+mod OneRow
+mod Worlds
+mod Reports
+mod Steps

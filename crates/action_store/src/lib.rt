@@ -1,0 +1,32 @@
+//! What the action of a read-only set changes of what the servers hold.
+//!
+//! `a_source_holds_a_report` shows that a source with the set's new mark holds what the world then
+//! calls for, and `a_target_holds_a_step` that a target does whose targets, states, last numbers
+//! and trail of the set are those after a block or a refresh, and whose other tables are as they
+//! were. The other servers hold it as they are: what is copied to targets is of the logs, the
+//! definitions and each set's own trail. It has no code. It stands on `world_store`, which says
+//! what a world calls for, on `repl_model`, which says what a set does next, on `rows_in_order`,
+//! for a row that is put in the place of another, and on `load_worlds`, for the elements of lists
+//! and for where a known set stands. Nothing stands on it yet.
+//!
+//! For example, the set with the number 1 among those whose source is `hq` has reached 8. Of all
+//! that `hq` holds, a report changes one record, the mark of the set with the number 1.
+#![tactic(auto)]
+
+ghost use Rattle.action_store.specs.ActedServers.{ReportHolds, OthersHoldAfterReport};
+ghost use Rattle.action_store.specs.ActedServers.{BlockHolds, RefreshHolds, OthersHoldAfterStep};
+
+/// The source of a set holds what the world after a report calls for, once the set's mark is put.
+/// The other servers hold it as they are.
+pub fn a_source_holds_a_report()
+    ensures source { ReportHolds }
+    ensures others { OthersHoldAfterReport }
+{}
+
+/// The target of a set holds what the world after a block or a refresh calls for, once the set's
+/// targets, states, last numbers and trail are put. The other servers hold it as they are.
+pub fn a_target_holds_a_step()
+    ensures block { BlockHolds }
+    ensures refresh { RefreshHolds }
+    ensures others { OthersHoldAfterStep }
+{}
