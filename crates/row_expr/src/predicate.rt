@@ -88,7 +88,7 @@ fn chain_end<'a>(predicate: &'a Predicate, row: &Row) -> ChainEnd<'a>
 
 /// Goes from a predicate down to the right, where each left side is added to those that are
 /// pending, and answers whether the right side of the last of these is true.
-#[cycle(test)]
+#[cycle(truth)]
 fn descend<'a>(predicate: &'a Predicate, row: &Row, pending: &mut Pending<'a>) -> bool
     requires { length pending.old < ROOM }
     ensures same { whole_truth row.now pending.new result
@@ -119,7 +119,7 @@ fn descend<'a>(predicate: &'a Predicate, row: &Row, pending: &mut Pending<'a>) -
 /// predicate's place. If neither is, the left side is pending while the right side is tested. A
 /// stored value has room for fewer than 32,768 predicates neither of whose sides is a leaf, and a
 /// call has room for 256 left sides, so at most 128 calls of `test` are at work at a time.
-#[cycle(test)]
+#[cycle(truth)]
 pub fn test(predicate: &Predicate, row: &Row) -> bool
     ensures { result ≡ is_true_of row.now predicate.now }
 {

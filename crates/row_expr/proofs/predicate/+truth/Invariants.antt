@@ -2,7 +2,7 @@ use Rattle.std.proofs.Common.{◌≡◌, ◌≤◌, ◌+◌, ◌*◌, ◌<◌, l
 use Rattle.repl_model.specs.Expressions.{is_true_of}
 use Rattle.row_expr.specs.declared.pending.TheConstants.{ROOM}
 use Rattle.row_expr.specs.PendingPredicates.{predicate_size, left_sizes, whole_truth}
-use Rattle.row_expr.proofs.predicate.+test.Given as goal
+use Rattle.row_expr.proofs.predicate.+truth.Given as goal
 
 abbrev pub decreases-descend : goal.decreases-descend
 decreases-descend l = 2 * predicate_size l.predicate.now

@@ -1,7 +1,7 @@
 use Rattle.std.proofs.Common.{sym, ap, ◌∙◌, arith}
 use Rattle.row_expr.specs.PendingPredicates.{whole_truth}
 use Rattle.row_expr.proofs.PendingPredicates.{whole_truth-last, left_sizes-last}
-use Rattle.row_expr.proofs.predicate.+test.Goals as goal
+use Rattle.row_expr.proofs.predicate.+truth.Goals as goal
 
 pub descend-loop-truth-preserved : goal.descend-loop-truth-preserved
 descend-loop-truth-preserved t c =
