@@ -1,4 +1,6 @@
 mod OneRow
 mod Worlds
+mod Marks
 mod Reports
+mod Signals
 mod Steps

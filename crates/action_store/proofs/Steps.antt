@@ -1,5 +1,5 @@
 -- What the target of a set holds after a block or a refresh.
-use Rattle.std.proofs.Common.{◌≡◌, ◌≢◌, ℕ, zero, suc, Bool, true, false, cond, not, List, [], ◌∷◌, ◌++◌, map, Option, refl, sym, ap, subst, ◌∙◌}
+use Rattle.std.proofs.Common.{◌≡◌, ◌≢◌, ℕ, zero, suc, Bool, true, false, cond, List, [], ◌∷◌, ◌++◌, map, Option, refl, sym, ap, subst, ◌∙◌}
 use Rattle.std.specs.Prelude.{◌/◌, ◌%◌, ◌==◌, slice_get}
 use Rattle.std.specs.Option.{option_map_or}
 use Rattle.std.proofs.lemmas.Bool.{true≢false, eq-eqb}
@@ -16,15 +16,15 @@ use Rattle.rows_in_order.specs.Rows.{table_from_rows}
 use Rattle.repl_model.specs.Summaries.{by_key}
 use Rattle.repl_model.specs.Trails.{Entry}
 use Rattle.repl_model.specs.World.{TargetSide, Server, World, KnownSet, same_set, known_sets}
-use Rattle.repl_model.specs.Rules.{is_replica_set}
 use Rattle.repl_model.specs.SoundDefinitions.{ServerKeepsRules, read_only_sets}
 use Rattle.repl_model.specs.Sound.{IsSound}
 use Rattle.world_store.specs.DefinitionRows.{target_set_rows}
 use Rattle.world_store.specs.TargetRows.{source_of, trail_rows}
 use Rattle.world_store.specs.Tables.{no_rows, member_table, tables, with_first, first_table}
 use Rattle.world_store.specs.Stands.{Holds}
-use Rattle.load_worlds.specs.laws.Members.{In, at_one, in_filter}
-use Rattle.load_worlds.specs.laws.KnownSets.{StandsIn, known_stands}
+use Rattle.load_worlds.specs.laws.Members.{In, at_one}
+use Rattle.load_worlds.specs.laws.KnownSets.{StandsIn}
+use Rattle.action_worlds.specs.laws.Signals.{set_stands}
 use Rattle.action_store.specs.ActedServers.{HasTargetNumber, Acted, with_step, with_refresh, BlockHolds, RefreshHolds, OthersHoldAfterStep}
 use Rattle.action_store.proofs.OneRow.{OneChanges, one_changes, places_stay, numbered_stay}
 use Rattle.action_store.proofs.Worlds.{still_holds}
@@ -118,7 +118,7 @@ step_holds world after_it k number change before now sound i is changes holds ac
     sides = k.target.target_sets
 
     stands : StandsIn world k
-    stands = known_stands world k (in_filter (λ (a : KnownSet). not (is_replica_set a.at_target.def)) (known_sets world) k i).0
+    stands = set_stands world k i
 
     rules : ServerKeepsRules world k.target
     rules = at_one (ServerKeepsRules world) world k.target sound.definitions.servers stands.target

@@ -1,5 +1,5 @@
 -- What servers hold after the action of a read-only set.
-use Rattle.std.specs.Prelude.{◌≡◌, ℕ, ◌/◌, ◌==◌, zero, suc, Bool, true, false, Some, slice_get}
+use Rattle.std.specs.Prelude.{◌≡◌, ℕ, ◌+◌, ◌/◌, ◌==◌, zero, suc, Bool, true, false, length, Some, slice_get}
 use Rattle.std.specs.Str.{bytes_eq}
 use Rattle.repl_types.specs.declared.area.Area.{Area}
 use Rattle.repl_types.specs.declared.area.Area.TheVariants as areas
@@ -10,11 +10,12 @@ use Rattle.repl_model.specs.Trails.{Entry, synchpoint}
 use Rattle.repl_model.specs.World.{Server, World, KnownSet, known_sets}
 use Rattle.repl_model.specs.SoundDefinitions.{read_only_sets}
 use Rattle.repl_model.specs.Sound.{IsSound}
-use Rattle.repl_model.specs.NextActions.{reports}
-use Rattle.repl_model.specs.AfterActions.{with_server, with_entry, refreshed, reported, after_action}
+use Rattle.repl_model.specs.NextActions.{signals, reports}
+use Rattle.repl_model.specs.AfterActions.{with_server, with_entry, refreshed, reported, signal_records, signalled, after_action}
 use Rattle.world_store.specs.Tables.{tables}
 use Rattle.world_store.specs.Stands.{shown, Holds}
 use Rattle.load_worlds.specs.laws.Members.{In}
+use Rattle.log_store.specs.LongerServers.{Logged}
 
 -- ---- reports
 
@@ -35,6 +36,23 @@ ReportHolds = (world : World) (k : KnownSet) (number : ℕ) (held : Contents) �
 abbrev pub OthersHoldAfterReport : Type 0
 OthersHoldAfterReport = (world : World) (k : KnownSet) (other : Server) (held : Contents) → IsSound world → In k (read_only_sets (known_sets world)) → In other world → bytes_eq k.source.name other.name ≡ false
     → Holds world other held → Holds (after_action world k reports) other held
+
+-- ---- signals
+
+-- the contents with a position as the set's last signal
+abbrev pub with_signal : KnownSet → ℕ → ℕ → Contents → Contents
+with_signal k number seq c = put_at c areas.Prune 0 (b32 number) (Some (mark_spelling (record { mark = k.at_source.mark; signal = seq })))
+
+-- the source of a set, with the signal in its log and that mark, holds what the world after the signal calls for
+abbrev pub SignalHolds : Type 0
+SignalHolds = (world : World) (k : KnownSet) (number : ℕ) (before now : Contents) → IsSound world → In k (read_only_sets (known_sets world)) → HasSourceNumber k number
+    → Holds world k.source before → Logged (signal_records k.at_source.def k.source.log) k.source before now
+    → Holds (after_action world k signals) (signalled k.at_source.def k.source) (with_signal k number (length k.source.log + length (signal_records k.at_source.def k.source.log)) now)
+
+-- and so do the other servers, as they are
+abbrev pub OthersHoldAfterSignal : Type 0
+OthersHoldAfterSignal = (world : World) (k : KnownSet) (other : Server) (held : Contents) → IsSound world → In k (read_only_sets (known_sets world)) → In other world → bytes_eq k.source.name other.name ≡ false
+    → Holds world other held → Holds (after_action world k signals) other held
 
 -- ---- entries of trails
 

@@ -1,10 +1,10 @@
 -- Which server, and which of its rows, a known set has.
-use Rattle.std.proofs.Common.{◌≡◌, ℕ, true, List, Option, Some, refl, sym, ap, subst, ◌∙◌}
+use Rattle.std.proofs.Common.{◌≡◌, ℕ, true, List, Option, sym, ap, subst, ◌∙◌}
 use Rattle.std.specs.Prelude.{is_some}
 use Rattle.std.specs.Option.{option_map, option_and_then}
 use Rattle.std.specs.Str.{bytes_eq}
 use Rattle.repl_types.specs.declared.record.SetId.{SetId}
-use Rattle.repl_model.specs.World.{SourceSide, TargetSide, Server, World, KnownSet, same_set, source_side, known_from}
+use Rattle.repl_model.specs.World.{SourceSide, Server, World, KnownSet, same_set, source_side, known_from}
 use Rattle.repl_model.specs.Rules.{all_differ}
 use Rattle.load_worlds.specs.laws.Members.{In, only_one}
 use Rattle.load_worlds.specs.laws.Servers.{same_name, name_itself, same_id, id_itself}

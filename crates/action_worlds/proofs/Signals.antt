@@ -1,12 +1,10 @@
 -- A world whose action is the signal of a read-only set.
-use Rattle.std.proofs.Common.{◌≡◌, ℕ, ◌+◌, Bool, true, false, cond, not, ◌&&◌, ◌||◌, List, [], ◌∷◌, length, map, Option, Some, inl, inr, refl, sym, ap, ap₂, subst, ◌∙◌, append-nil}
+use Rattle.std.proofs.Common.{◌≡◌, ℕ, Bool, true, false, cond, not, ◌&&◌, ◌||◌, List, [], ◌∷◌, length, Option, Some, refl, sym, ap, subst, ◌∙◌, append-nil}
 use Rattle.std.specs.Prelude.{IsTrue, filter, is_some}
 use Rattle.std.specs.Option.{option_map, option_and_then}
 use Rattle.std.specs.Str.{bytes_eq}
 use Rattle.std.proofs.lemmas.Bool.{and_from, or_left, not-true, not_from_false, false_from_ne_true, both_ways}
 use Rattle.std.proofs.lemmas.Option.{same_Some}
-use Rattle.std.proofs.lemmas.List.{length-append}
-use Rattle.std.proofs.lemmas.Simd.{map-map}
 use Rattle.repl_types.specs.declared.record.LogRecord.{LogRecord}
 use Rattle.repl_types.specs.declared.record.SetId.{SetId}
 use Rattle.repl_model.specs.Units.{units}
@@ -15,36 +13,19 @@ use Rattle.repl_model.specs.Rules.{is_replica_set}
 use Rattle.repl_model.specs.SoundLogs.{LogIsSound}
 use Rattle.repl_model.specs.SoundDefinitions.{replica_sets, read_only_sets, ServerKeepsRules, KnownSetKeepsRules}
 use Rattle.repl_model.specs.Sound.{IsSound}
-use Rattle.repl_model.specs.Longer.{with_more, grown_server, grown, new_units}
-use Rattle.repl_model.specs.NextActions.{signals}
-use Rattle.repl_model.specs.AfterActions.{with_server, with_source_side, signal_records, signalled, after_action}
-use Rattle.load_worlds.specs.laws.Members.{In, at_one, at_each, any_from, only_one, in_filter, kept_by, image_in, find_image, found_in}
-use Rattle.load_worlds.specs.laws.Servers.{same_name, name_itself, same_id, id_itself}
-use Rattle.load_worlds.specs.laws.KnownSets.{StandsIn, known_stands, source_in, at_source_in, same_ids, known_in}
+use Rattle.repl_model.specs.Longer.{with_more, grown, new_units}
+use Rattle.repl_model.specs.AfterActions.{signal_records}
+use Rattle.load_worlds.specs.laws.Members.{In, at_one, at_each, any_from, only_one, in_filter, kept_by, image_in, find_image}
+use Rattle.load_worlds.specs.laws.Servers.{name_itself, same_id, id_itself}
+use Rattle.load_worlds.specs.laws.KnownSets.{StandsIn, source_in, at_source_in, same_ids, known_in}
 use Rattle.log_worlds.specs.LongerLogs.{CanCome}
 use Rattle.log_worlds.specs.StaysSound.{GrowsSound}
 use Rattle.log_worlds.specs.laws.Units.{UnitLaws, is_past}
 use Rattle.log_worlds.specs.laws.Servers.{longer, longer_world, world_grows}
 use Rattle.action_worlds.specs.StaysSound.{HasRoom}
+use Rattle.action_worlds.specs.laws.Signals.{is_one_known, set_stands, source_is_named}
 use Rattle.action_worlds.proofs.SignalUnits.{FlightLaws, signal_unit, signal_comes}
 use Rattle.action_worlds.proofs.SignalLogs.{log_with_signal}
-
--- ---- the set and its source
-
--- a read-only set is known
-is_one_known : (world : World) (k : KnownSet) → In k (read_only_sets (known_sets world)) → In k (known_sets world)
-is_one_known world k i = (in_filter (λ (l : KnownSet). not (is_replica_set l.at_target.def)) (known_sets world) k i).0
-
--- where it stands
-set_stands : (world : World) (k : KnownSet) → In k (read_only_sets (known_sets world)) → StandsIn world k
-set_stands world k i = known_stands world k (is_one_known world k i)
-
--- its source is the server of that name
-source_is_named : (world : World) (k : KnownSet) → In k (read_only_sets (known_sets world)) → server_named k.source.name world ≡ Some k.source
-source_is_named world k i =
-    let stands = set_stands world k i in
-    let found = found_in (λ (a : Server). bytes_eq k.at_target.def.source a.name) world k.source stands.source in
-    ap (λ (name : List ℕ). server_named name world) (sym (same_name k.at_target.def.source k.source.name found.1)) ∙ stands.source
 
 -- ---- the longer log
 
@@ -105,40 +86,7 @@ signal_grows_sound laws flights grows world k sound i room = grows k.source.name
     is_source : (server : Server) → server_named k.source.name world ≡ Some server → k.source ≡ server
     is_source server e = same_Some k.source server (sym (source_is_named world k i) ∙ e)
 
--- ---- the world after the signal
-
--- functions that agree at each element have the same images
-images_alike : {X Y : Type 0} (f g : X → Y) (xs : List X) → ((x : X) → In x xs → f x ≡ g x) → map f xs ≡ map g xs
-images_alike f g [] same = refl
-images_alike {X} {Y} f g (x ∷ xs) same = ap₂ (λ (y : Y) (ys : List Y). y ∷ ys) (same x (inl refl)) (images_alike f g xs (λ z i. same z (inr i)))
-
--- the world after a signal is the one with the longer log, with the unit's seq as the set's last signal
-pub signal_is : (world : World) (k : KnownSet) → IsSound world → In k (read_only_sets (known_sets world)) → after_action world k signals
-    ≡ with_server k.source.name (with_source_side k.at_source.def.id (λ side. record side { signal = length k.source.log + length (signal_records k.at_source.def k.source.log) })) (grown k.source.name (signal_records k.at_source.def k.source.log) world)
-signal_is world k sound i =
-    images_alike (λ (server : Server). cond (bytes_eq name server.name) (signalled k.at_source.def server) server) (λ server. then (grown_server name more server)) world (λ server j. by_name server j (bytes_eq name server.name) refl)
-    ∙ sym (map-map then (grown_server name more) world)
-  where
-    name : List ℕ
-    name = k.source.name
-
-    more : List LogRecord
-    more = signal_records k.at_source.def k.source.log
-
-    signalled_at : ℕ → Server → Server
-    signalled_at seq server = with_source_side k.at_source.def.id (λ side. record side { signal = seq }) server
-
-    then : Server → Server
-    then server = cond (bytes_eq name server.name) (signalled_at (length k.source.log + length more) server) server
-
-    by_name : (server : Server) → In server world → (b : Bool) → bytes_eq name server.name ≡ b → cond b (signalled k.at_source.def server) server ≡ then (cond b (with_more more server) server)
-    by_name server j true e =
-        let is : server ≡ k.source = only_one (λ (a b : Server). bytes_eq a.name b.name) world server k.source sound.definitions.names j (source_in world k (set_stands world k i)) (ap (λ (n : List ℕ). bytes_eq n name) (sym (same_name name server.name e)) ∙ name_itself name) e in
-        ap (signalled k.at_source.def) is
-        ∙ ap (λ (seq : ℕ). signalled_at seq (with_more more k.source)) (length-append k.source.log more)
-        ∙ ap (λ (s : Server). signalled_at (length k.source.log + length more) (with_more more s)) (sym is)
-        ∙ sym (ap (λ (b : Bool). cond b (signalled_at (length k.source.log + length more) (with_more more server)) (with_more more server)) e)
-    by_name server j false e = sym (ap (λ (b : Bool). cond b (signalled_at (length k.source.log + length more) server) server) e)
+-- ---- the set in the longer world
 
 -- in the longer world the set is known too, with the same sides, and is read-only
 pub known_after_signal : (world : World) (k : KnownSet) → IsSound world → In k (read_only_sets (known_sets world)) → (more : List LogRecord)

@@ -13,10 +13,11 @@ use Rattle.load_worlds.specs.laws.Members.{In, at_one}
 use Rattle.log_worlds.specs.StaysSound.{GrowsSound}
 use Rattle.log_worlds.specs.laws.Units.{UnitLaws}
 use Rattle.action_worlds.specs.StaysSound.{HasRoom, NextActionsSound}
+use Rattle.action_worlds.specs.laws.Signals.{signal_is}
 use Rattle.action_worlds.proofs.SourceSides.{source_side_sound, report_sound}
 use Rattle.action_worlds.proofs.Trails.{refresh_sound, block_sound}
 use Rattle.action_worlds.proofs.SignalUnits.{FlightLaws, signal_is_seq}
-use Rattle.action_worlds.proofs.Signals.{signal_grows_sound, signal_is, known_after_signal}
+use Rattle.action_worlds.proofs.Signals.{signal_grows_sound, known_after_signal}
 
 module _ (laws : UnitLaws) (flights : FlightLaws) (grows : GrowsSound) where
   -- a world stays sound with a signal, if the log has room for it

@@ -9,7 +9,7 @@ use Rattle.repl_definitions.specs.declared.set.SetDef.{SetDef}
 use Rattle.repl_model.specs.Trails.{synchpoint}
 use Rattle.repl_model.specs.World.{SourceSide, TargetSide, Server, World, KnownSet, same_set, known_from, known_sets}
 use Rattle.repl_model.specs.SoundDefinitions.{ServerKeepsRules, read_only_sets}
-use Rattle.repl_model.specs.Sound.{GoesOn, SignalsAreSound, TrailIsSound, IsSound}
+use Rattle.repl_model.specs.Sound.{GoesOn, SignalsAreSound, IsSound}
 use Rattle.repl_model.specs.AfterActions.{with_server, with_target_side}
 use Rattle.load_worlds.specs.laws.Members.{In, at_one}
 use Rattle.load_worlds.specs.laws.Servers.{name_itself, id_itself}

@@ -1,5 +1,5 @@
 -- A world stays sound with the actions of a read-only set that make its trail longer.
-use Rattle.std.proofs.Common.{◌≡◌, ℕ, ◌<◌, ◌≤◌, Bool, true, false, cond, not, ◌||◌, List, [], ◌∷◌, ◌++◌, map, Option, Some, None, refl, sym, ap, subst, ◌∙◌, arith}
+use Rattle.std.proofs.Common.{◌≡◌, ℕ, ◌<◌, ◌≤◌, Bool, true, false, cond, ◌||◌, List, [], ◌∷◌, ◌++◌, map, Option, Some, None, refl, sym, ap, subst, ◌∙◌, arith}
 use Rattle.std.specs.Prelude.{◌==◌, nat_lt, nat_le, fold}
 use Rattle.std.specs.List.{list_any}
 use Rattle.std.proofs.lemmas.Bool.{true≢false, and_parts, and_from, or_right, or_parts, cond-true, cond-false, leb-false}
@@ -10,13 +10,13 @@ use Rattle.repl_types.specs.declared.record.LogRecord.{LogRecord}
 use Rattle.repl_model.specs.Units.{last_commit}
 use Rattle.repl_model.specs.Trails.{Entry, Trail, refresh, block, load, settle, point_after, synchpoint, base_after, base_of}
 use Rattle.repl_model.specs.World.{TargetSide, Server, World, KnownSet, same_set, known_sets}
-use Rattle.repl_model.specs.Rules.{is_replica_set}
 use Rattle.repl_model.specs.SoundDefinitions.{read_only_sets}
 use Rattle.repl_model.specs.Sound.{is_seq, is_seq_or_zero, NumbersAreSound, is_base, GoesOn, SignalsAreSound, TrailIsSound, IsSound}
 use Rattle.repl_model.specs.NextActions.{block_end, Gap, gap_of, signals, refreshes, blocks, reports, idles, refuses, is_new, refresh_by_signal, by_gap, next_action}
 use Rattle.repl_model.specs.AfterActions.{with_server, with_target_side, refreshed, is_base_aggregate, base_point, refresh_entry, block_entry, after_action}
-use Rattle.load_worlds.specs.laws.Members.{In, at_one, in_filter}
-use Rattle.load_worlds.specs.laws.KnownSets.{known_stands, source_in}
+use Rattle.load_worlds.specs.laws.Members.{In, at_one}
+use Rattle.load_worlds.specs.laws.KnownSets.{source_in}
+use Rattle.action_worlds.specs.laws.Signals.{is_one_known, set_stands}
 use Rattle.action_worlds.proofs.Commits.{seq_up_to_last, last_is_seq, seq_above, seq_or_zero_up_to_last, cut_above}
 use Rattle.action_worlds.proofs.TargetSides.{target_side_sound}
 
@@ -131,10 +131,6 @@ block_is_next k upto e = by_tests (is_new k.at_target.trail || k.at_target.flag)
 trail_at : (world : World) (k : KnownSet) → IsSound world → In k (read_only_sets (known_sets world)) → TrailIsSound k
 trail_at world k sound i = at_one TrailIsSound (read_only_sets (known_sets world)) k sound.trails i
 
--- the set is known
-known_at : (world : World) (k : KnownSet) → In k (read_only_sets (known_sets world)) → In k (known_sets world)
-known_at world k i = (in_filter (λ (a : KnownSet). not (is_replica_set a.at_target.def)) (known_sets world) k i).0
-
 -- the targets have reached a seq or 0
 synchpoint_is_seq : (k : KnownSet) → TrailIsSound k → is_seq_or_zero k.source.log (synchpoint k.at_target.trail) ≡ true
 synchpoint_is_seq k h = reaches_seq k.source.log 0 0 k.at_target.trail h.goes refl
@@ -181,7 +177,7 @@ refresh_sound world k sound i next = subst IsSound (sym (both_changes world k (r
     signal = signal_before k next
 
     signal_is_seq : is_seq k.source.log k.at_source.signal ≡ true
-    signal_is_seq = seq_above k.source.log (base_of k.at_target.trail) k.at_source.signal signal (at_one SignalsAreSound (known_sets world) k sound.signals (known_at world k i)).0
+    signal_is_seq = seq_above k.source.log (base_of k.at_target.trail) k.at_source.signal signal (at_one SignalsAreSound (known_sets world) k sound.signals (is_one_known world k i)).0
 
     above : k.at_source.signal ≤ last_commit k.source.log
     above = seq_up_to_last k.source.log k.at_source.signal signal_is_seq
@@ -206,7 +202,7 @@ block_sound world k upto sound i next = target_side_sound world k sound i (λ si
     known = block_is_next k upto next
 
     numbers : NumbersAreSound k.source
-    numbers = at_one NumbersAreSound world k.source sound.numbers (source_in world k (known_stands world k (known_at world k i)))
+    numbers = at_one NumbersAreSound world k.source sound.numbers (source_in world k (set_stands world k i))
 
     captured : is_seq k.source.log k.source.captured ≡ true
     captured = seq_above k.source.log (synchpoint k.at_target.trail) k.source.captured known.ahead numbers.captured

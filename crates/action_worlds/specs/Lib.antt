@@ -1,1 +1,2 @@
 pub mod StaysSound
+pub mod laws

@@ -1,0 +1,160 @@
+-- What the source of a set holds once the set's mark and signal are others there.
+use Rattle.std.proofs.Common.{◌≡◌, ℕ, zero, suc, ◌+◌, ◌≤◌, Bool, true, false, cond, List, [], ◌∷◌, ◌++◌, length, map, Option, Some, None, refl, sym, ap, ap₂, ◌∙◌, arith}
+use Rattle.std.specs.Prelude.{slice_get}
+use Rattle.std.specs.List.{enumerate_from}
+use Rattle.std.specs.Option.{option_or}
+use Rattle.std.proofs.lemmas.List.{length-map, map-append}
+use Rattle.std.proofs.lemmas.Option.{slice_get_within}
+use Rattle.repl_types.specs.declared.area.Area.TheVariants as areas
+use Rattle.repl_types.specs.declared.record.LogRecord.{LogRecord}
+use Rattle.repl_types.specs.declared.record.SetId.{SetId}
+use Rattle.row_codec.specs.Spelling.{b32, set_spelling}
+use Rattle.row_codec.specs.Order.{set_cmp}
+use Rattle.repl_definitions.specs.Sets.{source_set_spelling}
+use Rattle.repl_definitions.specs.declared.set.SourceSet.{SourceSet}
+use Rattle.repl_records.specs.RecordKeys.{unit_key_spelling}
+use Rattle.repl_records.specs.Prune.{mark_spelling, decided_spelling, rejected_spelling}
+use Rattle.repl_records.specs.declared.prune.SyncMark.{SyncMark}
+use Rattle.repl_records.specs.declared.prune.Decided.{Decided}
+use Rattle.repl_records.specs.FirstStates.{first_decided}
+use Rattle.keep_core.specs.Contents.{Contents, Table, set_key, put_at}
+use Rattle.rows_in_order.specs.Rows.{table_from_rows}
+use Rattle.rows_in_order.specs.laws.Written.{put_here, put_other_table}
+use Rattle.repl_model.specs.Summaries.{by_key}
+use Rattle.repl_model.specs.World.{SourceSide, Server, World, KnownSet, same_set, known_sets}
+use Rattle.repl_model.specs.SoundDefinitions.{read_only_sets, ServerKeepsRules}
+use Rattle.repl_model.specs.Sound.{IsSound}
+use Rattle.world_store.specs.DefinitionRows.{source_set_rows}
+use Rattle.world_store.specs.CaptureRows.{mark_rows, decided_rows, first_decided_rows, rejected_rows}
+use Rattle.world_store.specs.Tables.{no_rows, tables, with_first, first_table}
+use Rattle.world_store.specs.Stands.{Holds}
+use Rattle.load_worlds.specs.laws.Members.{In, at_one}
+use Rattle.load_worlds.specs.laws.Servers.{id_itself}
+use Rattle.load_worlds.specs.laws.KnownSets.{source_in}
+use Rattle.action_worlds.specs.laws.Signals.{set_stands}
+use Rattle.action_store.specs.ActedServers.{HasSourceNumber}
+use Rattle.action_store.proofs.OneRow.{OneChanges, one_changes, numbered_stay, numbered_lists_stay, replaced}
+
+-- if no record stands for a missing one, the table is read as it is
+no_first : (t : Table) → with_first no_rows t ≡ t
+no_first t = λ i k. none (t k) i
+  where
+    none : (o : Option (List ℕ)) → option_or o None ≡ o
+    none None = refl
+    none (Some v) = refl
+
+-- what is stored of a set's mark
+abbrev mark_of : SourceSide → SyncMark
+mark_of side = record { mark = side.mark; signal = side.signal }
+
+-- the rows with the marks are the marks, numbered
+marks_numbered : (b : ℕ) (sides : List SourceSide) → map (λ (s : ℕ × SourceSide). (s.0, mark_of s.1)) (enumerate_from b sides) ≡ enumerate_from b (map mark_of sides)
+marks_numbered b [] = refl
+marks_numbered b (side ∷ sides) = ap (λ (rows : List (ℕ × SyncMark)). (b, mark_of side) ∷ rows) (marks_numbered (b + 1) sides)
+
+-- The row of a set at its source gets another mark and another signal.
+module _ (point seq : SourceSide → ℕ) (world : World) (server : Server) (side : SourceSide) (number : ℕ) where
+  -- what the rows of sets become
+  abbrev marked : SourceSide → SourceSide
+  marked s = cond (same_set side.def.id s.def.id) (record s { mark = point s; signal = seq s }) s
+
+  -- what is made of a row without its mark and its signal stays
+  unmarked : {Y : Type 0} (f : SourceSide → Y) → ((s : SourceSide) → f (record s { mark = point s; signal = seq s }) ≡ f s) → (s : SourceSide) → f (marked s) ≡ f s
+  unmarked {Y} f alike s = by_test (same_set side.def.id s.def.id)
+    where
+      by_test : (b : Bool) → f (cond b (record s { mark = point s; signal = seq s }) s) ≡ f s
+      by_test true = alike s
+      by_test false = refl
+
+  -- what is then stored of the set's mark
+  abbrev new_mark : SyncMark
+  new_mark = record { mark = point side; signal = seq side }
+
+  -- the server with these rows
+  abbrev after : Server
+  after = record server { source_sets = map marked server.source_sets }
+
+  -- definitions of sets stay
+  definitions_stay : source_set_rows after ≡ source_set_rows server
+  definitions_stay = ap (λ (rows : List (SetId × SourceSet)). by_key set_cmp rows)
+      (numbered_stay (λ (s : ℕ × SourceSide). (s.1.def.id, record { number = s.0; def = s.1.def })) marked (λ n s. unmarked (λ (a : SourceSide). (a.def.id, record { number = n; def = a.def })) (λ a. refl) s) 0 server.source_sets)
+
+  -- so does what the sets have decided
+  decided_stay : decided_rows after ≡ decided_rows server
+  decided_stay = numbered_stay (λ (s : ℕ × SourceSide). (s.0, record { t = s.1.t; d = s.1.d })) marked (λ n s. unmarked (λ (a : SourceSide). (n, record { t = a.t; d = a.d })) (λ a. refl) s) 0 server.source_sets
+
+  -- what says so before they have decided
+  first_decided_stay : first_decided_rows after ≡ first_decided_rows server
+  first_decided_stay = numbered_stay (λ (s : ℕ × SourceSide). (s.0, first_decided)) marked (λ n s. refl) 0 server.source_sets
+
+  -- and what they rejected
+  rejected_stay : rejected_rows after ≡ rejected_rows server
+  rejected_stay = numbered_lists_stay (λ (s : ℕ × SourceSide). map (λ c. (record { set = s.0; seq = c.0 }, record { code = c.1 })) s.1.codes) marked (λ n s. unmarked (λ (a : SourceSide). map (λ c. (record { set = n; seq = c.0 }, record { code = c.1 })) a.codes) (λ a. refl) s) 0 server.source_sets
+
+  module _ (few : length server.source_sets ≤ 256) (is : slice_get server.source_sets number ≡ Some side) (one : OneChanges marked server.source_sets number side) where
+    -- the marks are those before, with the new one at the set's number
+    marks_after : table_from_rows b32 mark_spelling (mark_rows after) ≡ set_key (table_from_rows b32 mark_spelling (mark_rows server)) (b32 number) (Some (mark_spelling new_mark))
+    marks_after =
+        ap (table_from_rows b32 mark_spelling) (marks_numbered 0 (map marked server.source_sets) ∙ ap (λ (sides : List SourceSide). enumerate_from 0 (map mark_of sides)) one.after ∙ around (marked side))
+        ∙ replaced mark_spelling front (mark_of side) (mark_of (marked side)) back (omega (arith, few, length-map one.front mark_of, one.long, slice_get_within server.source_sets number side is))
+        ∙ ap₂ (λ (n : ℕ) (m : SyncMark). set_key (table_from_rows b32 mark_spelling (enumerate_from 0 (front ++ mark_of side ∷ back))) (b32 n) (Some (mark_spelling m))) (length-map one.front mark_of ∙ one.long) is_new
+        ∙ ap (λ (rows : List (ℕ × SyncMark)). set_key (table_from_rows b32 mark_spelling rows) (b32 number) (Some (mark_spelling new_mark))) (sym (marks_numbered 0 server.source_sets ∙ ap (λ (sides : List SourceSide). enumerate_from 0 (map mark_of sides)) one.before ∙ around side))
+      where
+        front : List SyncMark
+        front = map mark_of one.front
+
+        back : List SyncMark
+        back = map mark_of one.back
+
+        around : (s : SourceSide) → enumerate_from 0 (map mark_of (one.front ++ s ∷ one.back)) ≡ enumerate_from 0 (front ++ mark_of s ∷ back)
+        around s = ap (λ (marks : List SyncMark). enumerate_from 0 marks) (map-append mark_of one.front (s ∷ one.back))
+
+        is_new : mark_of (marked side) ≡ new_mark
+        is_new = ap (λ (b : Bool). mark_of (cond b (record side { mark = point side; signal = seq side }) side)) (id_itself side.def.id)
+
+    -- the server holds what the world calls for there, once the mark is put
+    put_holds : (held : Contents) → Holds world server held → Holds world after (put_at held areas.Prune 0 (b32 number) (Some (mark_spelling new_mark)))
+    unfolding tables first_table
+    put_holds held holds areas.Log n = holds areas.Log n
+    put_holds held holds areas.Source n = holds areas.Source n
+    put_holds held holds areas.Inflight n = holds areas.Inflight n
+    put_holds held holds areas.Head n = holds areas.Head n
+    put_holds held holds areas.Defs zero = holds areas.Defs 0
+    put_holds held holds areas.Defs (suc zero) = holds areas.Defs 1
+    put_holds held holds areas.Defs (suc (suc zero)) = holds areas.Defs 2 ∙ ap (table_from_rows set_spelling source_set_spelling) (sym definitions_stay)
+    put_holds held holds areas.Defs (suc (suc (suc zero))) = holds areas.Defs 3
+    put_holds held holds areas.Defs (suc (suc (suc (suc n)))) = holds areas.Defs (suc (suc (suc (suc n))))
+    put_holds held holds areas.Cd n = holds areas.Cd n
+    put_holds held holds areas.Uow n = holds areas.Uow n
+    put_holds held holds areas.Capture n = holds areas.Capture n
+    put_holds held holds areas.Prune zero =
+        let key = b32 number in
+        let mark = Some (mark_spelling new_mark) in
+        no_first (put_at held areas.Prune 0 key mark areas.Prune 0)
+        ∙ put_here held areas.Prune 0 key mark
+        ∙ ap (λ (t : Table). set_key t key mark) (sym (no_first (held areas.Prune 0)) ∙ holds areas.Prune 0)
+        ∙ sym marks_after
+    put_holds held holds areas.Prune (suc zero) =
+        ap (λ (rows : List (ℕ × Decided)). with_first (table_from_rows b32 decided_spelling rows) (held areas.Prune 1)) first_decided_stay
+        ∙ holds areas.Prune 1
+        ∙ ap (table_from_rows b32 decided_spelling) (sym decided_stay)
+    put_holds held holds areas.Prune (suc (suc zero)) = holds areas.Prune 2 ∙ ap (table_from_rows unit_key_spelling rejected_spelling) (sym rejected_stay)
+    put_holds held holds areas.Prune (suc (suc (suc n))) =
+        ap (with_first no_rows) (put_other_table held areas.Prune 0 (suc (suc (suc n))) (b32 number) (Some (mark_spelling new_mark)) (λ e. omega (arith, e)))
+        ∙ holds areas.Prune (suc (suc (suc n)))
+    put_holds held holds areas.Spill n = refl
+    put_holds held holds areas.Target n = holds areas.Target n
+    put_holds held holds areas.SetState n = holds areas.SetState n
+    put_holds held holds areas.Trail n = holds areas.Trail n
+
+-- The source of a read-only set with another log and another mark and signal of the set holds what a world calls for
+-- there, once the mark is put, if it held it with those before.
+pub marked_holds : (point seq : SourceSide → ℕ) (world after_it : World) (k : KnownSet) (log : List LogRecord) (number : ℕ) (held : Contents) → IsSound world → In k (read_only_sets (known_sets world)) → HasSourceNumber k number
+    → Holds after_it (record k.source { log = log }) held
+    → Holds after_it (after point seq after_it (record k.source { log = log }) k.at_source number) (put_at held areas.Prune 0 (b32 number) (Some (mark_spelling (record { mark = point k.at_source; signal = seq k.at_source }))))
+marked_holds point seq world after_it k log number held sound i is holds =
+    let rules = at_one (ServerKeepsRules world) world k.source sound.definitions.servers (source_in world k (set_stands world k i)) in
+    let becomes = marked point seq after_it (record k.source { log = log }) k.at_source number in
+    put_holds point seq after_it (record k.source { log = log }) k.at_source number rules.counts.0 is
+    (one_changes (λ (side : SourceSide). side.def.id) becomes k.at_source (λ side e. ap (λ (b : Bool). cond b (record side { mark = point side; signal = seq side }) side) e) k.source.source_sets number rules.source_names is)
+    held holds
