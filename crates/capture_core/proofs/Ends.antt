@@ -31,7 +31,8 @@ use Rattle.server_steps.specs.laws.Faults.{blames_after}
 use Rattle.world_store.specs.Stands.{Stands}
 use Rattle.capture_worlds.specs.Captures.{with_units, uncaptured, captured}
 use Rattle.capture_core.specs.Committing.{CommitsUnits, MayCommitUnits}
-use Rattle.capture_core.specs.Ending.{first_units, first_commits, counts_of, HeldDamage, HasEnded, HasFailed}
+use Rattle.capture_core.specs.Capturing.{counts_of}
+use Rattle.capture_core.specs.Ending.{first_units, first_commits, HeldDamage, HasEnded, HasFailed}
 use Rattle.capture_core.specs.Reading.{greatest, LeavesOthers}
 use Rattle.capture_core.specs.Rules.{rules}
 use Rattle.capture_core.specs.declared.captured.Captured.{Captured}

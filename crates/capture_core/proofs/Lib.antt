@@ -5,6 +5,7 @@ mod Calls
 mod Committed
 mod Ends
 mod Faults
+mod LogReads
 mod Positions
 mod ReadLogs
 mod Restarts

@@ -129,14 +129,19 @@ read_before : (server : Server) (read : ℕ) → read ≤ server.captured → Ha
 unfolding uncaptured
 read_before server read le = ap (λ (n : ℕ). filter (λ (u : Unit). nat_lt n u.head.seq) (units server.log)) (sym (max-eq_left le))
 
--- a capture begins at the restart of its server, and has read up to there
+-- a capture has read up to the restart of its server
+pub starts_at : (server : Server) (p : Progress) → IsStart p → p.state ≡ capture_state server → p.read + 1 ≡ restart_after server.log server.captured
+starts_at server p begins is =
+    let at_restart : p.state.restart ≡ restart_after server.log server.captured = ap (λ (s : CaptureState). s.restart) is in
+    omega (arith, begins.read, at_restart, (restart_between server.log server.captured).0)
+
+-- so its reading begins there
 pub starts_reading : UnitsAreWithin → StartsEmpty → (server : Server) → NumbersAreSound server → (p : Progress) → IsStart p → p.state ≡ capture_state server → IsReadTo server p
 starts_reading within none server numbers p begins is =
     let log = server.log in
     let upto = captured_within within server numbers in
     let restart = restart_between log server.captured in
-    let at_restart : p.state.restart ≡ restart_after log server.captured = ap (λ (s : CaptureState). s.restart) is in
-    let read : p.read + 1 ≡ restart_after log server.captured = omega (arith, begins.read, at_restart, restart.0) in
+    let read : p.read + 1 ≡ restart_after log server.captured = starts_at server p begins is in
     record {
       state = is;
       base = server.captured;

@@ -11,7 +11,7 @@ use Rattle.keep_core.specs.Contents.{Contents}
 use Rattle.keep_core.specs.Kept.{Kept}
 use Rattle.repl_model.specs.Sound.{empty_server, IsSound, NumbersAreSound}
 use Rattle.repl_model.specs.SoundLogs.{LogIsSound, log_limit}
-use Rattle.repl_model.specs.World.{Server, World}
+use Rattle.repl_model.specs.World.{Server, World, restart_after}
 use Rattle.run_core.specs.Runs.{Event, commits, last_world, lines_of}
 use Rattle.run_core.specs.laws.Runs.{last_append, lines_append}
 use Rattle.site_store.specs.declared.sites.Sites.{Sites}
@@ -22,6 +22,7 @@ use Rattle.site_store.specs.laws.Counts.{at_most_itself, passes_then}
 use Rattle.stored_defs.specs.Known.{server_in}
 use Rattle.stored_defs.specs.laws.Standing.{all_at_place}
 use Rattle.server_steps.specs.Calls.{GoesOn}
+use Rattle.world_store.specs.CaptureRows.{capture_state}
 use Rattle.world_store.specs.Stands.{Holds, Reveals, Stands}
 use Rattle.world_store.specs.Tables.{tables}
 use Rattle.capture_worlds.specs.Captures.{with_unit, with_units, uncaptured, rows_captured, all_rows_captured, captured}
@@ -33,7 +34,7 @@ use Rattle.capture_core.specs.declared.progress.Progress.{Progress}
 use Rattle.capture_core.proofs.Batches.{commits_left, commits_due, not_full, due_next, due_full}
 use Rattle.capture_core.proofs.Calls.{same_leaves, leaves_then}
 use Rattle.capture_core.proofs.Committed.{put_leaves, captured_by}
-use Rattle.capture_core.proofs.Restarts.{state_is, starts_reading}
+use Rattle.capture_core.proofs.Restarts.{state_is, starts_at, starts_reading}
 use Rattle.capture_core.proofs.Standing.{zip_at, within, member, sound_after, holds_after, stands_captured}
 use Rattle.capture_core.proofs.UnitsInTurn.{units_both, rows_both, left_after, left_few, count_on, captured_none, captured_both}
 use Rattle.capture_core.proofs.Working.{working_begun, working_on, working_closed, working_committed}
@@ -95,6 +96,22 @@ module _ {K : Type 0} (kept : K → Kept) (s0 : Sites K) (n every most : ℕ) wh
     -- ---- the beginning
 
     module _ (s1 : Sites K) (p : Progress) (opens : Opens kept s0 s1 n (ReadsState p.state)) (begins : IsStart p) where
+      -- what the transaction sees in a world, and that the state that was read is the server's
+      start_state : (w : World) → Stands (names s0) (held kept s0) w → (d : Contents) × (opens.working.now ≡ Some d) × Holds w (server_in w n) d × (p.state ≡ capture_state (server_in w n))
+      start_state w stands =
+          let server = server_in w n in
+          let below = within kept s0 call.closed w stands n call.lt in
+          let numbers = all_at_place NumbersAreSound w n (empty_server []) stands.sound.numbers below in
+          let log = all_at_place LogIsSound w n (empty_server []) stands.sound.logs below in
+          let c = zip_at (Reveals w) w (held kept s0) n (empty_server []) None stands.servers below in
+          let d = opens.working.does c.0 (ap (λ (l : List (Option Contents)). get_or l n None) opens.held ∙ c.1) in
+          let holds : Holds w server d.0 = subst (Holds w server) (sym d.2.0) c.2 in
+          (d.0, d.1, holds, state_is call.laws.within w server d.0 numbers log holds p.state begins.fits d.2.1)
+
+      -- so it begins at the server's restart
+      pub first_read : (w : World) → Stands (names s0) (held kept s0) w → p.read + 1 ≡ restart_after (server_in w n).log (server_in w n).captured
+      first_read w stands = starts_at (server_in w n) p begins (start_state w stands).3
+
       -- in a world no unit is taken
       start_in : (w : World) → Stands (names s0) (held kept s0) w → GoesIn w (held kept s1) p opens.working.now
       start_in w stands =
@@ -102,11 +119,7 @@ module _ {K : Type 0} (kept : K → Kept) (s0 : Sites K) (n every most : ℕ) wh
           let name = server.name in
           let below = within kept s0 call.closed w stands n call.lt in
           let numbers = all_at_place NumbersAreSound w n (empty_server []) stands.sound.numbers below in
-          let log = all_at_place LogIsSound w n (empty_server []) stands.sound.logs below in
-          let c = zip_at (Reveals w) w (held kept s0) n (empty_server []) None stands.servers below in
-          let d = opens.working.does c.0 (ap (λ (l : List (Option Contents)). get_or l n None) opens.held ∙ c.1) in
-          let holds : Holds w server d.0 = subst (Holds w server) (sym d.2.0) c.2 in
-          let state = state_is call.laws.within w server d.0 numbers log holds p.state begins.fits d.2.1 in
+          let d = start_state w stands in
           record {
             taken = [];
             done = [];
@@ -118,8 +131,8 @@ module _ {K : Type 0} (kept : K → Kept) (s0 : Sites K) (n every most : ℕ) wh
             units = begins.units;
             rows = begins.rows ∙ sym (min-eq_left {n = 0} {m = greatest} (omega arith));
             stands = subst (λ (q : List (Option Contents) × World). Stands (names s0) q.0 q.1) (λ i. (sym opens.held i, sym (captured_none name w) i)) stands;
-            has = λ e is. subst (HasServer server) (same_Some d.0 e (sym d.1 ∙ is)) (held_server call.laws.has w server d.0 holds);
-            reads = starts_reading call.laws.within call.laws.empty server numbers p begins state;
+            has = λ e is. subst (HasServer server) (same_Some d.0 e (sym d.1 ∙ is)) (held_server call.laws.has w server d.0 d.2);
+            reads = starts_reading call.laws.within call.laws.empty server numbers p begins d.3;
             past = [];
             events = λ more. ap (λ (v : World). commits_left every name 0 v more) (sym (captured_none name w)) ∙ sym (not_full every name 0 (captured name [] w) (λ e. omega (arith, e)) more);
             last = sym (captured_none name w);

@@ -17,8 +17,8 @@ use Rattle.stored_defs.specs.Known.{server_in}
 use Rattle.stored_defs.specs.laws.Standing.{all_at_place}
 use Rattle.world_store.specs.Stands.{Stands}
 use Rattle.capture_worlds.specs.Captures.{uncaptured, taken_units}
-use Rattle.capture_core.specs.Capturing.{commits_of, HasCapturedAll, HasStopped}
-use Rattle.capture_core.specs.Ending.{most_units, first_units, counts_of, HasEnded, HasFailed}
+use Rattle.capture_core.specs.Capturing.{commits_of, counts_of, HasCapturedAll, HasStopped}
+use Rattle.capture_core.specs.Ending.{most_units, first_units, HasEnded, HasFailed}
 use Rattle.capture_core.specs.Reading.{greatest}
 use Rattle.capture_core.specs.declared.captured.Captured.{Captured}
 use Rattle.capture_core.proofs.Standing.{within}

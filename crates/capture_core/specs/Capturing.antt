@@ -8,7 +8,7 @@ use Rattle.site_store.specs.Damage.{IsNoDamage}
 use Rattle.site_store.specs.Views.{names, held}
 use Rattle.run_core.specs.Runs.{Event, commits, Went, Stopped}
 use Rattle.repl_types.specs.declared.unit.Unit.{Unit}
-use Rattle.repl_model.specs.World.{World}
+use Rattle.repl_model.specs.World.{Server, World}
 use Rattle.world_store.specs.Stands.{Stands}
 use Rattle.stored_defs.specs.Known.{server_in}
 use Rattle.capture_worlds.specs.Captures.{with_units, captured, taken_units, all_rows_captured}
@@ -29,12 +29,13 @@ commits_of every name w us = map (λ k. commits (captured name (take k us) w)) (
 abbrev pub capture_events : ℕ → Option ℕ → ℕ → World → List (Event World)
 capture_events server units every w = let at = server_in w server in commits_of every at.name w (taken_units units at)
 
--- what a capture answers
+-- what a capture of these units at a server answers
+abbrev pub counts_of : List Unit → Server → Captured
+counts_of us at = record { upto = (with_units us at).captured; units = min (length us) greatest; rows = min (all_rows_captured us at) greatest }
+
+-- and one of so many units, or of all, at the server with a number
 abbrev pub captured_counts : ℕ → Option ℕ → World → Captured
-captured_counts server units w =
-    let at = server_in w server in
-    let us = taken_units units at in
-    record { upto = (with_units us at).captured; units = min (length us) greatest; rows = min (all_rows_captured us at) greatest }
+captured_counts server units w = let at = server_in w server in counts_of (taken_units units at) at
 
 -- ---- what is left of the servers
 

@@ -1,5 +1,5 @@
 -- How a capture of some of the units that aren't captured ends.
-use Rattle.std.specs.Prelude.{◌≡◌, ℕ, min, List, length, take, Option, Some, None, slice_index_or}
+use Rattle.std.specs.Prelude.{◌≡◌, ℕ, List, take, Option, Some, None, slice_index_or}
 use Rattle.repl_types.specs.declared.area.Area.{Area}
 use Rattle.repl_types.specs.declared.status.DamageCause.{DamageCause}
 use Rattle.faults.specs.declared.fault.Fault.{Fault}
@@ -10,15 +10,15 @@ use Rattle.site_store.specs.Views.{names, held, fault_counts}
 use Rattle.site_store.specs.Calls.{KeepsServers, Blames, NoneFell}
 use Rattle.run_core.specs.Runs.{Event, Went, Stopped}
 use Rattle.repl_types.specs.declared.unit.Unit.{Unit}
-use Rattle.repl_model.specs.World.{Server, World}
+use Rattle.repl_model.specs.World.{World}
 use Rattle.world_store.specs.Stands.{Stands}
 use Rattle.stored_defs.specs.Known.{server_in}
 use Rattle.log_rows.specs.SourceTables.{TypedChangesHaveRows}
-use Rattle.capture_worlds.specs.Captures.{with_units, uncaptured, all_rows_captured}
+use Rattle.capture_worlds.specs.Captures.{uncaptured}
 use Rattle.capture_worlds.specs.StaysSound.{CapturesSound, OthersAreNext}
 use Rattle.capture_logs.specs.Reading.{StartsEmpty}
 use Rattle.capture_store.specs.CapturedServers.{HoldsCaptured, CapturedHolds, OthersHold}
-use Rattle.capture_core.specs.Capturing.{commits_of}
+use Rattle.capture_core.specs.Capturing.{commits_of, counts_of}
 use Rattle.capture_core.specs.Reading.{greatest, UnitsAreWithin}
 use Rattle.capture_core.specs.Rules.{rules}
 use Rattle.capture_core.specs.declared.captured.Captured.{Captured}
@@ -35,10 +35,6 @@ first_units server most w = take most (uncaptured (server_in w server))
 -- the commits of their capture
 abbrev pub first_commits : ℕ → ℕ → ℕ → World → List (Event World)
 first_commits server most every w = commits_of every (server_in w server).name w (first_units server most w)
-
--- what a capture of units answers
-abbrev pub counts_of : List Unit → Server → Captured
-counts_of us server = record { upto = (with_units us server).captured; units = min (length us) greatest; rows = min (all_rows_captured us server) greatest }
 
 -- what a server holds shows damage
 abbrev pub HeldDamage : {K : Type 0} → (K → Kept) → Sites K → ℕ → ℕ → Area → DamageCause → Type 0

@@ -1,11 +1,12 @@
 //! The capture of a server's log.
 
-ghost use Rattle.std.specs.Prelude.{◌≡◌, ◌<◌, ◌≤◌, length, OnOk, IfOk, IfErr};
+ghost use Rattle.std.specs.Prelude.{◌≡◌, ◌<◌, length, IfOk, IfErr};
 ghost use Rattle.repl_model.specs.World.{World};
 ghost use Rattle.site_store.specs.Servers.{AllClosed};
 ghost use Rattle.site_store.specs.Views.{names, held, work};
 ghost use Rattle.site_store.specs.Calls.{KeepsServers, Blames};
 ghost use Rattle.world_store.specs.Stands.{Stands};
+ghost use Rattle.capture_core.specs.LogReads.{ReadsFromRestart};
 ghost use Rattle.capture_core.specs.Rules.{ShowsDamage};
 ghost use Rattle.capture_core.specs.Capturing.{HasCapturedAll, HasStopped};
 ghost use Rattle.capture_core.specs.Ending.{HasEnded, HasFailed};
@@ -43,6 +44,7 @@ fn capture_units<K: Keeper>(
     requires every { 0 < every }
     ensures ok { IfOk result (HasEnded K.kept sites.old sites.new server most every) }
     ensures fault { IfErr result (HasFailed K.kept sites.old sites.new server most every) }
+    ensures reads { ReadsFromRestart K.kept sites.old sites.new server }
 {
     laws_of_worlds();
     let mut progress = begin_capture(sites, alloc, server)?;
@@ -61,7 +63,8 @@ fn capture_units<K: Keeper>(
 
 /// Captures the units of a server's log that aren't captured, or the first `units` of them, with a
 /// commit after each `every` units and after the last one, and answers how far the server is
-/// captured then and what was written. If there is no such unit, nothing is committed.
+/// captured then and what was written. If there is no such unit, nothing is committed. Each record
+/// of the log from the restart on is read once at most.
 ///
 /// After a fault the first of these commits took place, and one that failed may have, too. What is
 /// said of a world holds if the servers stand for one and reveal what they hold.
@@ -84,6 +87,7 @@ pub fn capture<K: Keeper>(
     ensures blames { IfErr result (Blames K.kept sites.old sites.new
         (ShowsDamage K.kept sites.new server)) }
     ensures servers { KeepsServers K.kept sites.old sites.new }
+    ensures reads { ReadsFromRestart K.kept sites.old sites.new server }
 {
     match capture_units(sites, alloc, server, most_units(units), every) {
         Ok(captured) => Ok(captured),

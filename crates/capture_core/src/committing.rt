@@ -5,6 +5,7 @@ ghost use Rattle.site_store.specs.Servers.{AllClosed};
 ghost use Rattle.site_store.specs.Views.{names, work, IsOpenAt};
 ghost use Rattle.site_store.specs.Calls.{ClosesOne};
 ghost use Rattle.server_steps.specs.Calls.{Breaks};
+ghost use Rattle.cd_tables.specs.Reading.{ReadsNoLog};
 ghost use Rattle.capture_core.specs.Rules.{rules};
 ghost use Rattle.capture_core.specs.Reading.{KeepsTyped};
 ghost use Rattle.capture_core.specs.Committing.{IsStart, Opens, ReadsState};
@@ -56,6 +57,7 @@ pub fn begin_capture<K: Keeper>(
     ensures start { IfOk result IsStart }
     ensures typed { IfOk result KeepsTyped }
     ensures fault { IfErr result (Breaks rules K.kept sites.old sites.new server) }
+    ensures reads { ReadsNoLog K.kept sites.old sites.new }
 {
     sites.begin(server)?;
     let state = sites.get_state::<CaptureState>(alloc, server, Table0, &Single, FIRST_STATE)?;
@@ -73,6 +75,7 @@ pub fn commit_units<K: Keeper>(
     requires open { IsOpenAt (work K.kept sites.old) server }
     ensures ok { OnOk result (CommitsUnits K.kept sites.old sites.new server state.now) }
     ensures fault { IfErr result (MayCommitUnits K.kept sites.old sites.new server state.now) }
+    ensures reads { ReadsNoLog K.kept sites.old sites.new }
 {
     sites.put::<CaptureState>(alloc, server, Table0, &Single, state)?;
     sites.commit(server)?;
@@ -100,6 +103,7 @@ pub fn end_capture<K: Keeper>(
     }) }
     ensures fault { IfErr result (λ e. (0 < progress.now.waiting)
         × MayCommitUnits K.kept sites.old sites.new server progress.now.state e) }
+    ensures reads { ReadsNoLog K.kept sites.old sites.new }
 {
     let captured = Captured {
         upto: progress.state.captured,

@@ -3,7 +3,10 @@
 ghost use Rattle.std.specs.Prelude.{◌≡◌, ◌<◌, true, length, OnOk, IfOk, IfErr, IfSome};
 ghost use Rattle.std.specs.List.{AllByRecursion};
 ghost use Rattle.repl_model.specs.Units.{unit_of};
+ghost use Rattle.std.specs.Bool.{OnTrue};
 ghost use Rattle.cd_tables.specs.Appending.{IsTyped};
+ghost use Rattle.cd_tables.specs.Reading.{ReadsNoLog};
+ghost use Rattle.capture_core.specs.LogReads.{ReadsLog, ReadsEachOnce, ReadsFurther};
 ghost use Rattle.site_store.specs.Views.{names, work, sees, IsOpenAt};
 ghost use Rattle.server_steps.specs.Calls.{Looks, GoesOn, Breaks};
 ghost use Rattle.capture_core.specs.Rules.{rules};
@@ -52,6 +55,7 @@ fn next_record<K: Keeper>(
         (IsNextRecord read next)) }
     ensures rises { IfOk result (λ next. IfSome next (IsLoggedAfter read)) }
     ensures fault { IfErr result (Breaks rules K.kept sites.old sites.new server) }
+    ensures reads { ReadsLog K.kept sites.old sites.new server 1 }
 {
     let next = sites.next::<LogRecord>(alloc, server, Table0, Some(&read))?;
     Ok(next)
@@ -84,6 +88,7 @@ fn take_commit<K: Keeper>(
     ensures read { OnOk result (progress.new.read ≡ progress.old.read) }
     ensures counts { OnOk result (Counts true progress.old progress.new) }
     ensures fault { IfErr result (Breaks rules K.kept sites.old sites.new server) }
+    ensures reads { ReadsNoLog K.kept sites.old sites.new }
 {
     let rows = append_changes(sites, alloc, server, unit)?;
     progress.state = CaptureState {
@@ -116,6 +121,7 @@ fn take_record<K: Keeper>(
     ensures read { OnOk result (progress.new.read ≡ pos) }
     ensures counts { IfOk result (λ taken. Counts taken progress.old progress.new) }
     ensures fault { IfErr result (Breaks rules K.kept sites.old sites.new server) }
+    ensures reads { ReadsNoLog K.kept sites.old sites.new }
 {
     laws_of_logs();
     progress.read = pos;
@@ -161,6 +167,9 @@ pub fn take_unit<K: Keeper>(
     ensures typed { OnOk result (KeepsTyped progress.new) }
     ensures counts { IfOk result (λ taken. Counts taken progress.old progress.new) }
     ensures fault { IfErr result (Breaks rules K.kept sites.old sites.new server) }
+    ensures once { IfOk result (λ taken. OnTrue taken
+        (ReadsEachOnce K.kept sites.old sites.new server progress.old progress.new)) }
+    ensures further { ReadsFurther K.kept sites.old sites.new server progress.old }
 {
     laws_of_logs();
     loop {

@@ -7,3 +7,7 @@ mod PutRows
 mod Carried
 mod Elsewhere
 mod Parts
+mod FoundRows
+mod RowsShown
+mod DroppedRows
+mod ShownCodes

@@ -1,3 +1,9 @@
 pub mod Rules
+pub mod Reading
 pub mod Clearing
 pub mod Appending
+pub mod StoredRows
+pub mod Captured
+pub mod Finding
+pub mod Dropping
+pub mod laws

@@ -13,6 +13,7 @@ ghost use Rattle.capture_rows.specs.StoredChanges.{is_captured as is_captured_le
 ghost use Rattle.capture_rows.specs.StoredChanges.{stored_change as stored_change_lem};
 ghost use Rattle.capture_rows.specs.StoredChanges.{with_change_rows, with_rows_of, rows_put};
 ghost use Rattle.capture_rows.specs.StoredChanges.{started, stopped, with_change};
+ghost use Rattle.cd_tables.specs.Reading.{ReadsNoLog};
 ghost use Rattle.cd_tables.specs.Rules.{rules, IsRegistrationOf};
 ghost use Rattle.cd_tables.specs.Appending.{CanBeStored, Becomes, AppendsChange};
 
@@ -69,6 +70,7 @@ fn put_change_rows<K: Keeper>(
     ensures ok { OnOk result (GoesOn K.kept sites.old sites.new server
         (Becomes (with_change_rows number rows))) }
     ensures fault { IfErr result (FailsToWrite K.kept sites.old sites.new) }
+    ensures reads { ReadsNoLog K.kept sites.old sites.new }
 {
     for row in rows.into_vec() {
         let (key, stored) = stored_change(row);
@@ -116,6 +118,7 @@ fn put_rows_of<K: Keeper>(
     ensures count { IfOk result (λ rows. (rows ≡ rows_put seq placed.now reg.now state.now)
         × (rows ≤ 2)) }
     ensures fault { IfErr result (FailsToWrite K.kept sites.old sites.new) }
+    ensures reads { ReadsNoLog K.kept sites.old sites.new }
 {
     if !is_captured(seq, state) {
         return Ok(0);
@@ -141,6 +144,7 @@ fn start<K: Keeper>(
     ensures ok { OnOk result (GoesOn K.kept sites.old sites.new server
         (Becomes (started seq number state.now))) }
     ensures fault { IfErr result (FailsToWrite K.kept sites.old sites.new) }
+    ensures reads { ReadsNoLog K.kept sites.old sites.new }
 {
     if state.active {
         return Ok(());
@@ -168,6 +172,7 @@ fn stop<K: Keeper>(
     ensures ok { OnOk result (GoesOn K.kept sites.old sites.new server
         (Becomes (stopped number state.now))) }
     ensures fault { IfErr result (Breaks rules K.kept sites.old sites.new server) }
+    ensures reads { ReadsNoLog K.kept sites.old sites.new }
 {
     if !state.active {
         return Ok(());
@@ -203,6 +208,7 @@ fn carry_out<K: Keeper>(
     ensures count { IfOk result (λ rows. (rows ≡ rows_put seq placed.now reg.now state.now)
         × (rows ≤ 2)) }
     ensures fault { IfErr result (Breaks rules K.kept sites.old sites.new server) }
+    ensures reads { ReadsNoLog K.kept sites.old sites.new }
 {
     match &placed.change {
         Change::Insert { .. } | Change::Update { .. } | Change::Delete { .. } => {
@@ -235,6 +241,7 @@ pub fn append_change<K: Keeper>(
         (AppendsChange seq placed.now rows)) }
     ensures few { IfOk result (λ rows. rows ≤ 2) }
     ensures fault { IfErr result (Breaks rules K.kept sites.old sites.new server) }
+    ensures reads { ReadsNoLog K.kept sites.old sites.new }
 {
     let name = table_of(&placed.change);
     let Some(reg) = read_registration(sites, alloc, server, name)? else {

@@ -6,6 +6,7 @@ ghost use Rattle.site_store.specs.Records.{after_key};
 ghost use Rattle.site_store.specs.Views.{names, work, IsOpenAt};
 ghost use Rattle.server_steps.specs.Calls.{GoesOn, Breaks};
 ghost use Rattle.capture_rows.specs.StoredChanges.{with_cleared};
+ghost use Rattle.cd_tables.specs.Reading.{ReadsNoLog};
 ghost use Rattle.cd_tables.specs.Rules.{rules};
 ghost use Rattle.cd_tables.specs.Clearing.{ClearsNext, IsCleared};
 ghost use Rattle.cd_tables.specs.Appending.{Becomes};
@@ -33,6 +34,7 @@ fn clear_next<K: Keeper>(
     ensures rises { let after = after_key change_key_spelling last in
         IfOk result (λ next. IfSome next (IsCleared after)) }
     ensures fault { IfErr result (Breaks rules K.kept sites.old sites.new server) }
+    ensures reads { ReadsNoLog K.kept sites.old sites.new }
 {
     let row = sites.next::<ChangeRow>(alloc, server, number, last.as_ref())?;
     let Some((key, _row)) = row else {
@@ -54,6 +56,7 @@ pub fn clear_changes<K: Keeper>(
     ensures ok { OnOk result (GoesOn K.kept sites.old sites.new server
         (Becomes (with_cleared number))) }
     ensures fault { IfErr result (Breaks rules K.kept sites.old sites.new server) }
+    ensures reads { ReadsNoLog K.kept sites.old sites.new }
 {
     let mut last = None;
     loop {

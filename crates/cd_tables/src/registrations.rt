@@ -4,6 +4,7 @@ ghost use Rattle.std.specs.Prelude.{◌≡◌, ◌<◌, length, OnOk, IfOk, IfEr
 ghost use Rattle.repl_records.specs.Capture.{IsRegistrationState};
 ghost use Rattle.site_store.specs.Views.{names, sees};
 ghost use Rattle.server_steps.specs.Calls.{Looks, Breaks};
+ghost use Rattle.cd_tables.specs.Reading.{ReadsNoLog};
 ghost use Rattle.cd_tables.specs.Rules.{rules, is_of_table as is_of_table_lem, FindsRegistration};
 ghost use Rattle.cd_tables.specs.Rules.{HasStateOf, IsRegistrationOf, IsRegistrationIn};
 
@@ -41,6 +42,7 @@ pub fn read_registration<K: Keeper>(
         (FindsRegistration name.now found)) }
     ensures fits { IfOk result (λ found. IfSome found (IsRegistrationOf name.now)) }
     ensures fault { IfErr result (Breaks rules K.kept sites.old sites.new server) }
+    ensures reads { ReadsNoLog K.kept sites.old sites.new }
 {
     let found = sites.get::<DefinedRegistration>(alloc, server, Table1, name)?;
     let Some(reg) = found else {
@@ -67,6 +69,7 @@ pub fn read_state<K: Keeper>(
         (HasStateOf reg.now state)) }
     ensures fits { IfOk result IsRegistrationState }
     ensures fault { IfErr result (Breaks rules K.kept sites.old sites.new server) }
+    ensures reads { ReadsNoLog K.kept sites.old sites.new }
 {
     let state = sites.get_needed::<RegState>(alloc, server, Table1, &reg.number)?;
     Ok(state)

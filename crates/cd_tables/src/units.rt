@@ -6,6 +6,7 @@ ghost use Rattle.site_store.specs.Damage.{ShownBefore};
 ghost use Rattle.site_store.specs.Views.{names, work, IsOpenAt};
 ghost use Rattle.server_steps.specs.Calls.{GoesOn, Breaks, FailsToWrite};
 ghost use Rattle.capture_rows.specs.StoredChanges.{with_uow_row};
+ghost use Rattle.cd_tables.specs.Reading.{ReadsNoLog};
 ghost use Rattle.cd_tables.specs.Rules.{rules};
 ghost use Rattle.cd_tables.specs.Appending.{Becomes, CapturesUnit, IsTyped};
 
@@ -48,6 +49,7 @@ fn put_unit<K: Keeper>(
     ensures ok { OnOk result (GoesOn K.kept sites.old sites.new server
         (Becomes (with_uow_row head.now))) }
     ensures fault { IfErr result (FailsToWrite K.kept sites.old sites.new) }
+    ensures reads { ReadsNoLog K.kept sites.old sites.new }
 {
     let row = unit_row(head)?;
     sites.put::<UowRow>(alloc, server, Table0, &head.seq, &row)?;
@@ -71,6 +73,7 @@ pub fn append_changes<K: Keeper>(
         (CapturesUnit unit.now rows)) }
     ensures shown { OnOk result (GoesOn K.kept sites.old sites.new server (ShownBefore rules)) }
     ensures fault { IfErr result (Breaks rules K.kept sites.old sites.new server) }
+    ensures reads { ReadsNoLog K.kept sites.old sites.new }
 {
     laws_of_units();
     put_unit(sites, alloc, server, &unit.head)?;

@@ -26,7 +26,8 @@ use Rattle.stored_defs.specs.Known.{server_in}
 use Rattle.stored_defs.specs.laws.Standing.{holds_defs, keeps_at}
 use Rattle.show_source.specs.Replies.{change_reply, change_text, registered_named, stored_change_line, stored_unit_line, unit_text}
 use Rattle.show_source.specs.Records.{AreShown, rows_text, TakesRows, TakesSomeRows}
-use Rattle.show_source.proofs.CapturedChanges.{change_rows_are, change_text_is, has_few_columns}
+use Rattle.show_source.proofs.CapturedChanges.{change_rows_are, change_text_is}
+use Rattle.cd_tables.specs.laws.SoundChanges.{has_few_columns}
 use Rattle.show_source.proofs.CapturedUnits.{unit_rows_are, unit_text_is}
 use Rattle.show_source.proofs.Registrations.{IsRegisteredAt, is_registered, not_registered}
 use Rattle.show_source.proofs.Standing.{holds_registered, holds_units, numbers_at, read_at, sound_at}

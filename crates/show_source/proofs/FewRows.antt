@@ -1,7 +1,7 @@
 -- A table of the source has no more rows than can be counted.
-use Rattle.std.proofs.Common.{ℕ, ◌+◌, ◌-◌, ◌*◌, ◌≤◌, Bool, true, false, cond, List, [], ◌∷◌, length, sym, subst, arith, lit≤}
+use Rattle.std.proofs.Common.{ℕ, ◌+◌, ◌-◌, ◌*◌, ◌≤◌, Bool, true, false, cond, List, [], ◌∷◌, length, length-append, sym, subst, arith, lit≤}
 use Rattle.std.specs.Prelude.{◌&&◌, nat_lt, nat_le, filter, IfSome}
-use Rattle.std.specs.List.{AllByRecursion, enumerate_from}
+use Rattle.std.specs.List.{AllByRecursion, enumerate_from, flat_map}
 use Rattle.std.specs.FinMap.{empty, entries, insert, remove, contains_key, len, len-empty, len-entries, len-insert, len-remove}
 use Rattle.std.specs.Str.{bytes_eq}
 use Rattle.std.proofs.Math.Nat.{suc-mul}
@@ -126,3 +126,10 @@ source_few def log point short =
     let square = mul-le (length log) (length log) log_limit log_limit short short in
     let counted : log_limit * log_limit ≤ count_max = lit≤ tt in
     omega (arith, source_small def log point, square, counted, len-entries (source_at def log point))
+
+-- if a function gives at most this many of each element, it gives so many times as many
+pub flat_map_few : {X Y : Type 0} (limit : ℕ) (f : X → List Y) (xs : List X) → AllByRecursion (λ x. length (f x) ≤ limit) xs → length (flat_map f xs) ≤ length xs * limit
+flat_map_few limit f [] all = omega arith
+flat_map_few limit f (x ∷ xs) all =
+    let here : length (f x) ≤ limit = all.0 in
+    omega (arith, here, flat_map_few limit f xs all.1, length-append (f x) (flat_map f xs), suc-mul (length xs) limit)

@@ -3,7 +3,6 @@ pub mod CapturedChanges
 pub mod CapturedStanding
 pub mod CapturedUnits
 pub mod FewRows
-pub mod InOrder
 pub mod LogRecords
 pub mod Pieces
 pub mod Registrations

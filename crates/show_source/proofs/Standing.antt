@@ -49,7 +49,8 @@ use Rattle.show_source.specs.Replies.{log_text, source_text, table_reply}
 use Rattle.show_source.specs.Records.{AreShown, rows_text, TakesRows, TakesSomeRows}
 use Rattle.show_source.specs.Rules.{rules, ShowsDamage}
 use Rattle.load_worlds.specs.laws.Members.{at_one}
-use Rattle.show_source.proofs.CapturedChanges.{has_few_columns, change_rows_are}
+use Rattle.show_source.proofs.CapturedChanges.{change_rows_are}
+use Rattle.cd_tables.specs.laws.SoundChanges.{has_few_columns}
 use Rattle.show_source.proofs.CapturedUnits.{unit_rows_are}
 use Rattle.show_source.proofs.LogRecords.{log_records_are, log_text_is}
 use Rattle.show_source.proofs.SourceRows.{source_rows_fit, source_rows_are, source_text_is}

@@ -9,8 +9,8 @@
 //! memory that they need doesn't grow with the table. They change nothing.
 //!
 //! The crate stands on `site_store`, by which it reads, on `world_store`, which says what a server
-//! of a world keeps, on `log_rows` and `stored_defs`, which say what holds of these rows, and on
-//! `reply_text`, which writes the lines. `show_command` carries out the commands by it.
+//! of a world keeps, on `log_rows`, `stored_defs` and `cd_tables`, which say what holds of these
+//! rows, and on `reply_text`, which writes the lines. `show_command` carries out the commands by it.
 //!
 //! For example, of a table with the rows (1, 'pen') and (2, 'red ink') it writes `row 1 'pen'`,
 //! `row 2 'red ink'` and `ok rows 2`.

@@ -1,7 +1,10 @@
-use Rattle.std.proofs.Common.{◌≡◌, ◌<◌, arith}
+use Rattle.std.proofs.Common.{◌≡◌, ◌-◌, ◌<◌, arith}
 use Rattle.std.proofs.lemmas.Result.{err_from_is_err_and}
+use Rattle.repl_types.specs.declared.area.Area.TheVariants as areas
+use Rattle.cd_tables.specs.Reading.{ReadsNoLog}
 use Rattle.capture_core.proofs.Ends.{begin_fails, read_fails, commit_fails, due_if_full, all_if_most, all_if_none, end_ok, end_err}
 use Rattle.capture_core.proofs.Faults.{not_begun}
+use Rattle.capture_core.proofs.LogReads.{none_read, reads_on, each_then, further_on, none_further, reads_to_end}
 use Rattle.capture_core.proofs.UnderWay.{IsCalled, starts, takes_unit, takes_all, next_batch}
 use Rattle.capture_core.proofs.capturing.capture_units.Goals as goal
 
@@ -27,6 +30,7 @@ units-init g c =
     let begins = c.in_ok-progress.ensures.start in
     record {
       way = starts kept s0 n every most call c.begin_capture.new.sites c.in_ok-progress.progress c.in_ok-progress.ensures.ok begins c.in_ok-progress.ensures.typed;
+      each = none_read kept s0 c.begin_capture.new.sites n c.in_ok-progress.progress c.in_ok-progress.ensures.reads;
       batch = omega (arith, begins.waiting, call.some);
     }
 
@@ -124,7 +128,9 @@ units-preserved-then-progress-every g c =
     let q = c.take_unit.new.progress in
     let way = takes_unit kept s0 n every most call s1 s2 p q c.units.invariant.way c.units.invariant.batch c.units-test.true (rw c.if-not-branch.false at c.in_ok-take_unit.ensures.ok) c.in_ok-take_unit.ensures.typed (rw c.if-not-branch.false at c.in_ok-take_unit.ensures.counts) in
     let full : q.waiting ≡ every = omega (arith, way.batch, c.if-progress-every.true) in
-    record { way = next_batch kept s0 n every most call s2 c.commit_units.new.sites c.begin.new.self q way full c.in_ok-commit_units.ensures.ok c.in_ok-begin.ensures.ok; batch = call.some }
+    let each = each_then kept s0 s1 s2 n c.in_ok-progress.progress p q c.units.invariant.each (rw c.if-not-branch.false at c.in_ok-take_unit.ensures.once) in
+    let none : ReadsNoLog kept s2 c.begin.new.self = λ s. omega (arith, c.in_ok-commit_units.ensures.reads s, c.in_ok-begin.ensures.ok.passes.within.reads s areas.Log) in
+    record { each = record { low = each.low; reads = reads_on kept s0 s2 c.begin.new.self n (q.read - c.in_ok-progress.progress.read) each.reads none }; way = next_batch kept s0 n every most call s2 c.commit_units.new.sites c.begin.new.self q way full c.in_ok-commit_units.ensures.ok c.in_ok-begin.ensures.ok; batch = call.some }
 
 pub units-preserved : goal.units-preserved
 units-preserved g c =
@@ -139,7 +145,8 @@ units-preserved g c =
     let p = c.units.progress in
     let q = c.take_unit.new.progress in
     let way = takes_unit kept s0 n every most call s1 s2 p q c.units.invariant.way c.units.invariant.batch c.units-test.true (rw c.if-not-branch.false at c.in_ok-take_unit.ensures.ok) c.in_ok-take_unit.ensures.typed (rw c.if-not-branch.false at c.in_ok-take_unit.ensures.counts) in
-    record { way = way; batch = omega (arith, c.if-progress-every.false) }
+    let each = each_then kept s0 s1 s2 n c.in_ok-progress.progress p q c.units.invariant.each (rw c.if-not-branch.false at c.in_ok-take_unit.ensures.once) in
+    record { each = each; way = way; batch = omega (arith, c.if-progress-every.false) }
 
 pub returns-clause-ok : goal.returns-clause-ok
 returns-clause-ok g c =
@@ -168,3 +175,67 @@ returns-clause-fault g c =
     let way = c.units.invariant.way in
     let all = all_if_most kept s0 n every most call s1 p way (omega (arith, c.units-test.false)) in
     end_err kept s0 n every most call s1 p way all c.units.invariant.batch c.end_capture-2.new.sites c.end_capture-2.result c.end_capture-2.ensures.fault
+
+pub returns-in_err-take_unit-clause-reads : goal.returns-in_err-take_unit-clause-reads
+returns-in_err-take_unit-clause-reads g c =
+    let kept = g.K.Keeper.kept in
+    let s0 = c.args.sites.now in
+    let n = c.args.server in
+    let every = c.args.every in
+    let most = c.args.most in
+    let call : IsCalled kept s0 n every most = record { laws = c.laws_of_worlds.ensures; closed = c.requires.closed; lt = c.requires.server; some = c.requires.every; small = omega arith } in
+    let s1 = c.units.sites in
+    let s2 = c.take_unit.new.sites in
+    let first = c.in_ok-progress.progress in
+    reads_to_end kept s0 n every most call c.begin_capture.new.sites s1 s2 first c.units.progress c.in_ok-progress.ensures.ok c.in_ok-progress.ensures.start c.units.invariant.way c.units.invariant.each c.in_err-take_unit.ensures.further
+
+pub returns-then-not-branch-clause-reads : goal.returns-then-not-branch-clause-reads
+returns-then-not-branch-clause-reads g c =
+    let kept = g.K.Keeper.kept in
+    let s0 = c.args.sites.now in
+    let n = c.args.server in
+    let every = c.args.every in
+    let most = c.args.most in
+    let call : IsCalled kept s0 n every most = record { laws = c.laws_of_worlds.ensures; closed = c.requires.closed; lt = c.requires.server; some = c.requires.every; small = omega arith } in
+    let s1 = c.units.sites in
+    let s2 = c.take_unit.new.sites in
+    let first = c.in_ok-progress.progress in
+    further_on kept s0 s2 c.end_capture.new.sites n (reads_to_end kept s0 n every most call c.begin_capture.new.sites s1 s2 first c.units.progress c.in_ok-progress.ensures.ok c.in_ok-progress.ensures.start c.units.invariant.way c.units.invariant.each c.in_ok-take_unit.ensures.further) c.end_capture.ensures.reads
+
+pub returns-in_err-commit_units-clause-reads : goal.returns-in_err-commit_units-clause-reads
+returns-in_err-commit_units-clause-reads g c =
+    let kept = g.K.Keeper.kept in
+    let s0 = c.args.sites.now in
+    let n = c.args.server in
+    let every = c.args.every in
+    let most = c.args.most in
+    let call : IsCalled kept s0 n every most = record { laws = c.laws_of_worlds.ensures; closed = c.requires.closed; lt = c.requires.server; some = c.requires.every; small = omega arith } in
+    let s1 = c.units.sites in
+    let s2 = c.take_unit.new.sites in
+    let first = c.in_ok-progress.progress in
+    further_on kept s0 s2 c.commit_units.new.sites n (reads_to_end kept s0 n every most call c.begin_capture.new.sites s1 s2 first c.units.progress c.in_ok-progress.ensures.ok c.in_ok-progress.ensures.start c.units.invariant.way c.units.invariant.each c.in_ok-take_unit.ensures.further) c.in_err-commit_units.ensures.reads
+
+pub returns-in_err-begin-clause-reads : goal.returns-in_err-begin-clause-reads
+returns-in_err-begin-clause-reads g c =
+    let kept = g.K.Keeper.kept in
+    let s0 = c.args.sites.now in
+    let n = c.args.server in
+    let every = c.args.every in
+    let most = c.args.most in
+    let call : IsCalled kept s0 n every most = record { laws = c.laws_of_worlds.ensures; closed = c.requires.closed; lt = c.requires.server; some = c.requires.every; small = omega arith } in
+    let s1 = c.units.sites in
+    let s2 = c.take_unit.new.sites in
+    let first = c.in_ok-progress.progress in
+    further_on kept s0 s2 c.begin.new.self n (reads_to_end kept s0 n every most call c.begin_capture.new.sites s1 s2 first c.units.progress c.in_ok-progress.ensures.ok c.in_ok-progress.ensures.start c.units.invariant.way c.units.invariant.each c.in_ok-take_unit.ensures.further) (λ s. omega (arith, c.in_ok-commit_units.ensures.reads s, c.in_err-begin.ensures.fault.closes.passes.within.reads s areas.Log))
+
+pub returns-clause-reads : goal.returns-clause-reads
+returns-clause-reads g c =
+    let kept = g.K.Keeper.kept in
+    let s0 = c.args.sites.now in
+    let n = c.args.server in
+    let every = c.args.every in
+    let most = c.args.most in
+    let call : IsCalled kept s0 n every most = record { laws = c.laws_of_worlds.ensures; closed = c.requires.closed; lt = c.requires.server; some = c.requires.every; small = omega arith } in
+    let s1 = c.units.sites in
+    let first = c.in_ok-progress.progress in
+    further_on kept s0 s1 c.end_capture-2.new.sites n (reads_to_end kept s0 n every most call c.begin_capture.new.sites s1 s1 first c.units.progress c.in_ok-progress.ensures.ok c.in_ok-progress.ensures.start c.units.invariant.way c.units.invariant.each (none_further kept s1 n c.units.progress)) c.end_capture-2.ensures.reads

@@ -1,4 +1,4 @@
-use Rattle.std.proofs.Common.{refl, ◌∙◌}
+use Rattle.std.proofs.Common.{refl, ◌∙◌, arith}
 use Rattle.std.specs.Prelude.{Some, None}
 use Rattle.std.proofs.lemmas.Result.{err_from_is_err_and}
 use Rattle.server_steps.specs.laws.Damage.{breaks_on}
@@ -6,6 +6,7 @@ use Rattle.server_steps.specs.laws.Steps.{goes_none, goes_as, goes_then}
 use Rattle.capture_core.specs.Reading.{IsNextRecord, ReadsOn, ReadsAll, ReadsUnit, TakesNone, TakesOne}
 use Rattle.capture_core.specs.Rules.{rules}
 use Rattle.capture_core.proofs.Calls.{goes_read, same_shown}
+use Rattle.capture_core.proofs.LogReads.{none_read, read_next, reads_on, reads_further}
 use Rattle.capture_core.proofs.ReadLogs.{reads_none, reads_more, reads_unit, reads_all}
 use Rattle.capture_core.proofs.reading.take_unit.Goals as goal
 
@@ -13,6 +14,7 @@ pub loop-pos-init : goal.loop-pos-init
 loop-pos-init g c = record {
   typed = c.requires.typed;
   counts = (refl, refl);
+  each = none_read g.K.Keeper.kept c.args.sites.now c.args.sites.now c.args.server c.args.progress.now (λ s. omega arith);
   goes = goes_none g.K.Keeper.kept c.args.sites.now c.args.server (ReadsOn c.args.progress.now c.args.progress.now) c.requires.open (reads_none c.args.progress.now);
 }
 
@@ -71,5 +73,24 @@ loop-pos-preserved g c =
     record {
       typed = c.in_ok-take_record.ensures.typed;
       counts = (counts.0 ∙ c.loop-pos.invariant.counts.0, counts.1 ∙ c.loop-pos.invariant.counts.1);
+      each = read_next kept s0 c.loop-pos.sites c.take_record.new.sites c.args.server p q r c.loop-pos.invariant.each (reads_on kept c.loop-pos.sites s2 c.take_record.new.sites c.args.server 1 c.in_ok-pos.ensures.reads c.in_ok-take_record.ensures.reads) (omega (arith, c.in_ok-take_record.ensures.read, (rw c.in-Some.is at c.in_ok-pos.ensures.rises).above));
       goes = goes_then kept s0 s2 c.take_record.new.sites c.args.server (λ x y. ReadsOn p q x y × N y) (TakesNone q r pos logged) (ReadsOn p r) c.requires.open saw (rw c.if-branch.false at c.in_ok-take_record.ensures.ok) (λ x y z on takes. reads_more p q r x y z pos logged on.0 (rw c.in-Some.is at c.in_ok-pos.ensures.rises) on.1 takes);
     }
+
+pub returns-in_err-pos-clause-further : goal.returns-in_err-pos-clause-further
+returns-in_err-pos-clause-further g c = reads_further g.K.Keeper.kept c.args.sites.now c.loop-pos.sites c.next_record.new.sites c.args.server c.args.progress.now c.loop-pos.progress c.loop-pos.invariant.goes c.loop-pos.invariant.each c.in_err-pos.ensures.reads
+
+pub returns-in_default-clause-further : goal.returns-in_default-clause-further
+returns-in_default-clause-further g c = reads_further g.K.Keeper.kept c.args.sites.now c.loop-pos.sites c.next_record.new.sites c.args.server c.args.progress.now c.loop-pos.progress c.loop-pos.invariant.goes c.loop-pos.invariant.each c.in_ok-pos.ensures.reads
+
+pub returns-in_err-take_record-clause-further : goal.returns-in_err-take_record-clause-further
+returns-in_err-take_record-clause-further g c =
+    let kept = g.K.Keeper.kept in
+    let one = reads_on kept c.loop-pos.sites c.next_record.new.sites c.take_record.new.sites c.args.server 1 c.in_ok-pos.ensures.reads c.in_err-take_record.ensures.reads in
+    reads_further kept c.args.sites.now c.loop-pos.sites c.take_record.new.sites c.args.server c.args.progress.now c.loop-pos.progress c.loop-pos.invariant.goes c.loop-pos.invariant.each one
+
+pub returns-then-branch-clause-further : goal.returns-then-branch-clause-further
+returns-then-branch-clause-further g c =
+    let kept = g.K.Keeper.kept in
+    let one = reads_on kept c.loop-pos.sites c.next_record.new.sites c.take_record.new.sites c.args.server 1 c.in_ok-pos.ensures.reads c.in_ok-take_record.ensures.reads in
+    reads_further kept c.args.sites.now c.loop-pos.sites c.take_record.new.sites c.args.server c.args.progress.now c.loop-pos.progress c.loop-pos.invariant.goes c.loop-pos.invariant.each one

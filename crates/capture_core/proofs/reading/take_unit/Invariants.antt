@@ -1,5 +1,6 @@
 use Rattle.std.proofs.Common.{◌-◌, ◌^◌, false}
 use Rattle.server_steps.specs.Calls.{GoesOn}
+use Rattle.capture_core.specs.LogReads.{ReadsEachOnce}
 use Rattle.capture_core.specs.Reading.{KeepsTyped, Counts, ReadsOn}
 use Rattle.capture_core.proofs.reading.take_unit.Given as goal
 
@@ -7,6 +8,7 @@ abbrev pub invariant-loop-pos : goal.invariant-loop-pos
 invariant-loop-pos g l = record {
   typed : KeepsTyped l.progress;
   counts : Counts false l.fn.progress l.progress;
+  each : ReadsEachOnce g.K.Keeper.kept l.fn.sites l.sites l.server l.fn.progress l.progress;
   goes : GoesOn g.K.Keeper.kept l.fn.sites l.sites l.server (ReadsOn l.fn.progress l.progress);
 }
 

@@ -1,7 +1,11 @@
 use Rattle.capture_rows.specs.StoredChanges.{with_change_rows}
 use Rattle.server_steps.specs.Calls.{GoesOn}
 use Rattle.cd_tables.specs.Appending.{Becomes}
+use Rattle.cd_tables.specs.Reading.{ReadsNoLog}
 use Rattle.cd_tables.proofs.changes.put_change_rows.Given as goal
 
 abbrev pub invariant-loop-row : goal.invariant-loop-row
-invariant-loop-row g l = GoesOn g.K.Keeper.kept l.fn.sites l.sites l.server (Becomes (with_change_rows l.number l.yielded))
+invariant-loop-row g l = record {
+  reads : ReadsNoLog g.K.Keeper.kept l.fn.sites l.sites;
+  goes : GoesOn g.K.Keeper.kept l.fn.sites l.sites l.server (Becomes (with_change_rows l.number l.yielded));
+}

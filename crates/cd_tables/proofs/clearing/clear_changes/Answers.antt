@@ -14,7 +14,7 @@ use Rattle.cd_tables.proofs.Shown.{becomes_cleared}
 use Rattle.cd_tables.proofs.clearing.clear_changes.Goals as goal
 
 pub loop-key-init : goal.loop-key-init
-loop-key-init g c = record { fits = tt; goes = goes_none g.K.Keeper.kept c.args.sites.now c.args.server (HasCleared c.args.number (after_key change_key_spelling None)) c.requires.open (λ d. cleared_none c.args.number d) }
+loop-key-init g c = record { reads = λ s. omega arith; fits = tt; goes = goes_none g.K.Keeper.kept c.args.sites.now c.args.server (HasCleared c.args.number (after_key change_key_spelling None)) c.requires.open (λ d. cleared_none c.args.number d) }
 
 pub clear_next-requires-clause-server : goal.clear_next-requires-clause-server
 clear_next-requires-clause-server g c = subst (λ (l : List (List ℕ)). c.args.server < length l) (sym c.loop-key.invariant.goes.works.passes.names) c.requires.server
@@ -46,6 +46,7 @@ loop-key-preserved g c =
     let after = after_key change_key_spelling c.loop-key.last in
     let key = c.in-Some.key in
     record {
+      reads = λ s. omega (arith, c.loop-key.invariant.reads s, c.in_ok-key.ensures.reads s);
       fits = is.fits;
       goes = goes_then g.K.Keeper.kept c.args.sites.now c.loop-key.sites c.clear_next.new.sites c.args.server (HasCleared number after) (ClearsNext number after (Some key)) (HasCleared number (change_key_spelling key)) c.requires.open c.loop-key.invariant.goes (rw c.in-Some.is at c.in_ok-key.ensures.ok) (λ d e f cleared next. cleared_next number after key d e f is.above cleared next);
     }

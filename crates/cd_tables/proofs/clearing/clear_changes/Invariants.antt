@@ -2,12 +2,14 @@ use Rattle.std.specs.Prelude.{◌-◌, ◌^◌, IfSome}
 use Rattle.repl_records.specs.RecordKeys.{IsChangeKey, change_key_spelling}
 use Rattle.site_store.specs.Records.{after_key}
 use Rattle.server_steps.specs.Calls.{GoesOn}
+use Rattle.cd_tables.specs.Reading.{ReadsNoLog}
 use Rattle.cd_tables.proofs.KeyRanks.{rank_of}
 use Rattle.cd_tables.proofs.ClearedRows.{HasCleared}
 use Rattle.cd_tables.proofs.clearing.clear_changes.Given as goal
 
 abbrev pub invariant-loop-key : goal.invariant-loop-key
 invariant-loop-key g l = record {
+  reads : ReadsNoLog g.K.Keeper.kept l.fn.sites l.sites;
   fits : IfSome l.last IsChangeKey;
   goes : GoesOn g.K.Keeper.kept l.fn.sites l.sites l.server (HasCleared l.number (after_key change_key_spelling l.last));
 }

@@ -20,6 +20,7 @@ pub changes-init : goal.changes-init
 changes-init g c =
     let unit = c.args.unit.now in
     record {
+      reads = c.in_ok-put_unit.ensures.reads;
       few = omega arith;
       goes = goes_as g.K.Keeper.kept c.args.sites.now c.put_unit.new.sites c.args.server (Becomes (with_uow_row unit.head)) (CapturesPart unit [] 0) c.requires.open c.in_ok-put_unit.ensures.ok (λ d e now. part_begins c.laws_of_units.ensures.begins unit d e now);
     }
@@ -53,6 +54,7 @@ changes-preserved g c =
     let placed = c.placed-item.result in
     let more = c.in_ok-rows.field-0 in
     record {
+      reads = λ s. omega (arith, c.changes.invariant.reads s, c.in_ok-rows.ensures.reads s);
       few = omega (arith, c.changes.invariant.few, c.in_ok-rows.ensures.few);
       goes = goes_then g.K.Keeper.kept c.args.sites.now c.changes.sites c.append_change.new.sites c.args.server (CapturesPart unit (take i changes) rows) (AppendsChange unit.head.seq placed more) (CapturesPart unit (take (i + 1) changes) (rows + more)) c.requires.open c.changes.invariant.goes c.in_ok-rows.ensures.ok (λ d e f before now. part_next unit changes c.as_slice-placed-items.ensures i rows c.laws_of_units.ensures.goes_on placed more d e f c.changes-test.true c.placed-item.is before now);
     }

@@ -1,12 +1,11 @@
 -- Lists in which each element stands in a relation to each later one.
-use Rattle.std.proofs.Common.{◌≡◌, ℕ, ◌*◌, ◌<◌, ◌≤◌, Bool, true, false, cond, List, [], ◌∷◌, ◌++◌, map, length, length-append, Option, Some, None, arith}
+use Rattle.std.proofs.Common.{◌≡◌, ℕ, ◌<◌, Bool, true, false, cond, List, [], ◌∷◌, ◌++◌, map, Option, Some, None, arith}
 use Rattle.std.specs.Prelude.{IfSome}
 use Rattle.std.specs.List.{AllByRecursion, filter, filter_map, flat_map, cons_option}
 use Rattle.std.specs.declared.cmp.Ordering.TheVariants.{Less}
-use Rattle.std.proofs.Math.Nat.{suc-mul}
 use Rattle.repl_types.specs.Bytes.{bytes_cmp}
 use Rattle.repl_types.specs.laws.Lists.{all_weaker, all_append, all_filter}
-use Rattle.load_worlds.specs.laws.Members.{each_image, each_given}
+use Rattle.stored_defs.specs.laws.Lists.{all_map, all_filter_map}
 use Rattle.rows_in_order.specs.Rows.{IsRising}
 
 -- each element stands in a relation to each later one
@@ -17,6 +16,16 @@ InOrder R (x ∷ xs) = AllByRecursion (R x) xs × InOrder R xs
 -- the number of the one element is below that of the other
 abbrev pub Below : {X : Type 0} → (X → ℕ) → X → X → Type 0
 Below at x y = at x < at y
+
+-- what holds of all things holds of each element
+pub all_always : {X : Type 0} (P : X → Type 0) → ((x : X) → P x) → (xs : List X) → AllByRecursion P xs
+all_always P f [] = tt
+all_always P f (x ∷ xs) = (f x, all_always P f xs)
+
+-- what holds of each element of each list that a function gives holds of each of all its lists
+pub all_lists : {X Y : Type 0} (P : Y → Type 0) (f : X → List Y) (xs : List X) → AllByRecursion (λ x. AllByRecursion P (f x)) xs → AllByRecursion P (flat_map f xs)
+all_lists P f [] all = tt
+all_lists P f (x ∷ xs) all = all_append P (f x) (flat_map f xs) all.0 (all_lists P f xs all.1)
 
 -- what a filter keeps of a list in order is in order
 pub filter_in_order : {X : Type 0} (R : X → X → Type 0) (p : X → Bool) (xs : List X) → InOrder R xs → InOrder R (filter p xs)
@@ -38,17 +47,12 @@ given_rise {X} {Y} f at of same (x ∷ xs) order = pick (f x) (same x) (given_ri
 
     pick : (o : Option Y) → IfSome o (λ y. of y ≡ at x) → InOrder (Below of) (filter_map f xs) → InOrder (Below of) (cons_option o (filter_map f xs))
     pick None is rest = rest
-    pick (Some y) is rest = (each_given (Below of y) f xs (all_weaker (Below at x) (λ z. IfSome (f z) (Below of y)) xs (λ z lt. later y z (f z) is lt (same z)) order.0), rest)
+    pick (Some y) is rest = (all_filter_map (Below of y) f xs (all_weaker (Below at x) (λ z. IfSome (f z) (Below of y)) xs (λ z lt. later y z (f z) is lt (same z)) order.0), rest)
 
 -- two lists in order are in order, one after the other, if each element of the one comes before those of the other
-append_in_order : {X : Type 0} (R : X → X → Type 0) (xs ys : List X) → InOrder R xs → InOrder R ys → AllByRecursion (λ x. AllByRecursion (R x) ys) xs → InOrder R (xs ++ ys)
+pub append_in_order : {X : Type 0} (R : X → X → Type 0) (xs ys : List X) → InOrder R xs → InOrder R ys → AllByRecursion (λ x. AllByRecursion (R x) ys) xs → InOrder R (xs ++ ys)
 append_in_order R [] ys order more across = more
 append_in_order R (x ∷ xs) ys order more across = (all_append (R x) xs ys order.0 across.0, append_in_order R xs ys order.1 more across.1)
-
--- what holds of each element of each list that a function gives holds of each of all its lists
-pub all_lists : {X Y : Type 0} (P : Y → Type 0) (f : X → List Y) (xs : List X) → AllByRecursion (λ x. AllByRecursion P (f x)) xs → AllByRecursion P (flat_map f xs)
-all_lists P f [] all = tt
-all_lists P f (x ∷ xs) all = all_append P (f x) (flat_map f xs) all.0 (all_lists P f xs all.1)
 
 -- the lists that a function gives of elements in order are in order, one after another, if each is and what is
 -- given of an element comes before what is given of a later one
@@ -59,17 +63,10 @@ lists_in_order {X} {Y} R S Of f step own (x ∷ xs) all order = append_in_order 
     later : (y : Y) → Of x y → AllByRecursion (S y) (flat_map f xs)
     later y is = all_lists (S y) f xs (all_weaker (R x) (λ z. AllByRecursion (S y) (f z)) xs (λ z r. all_weaker (Of z) (S y) (f z) (λ v of. step x z y v r is of) (own z)) order.0)
 
--- if a function gives at most this many of each element, it gives so many times as many
-pub flat_map_few : {X Y : Type 0} (limit : ℕ) (f : X → List Y) (xs : List X) → AllByRecursion (λ x. length (f x) ≤ limit) xs → length (flat_map f xs) ≤ length xs * limit
-flat_map_few limit f [] all = omega arith
-flat_map_few limit f (x ∷ xs) all =
-    let here : length (f x) ≤ limit = all.0 in
-    omega (arith, here, flat_map_few limit f xs all.1, length-append (f x) (flat_map f xs), suc-mul (length xs) limit)
-
 -- rows of elements in order rise, if the key of an element's row is before those of later ones
 pub rows_rise : {X A Y : Type 0} (R : X → X → Type 0) (fits : X → Type 0) (key : A → List ℕ) (row : X → A × Y) → ((x z : X) → fits x → fits z → R x z → bytes_cmp (key (row x).0) (key (row z).0) ≡ Less) → (xs : List X) → AllByRecursion fits xs → InOrder R xs → IsRising key (map row xs)
 rows_rise R fits key row before [] all order = tt
-rows_rise {X} R fits key row before (x ∷ xs) all order = (each_image (λ r. bytes_cmp (key (row x).0) (key r.0) ≡ Less) row xs (later xs all.1 order.0), rows_rise R fits key row before xs all.1 order.1)
+rows_rise {X} R fits key row before (x ∷ xs) all order = (all_map (λ r. bytes_cmp (key (row x).0) (key r.0) ≡ Less) row xs (later xs all.1 order.0), rows_rise R fits key row before xs all.1 order.1)
   where
     later : (zs : List X) → AllByRecursion fits zs → AllByRecursion (R x) zs → AllByRecursion (λ z. bytes_cmp (key (row x).0) (key (row z).0) ≡ Less) zs
     later [] fit above = tt

@@ -1,0 +1,19 @@
+use Rattle.std.specs.Prelude.{◌-◌, ◌^◌, IfSome}
+use Rattle.repl_types.specs.declared.area.Area.TheVariants as areas
+use Rattle.repl_records.specs.RecordKeys.{IsChangeKey, change_key_spelling}
+use Rattle.site_store.specs.Records.{after_key}
+use Rattle.server_steps.specs.Calls.{GoesOn}
+use Rattle.cd_tables.specs.Reading.{ReadsOnlyIn}
+use Rattle.cd_tables.proofs.DroppedRows.{HasDropped}
+use Rattle.cd_tables.proofs.KeyRanks.{rank_of}
+use Rattle.cd_tables.proofs.dropping.drop_upto.Given as goal
+
+abbrev pub invariant-loop-key : goal.invariant-loop-key
+invariant-loop-key g l = record {
+  reads : ReadsOnlyIn areas.Cd g.K.Keeper.kept l.fn.sites l.sites;
+  fits : IfSome l.last IsChangeKey;
+  goes : GoesOn g.K.Keeper.kept l.fn.sites l.sites l.server (HasDropped l.reg l.floor l.count (after_key change_key_spelling l.last));
+}
+
+abbrev pub decreases-loop-key : goal.decreases-loop-key
+decreases-loop-key g l = 2 ^ 144 - rank_of l.last

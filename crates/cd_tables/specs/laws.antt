@@ -1,0 +1,4 @@
+pub mod InOrder
+pub mod SoundUnits
+pub mod SoundChanges
+pub mod CapturedRows

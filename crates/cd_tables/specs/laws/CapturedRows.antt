@@ -1,0 +1,79 @@
+-- The tables of contents that have what a server captured.
+use Rattle.std.proofs.Common.{◌≡◌, ℕ, Bool, true, false, cond, ◌&&◌, List, [], ◌∷◌, map, inl, inr, refl, sym, ap, ◌∙◌, arith}
+use Rattle.std.specs.Prelude.{max, nat_lt, nat_le, filter, Option, Some, None, slice_get}
+use Rattle.std.specs.Option.{option_map, option_map_or, option_and_then}
+use Rattle.std.proofs.lemmas.Bool.{cases_lt, lt-ltb, le-ltb}
+use Rattle.repl_types.specs.declared.unit.Unit.{Unit as LogUnit}
+use Rattle.keep_core.specs.Contents.{Contents, Table}
+use Rattle.repl_records.specs.Capture.{change_row_spelling}
+use Rattle.repl_records.specs.RecordKeys.{change_key_spelling}
+use Rattle.repl_records.specs.declared.capture.UowRow.{UowRow}
+use Rattle.repl_model.specs.SourceAt.{units_between}
+use Rattle.repl_model.specs.Units.{units}
+use Rattle.repl_model.specs.World.{Registered, Server, ServerTable}
+use Rattle.rows_in_order.specs.Rows.{table_from_rows}
+use Rattle.capture_rows.specs.StoredCaptures.{HasCaptured}
+use Rattle.capture_worlds.specs.laws.Lists.{filter_images}
+use Rattle.cd_tables.specs.Captured.{shown_head, unit_row, captured_units, next_captured, captured_changes}
+use Rattle.cd_tables.specs.Finding.{first_unit}
+use Rattle.cd_tables.specs.StoredRows.{first_of, HasChangeRows, HasUnitRows, head_of}
+
+-- the captured units stand in the unit-of-work table
+pub has_units : (server : Server) (c : Contents) → HasCaptured server c → HasUnitRows (captured_units server) c
+has_units server c has = has.units
+
+-- the captured change rows of a registration stand in the table of its number
+pub has_changes : (server : Server) (c : Contents) → HasCaptured server c → (n : ℕ) (t : ServerTable) (r : Registered) → slice_get server.tables n ≡ Some t → t.registered ≡ Some r → HasChangeRows n (captured_changes server r) c
+has_changes server c has n t r at is = has.changes n ∙ ap (λ (o : Option ServerTable). option_map_or stored (option_and_then (λ (u : ServerTable). u.registered) o) (λ k. None)) at ∙ ap (λ (o : Option Registered). option_map_or stored o (λ k. None)) is
+  where
+    stored : Registered → Table
+    stored q = table_from_rows change_key_spelling change_row_spelling (captured_changes server q)
+
+-- a number is above the higher of two if it is above both
+above_both : (a b n : ℕ) → nat_lt (max a b) n ≡ (nat_lt a n && nat_lt b n)
+above_both a b n = elim (cases_lt a n) [
+  | inl la ↦ elim (cases_lt b n) [
+    | inl lb ↦ lt-ltb (max a b) n (omega (arith, la, lb)) ∙ sym (λ i. lt-ltb a n la i && lt-ltb b n lb i)
+    | inr lb ↦ le-ltb (max a b) n (omega (arith, lb)) ∙ sym (λ i. lt-ltb a n la i && le-ltb b n lb i)
+  ]
+  | inr la ↦ le-ltb (max a b) n (omega (arith, la)) ∙ sym (ap (λ (t : Bool). t && nat_lt b n) (le-ltb a n la))
+]
+
+-- a filter of what a filter keeps is the filter by both tests
+filter_both : {X : Type 0} (p q r : X → Bool) → ((x : X) → (q x && p x) ≡ r x) → (xs : List X) → filter p (filter q xs) ≡ filter r xs
+filter_both p q r both [] = refl
+filter_both {X} p q r both (x ∷ xs) = pick (q x) refl (p x) refl (filter_both p q r both xs)
+  where
+    pick : (s : Bool) → q x ≡ s → (t : Bool) → p x ≡ t → filter p (filter q xs) ≡ filter r xs → filter p (cond s (x ∷ filter q xs) (filter q xs)) ≡ cond (r x) (x ∷ filter r xs) (filter r xs)
+    pick true e t f rest = ap (λ (b : Bool). cond b (x ∷ filter p (filter q xs)) (filter p (filter q xs))) (ap (λ (b : Bool). b && p x) (sym e) ∙ both x) ∙ ap (λ (l : List X). cond (r x) (x ∷ l) l) rest
+    pick false e t f rest = rest ∙ ap (λ (b : Bool). cond b (x ∷ filter r xs) (filter r xs)) (ap (λ (b : Bool). b && p x) (sym e) ∙ both x)
+
+-- the first image is that of the first
+first_image : {X Y : Type 0} (f : X → Y) (xs : List X) → first_of (map f xs) ≡ option_map f (first_of xs)
+first_image f [] = refl
+first_image f (x ∷ xs) = refl
+
+-- the first of the captured units above a seq is the next one
+pub first_captured : (after : ℕ) (server : Server) → first_unit after (captured_units server) ≡ next_captured after server
+first_captured after server =
+    ap (λ (l : List (ℕ × UowRow)). option_map head_of (first_of l)) (filter_images (unit_row server) (λ r. nat_lt after r.0) there)
+    ∙ ap (option_map head_of) (first_image (unit_row server) (filter (λ u. nat_lt after u.head.seq) there))
+    ∙ heads (first_of (filter (λ u. nat_lt after u.head.seq) there))
+    ∙ ap (λ (l : List LogUnit). option_map (shown_head server) (first_of l)) (filter_both (λ u. nat_lt after u.head.seq) (λ u. nat_lt server.floor u.head.seq && nat_le u.head.seq server.captured) (λ u. nat_lt (max after server.floor) u.head.seq && nat_le u.head.seq server.captured) (λ u. moved (nat_lt server.floor u.head.seq) (nat_le u.head.seq server.captured) (nat_lt after u.head.seq) ∙ ap (λ (b : Bool). b && nat_le u.head.seq server.captured) (sym (above_both after server.floor u.head.seq))) (units server.log))
+  where
+    there : List LogUnit
+    there = units_between server.floor server.captured server.log
+
+    heads : (o : Option LogUnit) → option_map head_of (option_map (unit_row server) o) ≡ option_map (shown_head server) o
+    heads None = refl
+    heads (Some u) = refl
+
+    moved : (f l a : Bool) → ((f && l) && a) ≡ ((a && f) && l)
+    moved true true true = refl
+    moved true true false = refl
+    moved true false true = refl
+    moved true false false = refl
+    moved false true true = refl
+    moved false true false = refl
+    moved false false true = refl
+    moved false false false = refl
