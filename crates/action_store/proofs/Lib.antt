@@ -4,3 +4,6 @@ mod Marks
 mod Reports
 mod Signals
 mod Steps
+mod Targets
+mod Numbers
+mod StepTables

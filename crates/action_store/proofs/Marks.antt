@@ -1,10 +1,6 @@
 -- What the source of a set holds once the set's mark and signal are others there.
-use Rattle.std.proofs.Common.{◌≡◌, ℕ, zero, suc, ◌+◌, ◌≤◌, Bool, true, false, cond, List, [], ◌∷◌, ◌++◌, length, map, Option, Some, None, refl, sym, ap, ap₂, ◌∙◌, arith}
-use Rattle.std.specs.Prelude.{slice_get}
-use Rattle.std.specs.List.{enumerate_from}
+use Rattle.std.proofs.Common.{◌≡◌, ℕ, zero, suc, ◌≤◌, Bool, true, false, cond, List, length, map, Option, Some, None, refl, sym, ap, ◌∙◌, arith}
 use Rattle.std.specs.Option.{option_or}
-use Rattle.std.proofs.lemmas.List.{length-map, map-append}
-use Rattle.std.proofs.lemmas.Option.{slice_get_within}
 use Rattle.repl_types.specs.declared.area.Area.TheVariants as areas
 use Rattle.repl_types.specs.declared.record.LogRecord.{LogRecord}
 use Rattle.repl_types.specs.declared.record.SetId.{SetId}
@@ -33,7 +29,7 @@ use Rattle.load_worlds.specs.laws.Servers.{id_itself}
 use Rattle.load_worlds.specs.laws.KnownSets.{source_in}
 use Rattle.action_worlds.specs.laws.Signals.{set_stands}
 use Rattle.action_store.specs.ActedServers.{HasSourceNumber}
-use Rattle.action_store.proofs.OneRow.{OneChanges, one_changes, numbered_stay, numbered_lists_stay, replaced}
+use Rattle.action_store.proofs.OneRow.{OneChanges, one_changes, numbered_stay, numbered_lists_stay, row_changes}
 
 -- if no record stands for a missing one, the table is read as it is
 no_first : (t : Table) → with_first no_rows t ≡ t
@@ -46,11 +42,6 @@ no_first t = λ i k. none (t k) i
 -- what is stored of a set's mark
 abbrev mark_of : SourceSide → SyncMark
 mark_of side = record { mark = side.mark; signal = side.signal }
-
--- the rows with the marks are the marks, numbered
-marks_numbered : (b : ℕ) (sides : List SourceSide) → map (λ (s : ℕ × SourceSide). (s.0, mark_of s.1)) (enumerate_from b sides) ≡ enumerate_from b (map mark_of sides)
-marks_numbered b [] = refl
-marks_numbered b (side ∷ sides) = ap (λ (rows : List (ℕ × SyncMark)). (b, mark_of side) ∷ rows) (marks_numbered (b + 1) sides)
 
 -- The row of a set at its source gets another mark and another signal.
 module _ (point seq : SourceSide → ℕ) (world : World) (server : Server) (side : SourceSide) (number : ℕ) where
@@ -91,26 +82,12 @@ module _ (point seq : SourceSide → ℕ) (world : World) (server : Server) (sid
   rejected_stay : rejected_rows after ≡ rejected_rows server
   rejected_stay = numbered_lists_stay (λ (s : ℕ × SourceSide). map (λ c. (record { set = s.0; seq = c.0 }, record { code = c.1 })) s.1.codes) marked (λ n s. unmarked (λ (a : SourceSide). map (λ c. (record { set = n; seq = c.0 }, record { code = c.1 })) a.codes) (λ a. refl) s) 0 server.source_sets
 
-  module _ (few : length server.source_sets ≤ 256) (is : slice_get server.source_sets number ≡ Some side) (one : OneChanges marked server.source_sets number side) where
+  module _ (few : length server.source_sets ≤ 256) (one : OneChanges marked server.source_sets number side) where
     -- the marks are those before, with the new one at the set's number
     marks_after : table_from_rows b32 mark_spelling (mark_rows after) ≡ set_key (table_from_rows b32 mark_spelling (mark_rows server)) (b32 number) (Some (mark_spelling new_mark))
     marks_after =
-        ap (table_from_rows b32 mark_spelling) (marks_numbered 0 (map marked server.source_sets) ∙ ap (λ (sides : List SourceSide). enumerate_from 0 (map mark_of sides)) one.after ∙ around (marked side))
-        ∙ replaced mark_spelling front (mark_of side) (mark_of (marked side)) back (omega (arith, few, length-map one.front mark_of, one.long, slice_get_within server.source_sets number side is))
-        ∙ ap₂ (λ (n : ℕ) (m : SyncMark). set_key (table_from_rows b32 mark_spelling (enumerate_from 0 (front ++ mark_of side ∷ back))) (b32 n) (Some (mark_spelling m))) (length-map one.front mark_of ∙ one.long) is_new
-        ∙ ap (λ (rows : List (ℕ × SyncMark)). set_key (table_from_rows b32 mark_spelling rows) (b32 number) (Some (mark_spelling new_mark))) (sym (marks_numbered 0 server.source_sets ∙ ap (λ (sides : List SourceSide). enumerate_from 0 (map mark_of sides)) one.before ∙ around side))
-      where
-        front : List SyncMark
-        front = map mark_of one.front
-
-        back : List SyncMark
-        back = map mark_of one.back
-
-        around : (s : SourceSide) → enumerate_from 0 (map mark_of (one.front ++ s ∷ one.back)) ≡ enumerate_from 0 (front ++ mark_of s ∷ back)
-        around s = ap (λ (marks : List SyncMark). enumerate_from 0 marks) (map-append mark_of one.front (s ∷ one.back))
-
-        is_new : mark_of (marked side) ≡ new_mark
-        is_new = ap (λ (b : Bool). mark_of (cond b (record side { mark = point side; signal = seq side }) side)) (id_itself side.def.id)
+        row_changes mark_of mark_spelling marked server.source_sets number side one few
+        ∙ ap (λ (b : Bool). set_key (table_from_rows b32 mark_spelling (mark_rows server)) (b32 number) (Some (mark_spelling (mark_of (cond b (record side { mark = point side; signal = seq side }) side))))) (id_itself side.def.id)
 
     -- the server holds what the world calls for there, once the mark is put
     put_holds : (held : Contents) → Holds world server held → Holds world after (put_at held areas.Prune 0 (b32 number) (Some (mark_spelling new_mark)))
@@ -155,6 +132,6 @@ pub marked_holds : (point seq : SourceSide → ℕ) (world after_it : World) (k 
 marked_holds point seq world after_it k log number held sound i is holds =
     let rules = at_one (ServerKeepsRules world) world k.source sound.definitions.servers (source_in world k (set_stands world k i)) in
     let becomes = marked point seq after_it (record k.source { log = log }) k.at_source number in
-    put_holds point seq after_it (record k.source { log = log }) k.at_source number rules.counts.0 is
+    put_holds point seq after_it (record k.source { log = log }) k.at_source number rules.counts.0
     (one_changes (λ (side : SourceSide). side.def.id) becomes k.at_source (λ side e. ap (λ (b : Bool). cond b (record side { mark = point side; signal = seq side }) side) e) k.source.source_sets number rules.source_names is)
     held holds

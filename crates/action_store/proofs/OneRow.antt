@@ -1,15 +1,15 @@
 -- Lists in which the one element that is named as a set becomes another.
-use Rattle.std.proofs.Common.{◌≡◌, ◌≢◌, ℕ, zero, suc, ◌+◌, ◌<◌, ◌^◌, Bool, true, false, cond, not, List, [], ◌∷◌, ◌++◌, length, map, Some, None, inl, inr, refl, sym, ap, ap₂, subst, ◌∙◌, arith}
+use Rattle.std.proofs.Common.{◌≡◌, ◌≢◌, ℕ, zero, suc, ◌+◌, ◌<◌, ◌≤◌, ◌^◌, Bool, true, false, cond, not, List, [], ◌∷◌, ◌++◌, length, map, Some, None, inl, inr, refl, sym, ap, ap₂, subst, ◌∙◌, arith}
 use Rattle.std.specs.Prelude.{Option, slice_get}
 use Rattle.std.specs.List.{enumerate_from, flat_map, list_any}
 use Rattle.std.proofs.lemmas.Bool.{and_parts}
-use Rattle.std.proofs.lemmas.Option.{none-some, same_Some}
+use Rattle.std.specs.Option.{option_map}
+use Rattle.std.proofs.lemmas.List.{length-append, length-map, map-append}
+use Rattle.std.proofs.lemmas.Option.{none-some, same_Some, slice_get-map}
 use Rattle.repl_types.specs.declared.record.SetId.{SetId}
-use Rattle.row_codec.specs.Spelling.{Is32, b32}
-use Rattle.row_codec.specs.laws.Orders.{whole_order, order32}
+use Rattle.row_codec.specs.Spelling.{b32}
 use Rattle.keep_core.specs.Contents.{same_key, set_key}
 use Rattle.rows_in_order.specs.Rows.{table_from_rows}
-use Rattle.rows_in_order.specs.Numbers.{SpellsInOrder}
 use Rattle.rows_in_order.specs.laws.Changed.{or_else, append_at}
 use Rattle.rows_in_order.specs.laws.Numbered.{numbered_parts, numbered_found}
 use Rattle.rows_in_order.specs.laws.Rising.{same_is}
@@ -17,6 +17,7 @@ use Rattle.repl_model.specs.World.{same_set}
 use Rattle.repl_model.specs.Rules.{all_differ}
 use Rattle.load_worlds.specs.laws.Members.{In, first_alone, in_second}
 use Rattle.load_worlds.specs.laws.Servers.{same_id, id_itself}
+use Rattle.action_store.specs.laws.Numbered.{small_in_order, numbered_images}
 
 -- A list of which a change makes the element at a place another, and leaves the others.
 pub record OneChanges {X : Type 0} (change : X → X) (xs : List X) (place : ℕ) (x : X) : Type 0 where
@@ -87,6 +88,10 @@ places_stay {X} change xs place x one n ne =
     ∙ around one.front x (change x) one.back n (λ e. ne (e ∙ one.long))
     ∙ sym (ap (λ (l : List X). slice_get l n) one.before)
 
+-- at the place of the one that changes stands what it becomes
+pub stands_changed : {X : Type 0} (change : X → X) (xs : List X) (place : ℕ) (x : X) → slice_get xs place ≡ Some x → slice_get (map change xs) place ≡ Some (change x)
+stands_changed change xs place x is = slice_get-map change xs place ∙ ap (option_map change) is
+
 -- ---- rows
 
 -- what is made of each with its number stays if it is made alike of what the element becomes
@@ -99,12 +104,20 @@ pub numbered_lists_stay : {X Y : Type 0} (rows : ℕ × X → List Y) (change : 
 numbered_lists_stay rows change alike b [] = refl
 numbered_lists_stay {X} {Y} rows change alike b (x ∷ xs) = ap₂ (λ (ys zs : List Y). ys ++ zs) (alike b x) (numbered_lists_stay rows change alike (b + 1) xs)
 
--- spelled numbers are in the order of the numbers
-in_order : SpellsInOrder b32 (2 ^ 32)
-in_order a b la lb = whole_order Is32 b32 _ order32 a b la lb
+-- the lists that are made of each with its number stay if those of one element are made alike of another
+of_one_stay : {X Y : Type 0} (rows : ℕ × X → List Y) (front : List X) (x y : X) (back : List X) → ((n : ℕ) → rows (n, y) ≡ rows (n, x)) → (b : ℕ) → flat_map rows (enumerate_from b (front ++ y ∷ back)) ≡ flat_map rows (enumerate_from b (front ++ x ∷ back))
+of_one_stay {X} {Y} rows [] x y back alike b = ap (λ (ys : List Y). ys ++ flat_map rows (enumerate_from (b + 1) back)) (alike b)
+of_one_stay {X} {Y} rows (z ∷ zs) x y back alike b = ap (λ (ys : List Y). rows (b, z) ++ ys) (of_one_stay rows zs x y back alike (b + 1))
+
+-- and so if one of the elements changes
+pub lists_of_one_stay : {X Y : Type 0} (rows : ℕ × X → List Y) (change : X → X) (xs : List X) (place : ℕ) (x : X) → OneChanges change xs place x → ((n : ℕ) → rows (n, change x) ≡ rows (n, x)) → (b : ℕ) → flat_map rows (enumerate_from b (map change xs)) ≡ flat_map rows (enumerate_from b xs)
+lists_of_one_stay {X} rows change xs place x one alike b =
+    ap (λ (l : List X). flat_map rows (enumerate_from b l)) one.after
+    ∙ of_one_stay rows one.front x (change x) one.back alike b
+    ∙ sym (ap (λ (l : List X). flat_map rows (enumerate_from b l)) one.before)
 
 -- The table of numbered values of which one becomes another is the table before, with that one put at its number.
-pub replaced : {X : Type 0} (value : X → List ℕ) (front : List X) (x y : X) (back : List X) → length front < 2 ^ 32
+replaced : {X : Type 0} (value : X → List ℕ) (front : List X) (x y : X) (back : List X) → length front < 2 ^ 32
     → table_from_rows b32 value (enumerate_from 0 (front ++ y ∷ back)) ≡ set_key (table_from_rows b32 value (enumerate_from 0 (front ++ x ∷ back))) (b32 (length front)) (Some (value y))
 replaced {X} value front x y back few = λ i q. at q i
   where
@@ -126,7 +139,7 @@ replaced {X} value front x y back few = λ i q. at q i
       where
         by_one : (o : Option (List ℕ)) → in_front (b32 place) ≡ o → o ≡ None
         by_one None e = refl
-        by_one (Some v) e = absurd (omega (arith, (numbered_found b32 (2 ^ 32) in_order value 0 place front v (omega (arith, few)) few e).1))
+        by_one (Some v) e = absurd (omega (arith, (numbered_found b32 (2 ^ 32) small_in_order value 0 place front v (omega (arith, few)) few e).1))
 
     parts : (z : X) (q : List ℕ) → table_from_rows b32 value (enumerate_from 0 (front ++ z ∷ back)) q ≡ or_else (in_front q) (cond (same_key (b32 place) q) (Some (value z)) (in_back q))
     parts z q =
@@ -144,3 +157,22 @@ replaced {X} value front x y back few = λ i q. at q i
         parts y q
         ∙ put (in_front q) (in_back q) (same_key (b32 place) q) (free q)
         ∙ ap (λ (o : Option (List ℕ)). cond (same_key (b32 place) q) (Some (value y)) o) (sym (parts x q))
+
+module _ {X R : Type 0} (row : X → R) (value : R → List ℕ) (change : X → X) (xs : List X) (place : ℕ) (x : X) (one : OneChanges change xs place x) where
+  -- The table of what is made of each of some things under its number, once one of them becomes another, is the table
+  -- before, with what is made of that one put at its number.
+  pub row_changes : length xs ≤ 256 → table_from_rows b32 value (map (λ s. (s.0, row s.1)) (enumerate_from 0 (map change xs))) ≡ set_key (table_from_rows b32 value (map (λ s. (s.0, row s.1)) (enumerate_from 0 xs))) (b32 place) (Some (value (row (change x))))
+  row_changes few =
+      ap (table_from_rows b32 value) (numbered_images row 0 (map change xs) ∙ ap (λ (l : List X). enumerate_from 0 (map row l)) one.after ∙ parts (change x))
+      ∙ replaced value front (row x) (row (change x)) back (omega (arith, few, length-map one.front row, ap length one.before, length-append one.front (x ∷ one.back)))
+      ∙ ap (λ (n : ℕ). set_key (table_from_rows b32 value (enumerate_from 0 (front ++ row x ∷ back))) (b32 n) (Some (value (row (change x))))) (length-map one.front row ∙ one.long)
+      ∙ ap (λ (rows : List (ℕ × R)). set_key (table_from_rows b32 value rows) (b32 place) (Some (value (row (change x))))) (sym (numbered_images row 0 xs ∙ ap (λ (l : List X). enumerate_from 0 (map row l)) one.before ∙ parts x))
+    where
+      front : List R
+      front = map row one.front
+
+      back : List R
+      back = map row one.back
+
+      parts : (y : X) → enumerate_from 0 (map row (one.front ++ y ∷ one.back)) ≡ enumerate_from 0 (front ++ row y ∷ back)
+      parts y = ap (λ (l : List R). enumerate_from 0 l) (map-append row one.front (y ∷ one.back))

@@ -13,7 +13,7 @@ use Rattle.world_store.specs.Stands.{Holds}
 use Rattle.load_worlds.specs.laws.Members.{In}
 use Rattle.log_store.specs.LongerServers.{LoggedHolds, OthersHold}
 use Rattle.action_worlds.specs.laws.Signals.{source_is_named, signal_is}
-use Rattle.action_store.specs.ActedServers.{with_signal, SignalHolds, OthersHoldAfterSignal}
+use Rattle.action_store.specs.ActedServers.{with_mark, SignalHolds, OthersHoldAfterSignal}
 use Rattle.action_store.proofs.Marks.{marked_holds}
 use Rattle.action_store.proofs.Worlds.{still_holds}
 
@@ -34,7 +34,7 @@ others_hold others world k other held sound i j apart holds =
 -- and the source of the set, once its log has the signal and the mark is put
 pub source_holds : LoggedHolds → SignalHolds
 source_holds logs world k number before now sound i is holds logged =
-    subst (λ (n : ℕ). Holds (after_action world k signals) (with_source_side k.at_source.def.id (λ side. record side { signal = n }) (with_more more k.source)) (with_signal k number seq now)) (sym (length-append k.source.log more))
+    subst (λ (n : ℕ). Holds (after_action world k signals) (with_source_side k.at_source.def.id (λ side. record side { signal = n }) (with_more more k.source)) (with_mark number (record { mark = k.at_source.mark; signal = seq }) now)) (sym (length-append k.source.log more))
     (marked_holds (λ side. side.mark) (λ side. seq) world (after_action world k signals) k (with_more more k.source).log number now sound i is
     (after_signal world k (with_more more k.source) now sound i (logs k.source.name more world k.source before now sound (source_is_named world k i) holds logged)))
   where

@@ -3,6 +3,7 @@ use Rattle.std.proofs.Common.{◌≡◌, ◌≢◌, ℕ, zero, suc, Bool, true, 
 use Rattle.std.specs.Prelude.{◌/◌, ◌%◌, ◌==◌, slice_get}
 use Rattle.std.specs.Option.{option_map_or}
 use Rattle.std.proofs.lemmas.Bool.{true≢false, eq-eqb}
+use Rattle.repl_types.specs.declared.area.Area.{Area}
 use Rattle.repl_types.specs.declared.area.Area.TheVariants as areas
 use Rattle.repl_types.specs.declared.record.SetId.{SetId}
 use Rattle.row_codec.specs.Spelling.{b64, set_spelling}
@@ -18,19 +19,19 @@ use Rattle.repl_model.specs.Trails.{Entry}
 use Rattle.repl_model.specs.World.{TargetSide, Server, World, KnownSet, same_set, known_sets}
 use Rattle.repl_model.specs.SoundDefinitions.{ServerKeepsRules, read_only_sets}
 use Rattle.repl_model.specs.Sound.{IsSound}
+use Rattle.repl_model.specs.AfterActions.{with_entry, refreshed}
 use Rattle.world_store.specs.DefinitionRows.{target_set_rows}
 use Rattle.world_store.specs.TargetRows.{source_of, trail_rows}
 use Rattle.world_store.specs.Tables.{no_rows, member_table, tables, with_first, first_table}
 use Rattle.world_store.specs.Stands.{Holds}
 use Rattle.load_worlds.specs.laws.Members.{In, at_one}
-use Rattle.load_worlds.specs.laws.KnownSets.{StandsIn}
 use Rattle.action_worlds.specs.laws.Signals.{set_stands}
 use Rattle.action_store.specs.ActedServers.{HasTargetNumber, Acted, with_step, with_refresh, BlockHolds, RefreshHolds, OthersHoldAfterStep}
 use Rattle.action_store.proofs.OneRow.{OneChanges, one_changes, places_stay, numbered_stay}
-use Rattle.action_store.proofs.Worlds.{still_holds}
+use Rattle.action_store.proofs.Worlds.{tables_stay}
 
 -- what a function makes of what another made of the elements of a list
-made_twice : {X : Type 0} (f g : X → X) (xs : List X) → map f (map g xs) ≡ map (λ x. f (g x)) xs
+pub made_twice : {X : Type 0} (f g : X → X) (xs : List X) → map f (map g xs) ≡ map (λ x. f (g x)) xs
 made_twice f g [] = refl
 made_twice {X} f g (x ∷ xs) = ap (λ (l : List X). f (g x) ∷ l) (made_twice f g xs)
 
@@ -99,13 +100,19 @@ module _ (world : World) (server : Server) (sides : List TargetSide) (number : �
 -- ---- a set's row
 
 -- what the row of a set becomes, if the row is its
-abbrev by_name : SetDef → (TargetSide → TargetSide) → TargetSide → TargetSide
+abbrev pub by_name : SetDef → (TargetSide → TargetSide) → TargetSide → TargetSide
 by_name def f side = cond (same_set def.id side.def.id) (f side) side
 
 -- a change of a set's row that keeps what isn't named so, and definitions
 pub record ChangesSet (def : SetDef) (change : TargetSide → TargetSide) : Type 0 where
   pub keeps : (side : TargetSide) → same_set def.id side.def.id ≡ false → change side ≡ side
   pub defined : (side : TargetSide) → (change side).def ≡ side.def
+
+-- of the rows at the set's target a change of the set's row changes only that one
+pub one_set_changes : (world : World) (k : KnownSet) (number : ℕ) (change : TargetSide → TargetSide) → IsSound world → In k (read_only_sets (known_sets world)) → HasTargetNumber k number → ChangesSet k.at_target.def change → OneChanges change k.target.target_sets number k.at_target
+one_set_changes world k number change sound i is changes =
+    let rules = at_one (ServerKeepsRules world) world k.target sound.definitions.servers (set_stands world k i).target in
+    one_changes (λ (side : TargetSide). side.def.id) change k.at_target changes.keeps k.target.target_sets number rules.target_names is
 
 -- The target of a set holds what the world calls for there after a change of the set's row, with the tables of a step.
 step_holds : (world after_it : World) (k : KnownSet) (number : ℕ) (change : TargetSide → TargetSide) (before now : Contents) → IsSound world → In k (read_only_sets (known_sets world)) → HasTargetNumber k number → ChangesSet k.at_target.def change
@@ -117,14 +124,8 @@ step_holds world after_it k number change before now sound i is changes holds ac
     sides : List TargetSide
     sides = k.target.target_sets
 
-    stands : StandsIn world k
-    stands = set_stands world k i
-
-    rules : ServerKeepsRules world k.target
-    rules = at_one (ServerKeepsRules world) world k.target sound.definitions.servers stands.target
-
     one : OneChanges change sides number k.at_target
-    one = one_changes (λ (side : TargetSide). side.def.id) change k.at_target changes.keeps sides number rules.target_names is
+    one = one_set_changes world k number change sound i is changes
 
     definitions : target_set_rows (record k.target { target_sets = map change sides }) ≡ target_set_rows k.target
     definitions = ap (λ (rows : List (SetId × TargetSet)). by_key set_cmp rows)
@@ -133,15 +134,15 @@ step_holds world after_it k number change before now sound i is changes holds ac
 -- ---- blocks and refreshes
 
 -- what a row becomes with one more entry of its trail
-abbrev longer : Entry → TargetSide → TargetSide
+abbrev pub longer : Entry → TargetSide → TargetSide
 longer entry side = record side { trail = side.trail ++ entry ∷ [] }
 
 -- and what it becomes by a refresh, which clears what was asked for
-abbrev cleared : TargetSide → TargetSide
+abbrev pub cleared : TargetSide → TargetSide
 cleared side = record side { flag = false }
 
 -- one more entry of a set's trail changes that set
-entry_changes : (def : SetDef) (entry : Entry) → ChangesSet def (by_name def (longer entry))
+pub entry_changes : (def : SetDef) (entry : Entry) → ChangesSet def (by_name def (longer entry))
 entry_changes def entry = record {
   keeps = λ side e. ap (λ (b : Bool). cond b (longer entry side) side) e;
   defined = λ side. by_test side (same_set def.id side.def.id);
@@ -152,7 +153,7 @@ entry_changes def entry = record {
     by_test side false = refl
 
 -- so does a refresh
-refresh_changes : (def : SetDef) (entry : Entry) → ChangesSet def (λ side. by_name def cleared (by_name def (longer entry) side))
+pub refresh_changes : (def : SetDef) (entry : Entry) → ChangesSet def (λ side. by_name def cleared (by_name def (longer entry) side))
 refresh_changes def entry = record {
   keeps = λ side e. ap (by_name def cleared) (grows.keeps side e) ∙ ap (λ (b : Bool). cond b (cleared side) side) e;
   defined = λ side. by_test (by_name def (longer entry) side) (same_set def.id (by_name def (longer entry) side).def.id) ∙ grows.defined side;
@@ -165,17 +166,25 @@ refresh_changes def entry = record {
     by_test side true = refl
     by_test side false = refl
 
--- each server holds, as it is, what the world after one more entry calls for
+-- the tables of each server, as it is, are the same after one more entry
+pub same_after_step : (world : World) (k : KnownSet) (entry : Entry) (server : Server) (a : Area) (n : ℕ) → tables (with_step world k entry) server a n ≡ tables world server a n
+same_after_step world k entry = tables_stay (λ server. server.source_sets) (λ server. (with_entry k.at_target.def entry server).target_sets) k.target.name world
+
+-- and after a refresh
+pub same_after_refresh : (world : World) (k : KnownSet) (entry : Entry) (server : Server) (a : Area) (n : ℕ) → tables (with_refresh world k entry) server a n ≡ tables world server a n
+same_after_refresh world k entry = tables_stay (λ server. server.source_sets) (λ server. (refreshed k.at_target.def entry server).target_sets) k.target.name world
+
+-- so each server holds, as it is, what the world after one more entry calls for
 after_step : (world : World) (k : KnownSet) (entry : Entry) (server : Server) (held : Contents) → Holds world server held → Holds (with_step world k entry) server held
-after_step world k entry = still_holds (λ server. server.source_sets) (λ server. map (by_name k.at_target.def (longer entry)) server.target_sets) k.target.name world
+after_step world k entry server held holds = λ a n. holds a n ∙ sym (same_after_step world k entry server a n)
 
 -- and what the world after a refresh calls for
 after_refresh : (world : World) (k : KnownSet) (entry : Entry) (server : Server) (held : Contents) → Holds world server held → Holds (with_refresh world k entry) server held
-after_refresh world k entry = still_holds (λ server. server.source_sets) (λ server. map (by_name k.at_target.def cleared) (map (by_name k.at_target.def (longer entry)) server.target_sets)) k.target.name world
+after_refresh world k entry server held holds = λ a n. holds a n ∙ sym (same_after_refresh world k entry server a n)
 
 -- so do the other servers
 pub others_hold : OthersHoldAfterStep
-others_hold world k entry other held sound i j apart holds = (after_step world k entry other held holds, after_refresh world k entry other held holds)
+others_hold world k entry other held holds = (after_step world k entry other held holds, after_refresh world k entry other held holds)
 
 -- the target of the set holds it after a block, with the tables of the block
 pub block_holds : BlockHolds

@@ -5,6 +5,7 @@ use Rattle.repl_types.specs.declared.area.Area.{Area}
 use Rattle.repl_types.specs.declared.area.Area.TheVariants as areas
 use Rattle.row_codec.specs.Spelling.{b32}
 use Rattle.repl_records.specs.Prune.{mark_spelling}
+use Rattle.repl_records.specs.declared.prune.SyncMark.{SyncMark}
 use Rattle.keep_core.specs.Contents.{Contents, put_at}
 use Rattle.repl_model.specs.Trails.{Entry, synchpoint}
 use Rattle.repl_model.specs.World.{Server, World, KnownSet, known_sets}
@@ -23,31 +24,27 @@ use Rattle.log_store.specs.LongerServers.{Logged}
 abbrev pub HasSourceNumber : KnownSet → ℕ → Type 0
 HasSourceNumber k number = slice_get k.source.source_sets number ≡ Some k.at_source
 
--- the contents with the set's mark at its synchpoint
-abbrev pub with_report : KnownSet → ℕ → Contents → Contents
-with_report k number c = put_at c areas.Prune 0 (b32 number) (Some (mark_spelling (record { mark = synchpoint k.at_target.trail; signal = k.at_source.signal })))
+-- the contents with this as what is stored of the mark and the signal of the set with a number
+abbrev pub with_mark : ℕ → SyncMark → Contents → Contents
+with_mark number mark c = put_at c areas.Prune 0 (b32 number) (Some (mark_spelling mark))
 
--- the source of a set, with that mark, holds what the world after a report calls for
+-- the source of a set, with the mark at the set's synchpoint, holds what the world after a report calls for
 abbrev pub ReportHolds : Type 0
 ReportHolds = (world : World) (k : KnownSet) (number : ℕ) (held : Contents) → IsSound world → In k (read_only_sets (known_sets world)) → HasSourceNumber k number
-    → Holds world k.source held → Holds (after_action world k reports) (reported k.at_source.def (synchpoint k.at_target.trail) k.source) (with_report k number held)
+    → Holds world k.source held → Holds (after_action world k reports) (reported k.at_source.def (synchpoint k.at_target.trail) k.source) (with_mark number (record { mark = synchpoint k.at_target.trail; signal = k.at_source.signal }) held)
 
 -- and so do the other servers, as they are
 abbrev pub OthersHoldAfterReport : Type 0
-OthersHoldAfterReport = (world : World) (k : KnownSet) (other : Server) (held : Contents) → IsSound world → In k (read_only_sets (known_sets world)) → In other world → bytes_eq k.source.name other.name ≡ false
-    → Holds world other held → Holds (after_action world k reports) other held
+OthersHoldAfterReport = (world : World) (k : KnownSet) (other : Server) (held : Contents) → Holds world other held → Holds (after_action world k reports) other held
 
 -- ---- signals
 
--- the contents with a position as the set's last signal
-abbrev pub with_signal : KnownSet → ℕ → ℕ → Contents → Contents
-with_signal k number seq c = put_at c areas.Prune 0 (b32 number) (Some (mark_spelling (record { mark = k.at_source.mark; signal = seq })))
-
--- the source of a set, with the signal in its log and that mark, holds what the world after the signal calls for
+-- the source of a set, with the signal in its log and its last position as the set's last signal, holds what the world
+-- after the signal calls for
 abbrev pub SignalHolds : Type 0
 SignalHolds = (world : World) (k : KnownSet) (number : ℕ) (before now : Contents) → IsSound world → In k (read_only_sets (known_sets world)) → HasSourceNumber k number
     → Holds world k.source before → Logged (signal_records k.at_source.def k.source.log) k.source before now
-    → Holds (after_action world k signals) (signalled k.at_source.def k.source) (with_signal k number (length k.source.log + length (signal_records k.at_source.def k.source.log)) now)
+    → Holds (after_action world k signals) (signalled k.at_source.def k.source) (with_mark number (record { mark = k.at_source.mark; signal = length k.source.log + length (signal_records k.at_source.def k.source.log) }) now)
 
 -- and so do the other servers, as they are
 abbrev pub OthersHoldAfterSignal : Type 0
@@ -107,5 +104,4 @@ RefreshHolds = (world : World) (k : KnownSet) (number : ℕ) (entry : Entry) (be
 
 -- and so do the other servers, as they are
 abbrev pub OthersHoldAfterStep : Type 0
-OthersHoldAfterStep = (world : World) (k : KnownSet) (entry : Entry) (other : Server) (held : Contents) → IsSound world → In k (read_only_sets (known_sets world)) → In other world → bytes_eq k.target.name other.name ≡ false
-    → Holds world other held → Holds (with_step world k entry) other held × Holds (with_refresh world k entry) other held
+OthersHoldAfterStep = (world : World) (k : KnownSet) (entry : Entry) (other : Server) (held : Contents) → Holds world other held → Holds (with_step world k entry) other held × Holds (with_refresh world k entry) other held

@@ -1,1 +1,3 @@
 pub mod ActedServers
+pub mod StoredSteps
+pub mod laws

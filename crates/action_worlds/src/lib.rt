@@ -1,10 +1,10 @@
 //! What the next action of a read-only set makes of a world.
 //!
 //! `repl_model` says what a read-only set does next, and which world follows. The law here shows
-//! that the world stays sound, so that the steps of a set can go on for ever. It has no code. It
-//! stands on `repl_model`, on `load_worlds`, for the elements of lists and for where a known set
-//! stands, on `log_worlds`, for a log that is made longer, and on `capture_worlds`, for the images
-//! of the elements of lists. `action_store` stands on it.
+//! that the world stays sound, so that one action can follow another. It has no code. It stands on
+//! `repl_model`, on `load_worlds`, for the elements of lists and for where a known set stands, on
+//! `log_worlds`, for a log that is made longer, and on `capture_worlds`, for the images of the
+//! elements of lists. `action_store`, `prune_control` and `full_refresh` stand on it.
 //!
 //! For example, a set was refreshed at 2, and its source has captured up to 8. Its next action is a
 //! block from 2 to 8. Afterwards its trail says so, and 8 is the point that its targets have

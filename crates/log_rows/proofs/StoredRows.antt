@@ -1,5 +1,5 @@
 -- The stored table of rows, after a row is put or removed, and after changes.
-use Rattle.std.proofs.Common.{◌≡◌, ℕ, zero, suc, Bool, true, false, cond, not, List, [], ◌∷◌, map, get_or, Option, Some, None, refl, sym, ap, subst, ◌∙◌}
+use Rattle.std.proofs.Common.{◌≡◌, ℕ, zero, suc, Bool, true, false, cond, not, List, [], ◌∷◌, get_or, Option, Some, None, refl, sym, ap, subst, ◌∙◌}
 use Rattle.std.specs.List.{AllByRecursion}
 use Rattle.std.specs.Str.{bytes_eq}
 use Rattle.std.specs.Cmp.{eq_by_cmp_equiv}
@@ -16,11 +16,11 @@ use Rattle.repl_types.specs.declared.record.Change.TheVariants.{Insert, Update, 
 use Rattle.repl_types.specs.declared.table.TableDef.{TableDef}
 use Rattle.row_codec.specs.Spelling.{IsKey, IsRow, key_spelling, row_spelling}
 use Rattle.row_codec.specs.laws.Values.{order_key}
-use Rattle.repl_records.specs.SourceSide.{source_row_spelling}
-use Rattle.keep_core.specs.Contents.{Table, same_key, set_key}
+use Rattle.keep_core.specs.Contents.{Table, set_key}
 use Rattle.rows_in_order.specs.Rows.{table_from_rows}
 use Rattle.repl_model.specs.Tables.{Rows, key_of, table_of, effect, after_change}
-use Rattle.log_rows.specs.SourceTables.{stored_row, rows_table, StandsUnderKey, RowsStand, KeysOfRowsFit, HasRows, TypedChangesHaveRows, with_effect, ChangeIsStored, RowsStayStanding, with_changes, ChangesAreStored}
+use Rattle.log_rows.specs.SourceTables.{rows_table, StandsUnderKey, RowsStand, KeysOfRowsFit, HasRows, TypedChangesHaveRows, with_effect, ChangeIsStored, RowsStayStanding, with_changes, ChangesAreStored}
+use Rattle.log_rows.specs.laws.StandingRows.{table_of_entries}
 use Rattle.log_rows.proofs.Puts.{put_all}
 use Rattle.log_rows.proofs.PutTables.{put_table, removed_table}
 
@@ -57,14 +57,7 @@ typed_rows tx (Stop table) typed = tt
 
 -- the stored table spells the values of each entry
 pub entries_table : (rows : Rows) → rows_table rows ≡ table_from_rows key_spelling row_spelling (entries rows)
-entries_table rows = of_list (entries rows)
-  where
-    at : (es : List (Values × Values)) (k : List ℕ) → table_from_rows key_spelling source_row_spelling (map stored_row es) k ≡ table_from_rows key_spelling row_spelling es k
-    at [] k = refl
-    at (e ∷ es) k = ap (cond (same_key (key_spelling e.0) k) (Some (row_spelling e.1))) (at es k)
-
-    of_list : (es : List (Values × Values)) → table_from_rows key_spelling source_row_spelling (map stored_row es) ≡ table_from_rows key_spelling row_spelling es
-    of_list es = λ i k. at es k i
+entries_table rows = table_of_entries (entries rows)
 
 -- the entries after a key was removed
 abbrev pub without : Values → List (Values × Values) → List (Values × Values)

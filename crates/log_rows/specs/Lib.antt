@@ -5,3 +5,4 @@ pub mod SourceReads
 pub mod SourceLogs
 pub mod Applying
 pub mod StorableRows
+pub mod laws

@@ -1,33 +1,22 @@
 -- Rows and changes that may stand in a table: proofs.
-use Rattle.std.proofs.Common.{◌≡◌, ℕ, zero, suc, ◌≤◌, ◌<◌, Bool, true, false, cond, ◌&&◌, List, [], ◌∷◌, ◌++◌, length, get_or, refl, subst, arith, inl, inr}
+use Rattle.std.proofs.Common.{◌≡◌, ℕ, zero, suc, ◌≤◌, ◌<◌, Bool, true, false, cond, ◌&&◌, List, [], ◌∷◌, length, refl, subst, arith, inl, inr}
 use Rattle.std.specs.Prelude.{◌⊎◌, nat_le, sum_by, not, ◌==◌, Some, None}
 use Rattle.std.specs.Option.{option_map_or}
 use Rattle.std.specs.Str.{bytes_eq}
 use Rattle.std.proofs.lemmas.Bool.{and_parts, leb-true}
 use Rattle.repl_types.specs.Sizes.{key_limit, row_limit, IsKeySize}
 use Rattle.repl_types.specs.Value.{Values, images, spelled_len}
-use Rattle.repl_types.specs.declared.value.Value.{Value}
-use Rattle.repl_types.specs.declared.value.Value.TheVariants.{Null, Int, Text}
 use Rattle.repl_types.specs.declared.record.Change.{Change}
 use Rattle.repl_types.specs.declared.record.Change.TheVariants.{Insert, Update, Delete, Start, Stop}
 use Rattle.repl_types.specs.declared.record.LogRecord.TheVariants as records
 use Rattle.repl_types.specs.declared.table.TableDef.{TableDef}
 use Rattle.row_codec.specs.LogRecords.{HasShortRows}
-use Rattle.row_codec.specs.Spelling.{key_spelling, value_spelling}
+use Rattle.row_codec.specs.Spelling.{key_spelling}
 use Rattle.row_codec.specs.laws.Sizes.{key_size}
 use Rattle.repl_model.specs.Tables.{key_of, table_of, same_values}
 use Rattle.repl_model.specs.Applicable.{fits, fits_columns, change_fits, is_change_applicable}
+use Rattle.log_rows.specs.laws.StandingRows.{some_byte}
 use Rattle.source_log.specs.Fitting.{has_short_rows, may_stand, CanBeMade, RowMayStand}
-
--- a key of at least one value takes a byte
-pub some_byte : (places : List ℕ) (row : Values) → 0 < length places → 0 < length (key_spelling (images places row))
-some_byte [] row some = absurd (omega arith)
-some_byte (place ∷ places) row some = by_value (get_or row place Null) (key_spelling (images places row))
-  where
-    by_value : (v : Value) (rest : List ℕ) → 0 < length (value_spelling v ++ rest)
-    by_value Null rest = omega arith
-    by_value (Int n) rest = omega arith
-    by_value (Text t) rest = omega arith
 
 -- the key of a row that may stand in a table has the size of a key
 pub row_key_size : ((key : Values) → length (key_spelling key) ≡ sum_by spelled_len key) → (def : TableDef) (row : Values) → RowMayStand def row → IsKeySize (key_spelling (key_of def row))

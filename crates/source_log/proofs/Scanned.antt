@@ -1,30 +1,23 @@
 -- The next committed row of a table of the source: proofs.
-use Rattle.std.proofs.Common.{◌≡◌, ℕ, ◌<◌, Bool, true, false, cond, List, [], ◌∷◌, length, map, refl, sym, ap, subst, ◌∙◌}
-use Rattle.std.specs.Prelude.{T, ◌&&◌, Option, Some, None, nat_lt}
-use Rattle.std.specs.FinMap.{entries, entries_sorted}
-use Rattle.std.specs.FinMap.Entries.{below_all, is_sorted}
+use Rattle.std.proofs.Common.{◌≡◌, ℕ, ◌<◌, List, [], ◌∷◌, length, map, refl, sym, ap, subst, ◌∙◌}
+use Rattle.std.specs.Prelude.{◌&&◌, Option, Some, None, nat_lt}
+use Rattle.std.specs.FinMap.{entries}
 use Rattle.std.specs.List.{AllByRecursion, list_all}
 use Rattle.std.specs.Option.{option_map_or, option_map}
-use Rattle.std.specs.Ordering.{is_lt}
-use Rattle.std.specs.declared.cmp.Ordering.{Ordering}
-use Rattle.std.specs.declared.cmp.Ordering.TheVariants.{Less, Equal, Greater}
 use Rattle.std.proofs.lemmas.Bool.{and_parts, ltb-true}
-use Rattle.repl_types.specs.Value.{Values, key_cmp}
+use Rattle.repl_types.specs.Value.{Values}
 use Rattle.repl_types.specs.declared.area.Area.TheVariants as areas
 use Rattle.repl_types.specs.declared.table.TableDef.{TableDef}
 use Rattle.repl_types.specs.laws.Lists.{all_weaker, filter_none}
 use Rattle.faults.specs.declared.fault.Fault.{Fault}
 use Rattle.keep_core.specs.Kept.{Kept}
-use Rattle.keep_core.specs.Contents.{Contents, Table, IsNextKey, IsLastKey, same_key}
+use Rattle.keep_core.specs.Contents.{Contents, Table, IsNextKey, IsLastKey}
 use Rattle.row_codec.specs.Spelling.{IsKey, IsRow, key_spelling, row_spelling}
-use Rattle.row_codec.specs.laws.Ones.{one_whole}
-use Rattle.row_codec.specs.laws.Values.{order_key, one_key, one_row}
 use Rattle.repl_definitions.specs.declared.defined.DefinedTable.{DefinedTable}
 use Rattle.repl_records.specs.SourceSide.{source_row_spelling, IsSourceRow}
-use Rattle.rows_in_order.specs.Rows.{table_from_rows, rows_after, is_before, AllAfter, IsRising, SpellsApart, NextRow}
+use Rattle.rows_in_order.specs.Rows.{table_from_rows, rows_after, is_before, IsRising, NextRow}
 use Rattle.rows_in_order.specs.laws.After.{after_all, after_first, after_next}
 use Rattle.rows_in_order.specs.laws.Fitting.{fits_each, fits_next}
-use Rattle.rows_in_order.specs.laws.Found.{all_some}
 use Rattle.rows_in_order.specs.laws.Rising.{no_row}
 use Rattle.repl_model.specs.Rules.{all_places, are_among, may_be_key}
 use Rattle.repl_model.specs.SoundDefinitions.{KeepsTable}
@@ -37,7 +30,8 @@ use Rattle.load_worlds.specs.laws.Members.{at_one}
 use Rattle.world_store.specs.LogRows.{source_rows}
 use Rattle.world_store.specs.Tables.{no_rows}
 use Rattle.log_rows.specs.SourceLogs.{SourceRowsStand}
-use Rattle.log_rows.specs.SourceTables.{stored_row, StandsUnderKey, RowsStand, KeysOfRowsFit}
+use Rattle.log_rows.specs.SourceTables.{StandsUnderKey, RowsStand, KeysOfRowsFit}
+use Rattle.log_rows.specs.laws.StandingRows.{rows_apart, table_of_entries, standing_fit, standing_rise, standing_some}
 use Rattle.site_store.specs.declared.sites.Sites.{Sites}
 use Rattle.site_store.specs.Calls.{reads_of_one, AtServer, Blames, Fails}
 use Rattle.site_store.specs.Damage.{Rules, IsUndamaged, IsSpelt, IsNoDamage}
@@ -48,48 +42,11 @@ use Rattle.server_steps.specs.Calls.{Stops}
 use Rattle.server_steps.specs.laws.Damage.{next_breaks}
 use Rattle.stored_defs.specs.Reading.{RowFits, table_rules}
 use Rattle.source_log.specs.Scanning.{HasCommitted, rows_left, IsFirstLeft, ShowsBadRow}
-use Rattle.source_log.proofs.MayStand.{some_byte}
 use Rattle.source_log.proofs.OwnTables.{own_tables_keep}
 
 -- an entry of the rows of a table
 abbrev Entry : Type 0
 Entry = Values × Values
-
--- ---- keys in order
-
--- a test of two that both pass
-both_pass : (a b : Bool) → T (a && b) → T a × T b
-both_pass true b e = (tt, e)
-both_pass false b e = absurd e
-
--- a test for less
-is_less : (o : Ordering) → T (is_lt o) → o ≡ Less
-is_less Less e = refl
-is_less Equal e = absurd e
-is_less Greater e = absurd e
-
--- entries whose keys are above one are after it
-above_after : (key : Values) (es : List Entry) → IsKey key → AllByRecursion (λ (e : Entry). IsKey e.0) es → T (below_all key_cmp key es) → AllAfter key_spelling (key_spelling key) es
-above_after key [] fit all below = tt
-above_after key (e ∷ es) fit all below =
-    let parts = both_pass (is_lt (key_cmp key e.0)) (below_all key_cmp key es) below in
-    (order_key key e.0 fit all.0 ∙ is_less (key_cmp key e.0) parts.0, above_after key es fit all.1 parts.1)
-
--- sorted entries rise
-entries_rise : (es : List Entry) → AllByRecursion (λ (e : Entry). IsKey e.0) es → T (is_sorted key_cmp es) → IsRising key_spelling es
-entries_rise [] all sorted = tt
-entries_rise (e ∷ es) all sorted =
-    let parts = both_pass (below_all key_cmp e.0 es) (is_sorted key_cmp es) sorted in
-    (above_after e.0 es all.0 all.1 parts.0, entries_rise es all.1 parts.1)
-
--- the stored table of entries is made of them
-table_of_entries : (es : List Entry) → table_from_rows key_spelling source_row_spelling (map stored_row es) ≡ table_from_rows key_spelling row_spelling es
-table_of_entries [] = refl
-table_of_entries (e ∷ es) = λ i k. cond (same_key (key_spelling e.0) k) (Some (row_spelling e.1)) (table_of_entries es i k)
-
--- entries are told apart by their spellings
-entries_apart : SpellsApart (RowFits IsKey IsRow) key_spelling row_spelling
-entries_apart r s fr fs keys values = λ i. (one_key r.0 s.0 fr.0 fs.0 keys i, one_whole IsRow row_spelling one_row r.1 s.1 fr.1 fs.1 values i)
 
 -- ---- the rows of a table
 
@@ -104,11 +61,11 @@ module _ (keys : KeysOfRowsFit) (stand : SourceRowsStand) (server : Server) (tab
 
   -- and can be spelled
   rows_fit : AllByRecursion (RowFits IsKey IsRow) (entries rows)
-  rows_fit = all_weaker (StandsUnderKey table.def) (RowFits IsKey IsRow) (entries rows) (λ e s. (subst IsKey (sym s.own) (keys table.def e.1 s.row), s.row)) rows_stand
+  rows_fit = standing_fit keys table.def rows rows_stand
 
   -- their keys rise
   rows_rise : IsRising key_spelling (entries rows)
-  rows_rise = entries_rise (entries rows) (all_weaker (RowFits IsKey IsRow) (λ (e : Entry). IsKey e.0) (entries rows) (λ e fit. fit.0) rows_fit) (entries_sorted rows)
+  rows_rise = standing_rise keys table.def rows rows_stand
 
   -- the table has a key
   keyed : 0 < length table.def.key
@@ -120,7 +77,7 @@ module _ (keys : KeysOfRowsFit) (stand : SourceRowsStand) (server : Server) (tab
 
   -- so no key is spelled by nothing
   rows_after_all : rows_after key_spelling [] (entries rows) ≡ entries rows
-  rows_after_all = after_all key_spelling [] (entries rows) (all_some key_spelling (entries rows) (all_weaker (StandsUnderKey table.def) (λ (e : Entry). 0 < length (key_spelling e.0)) (entries rows) (λ e s. subst (λ (k : Values). 0 < length (key_spelling k)) (sym s.own) (some_byte table.def.key e.1 keyed)) rows_stand))
+  rows_after_all = after_all key_spelling [] (entries rows) (standing_some keys table.def rows rows_stand keyed)
 
   -- the contents have them
   stored : c areas.Source table.number ≡ table_from_rows key_spelling row_spelling (entries rows)
@@ -151,7 +108,7 @@ module _ (keys : KeysOfRowsFit) (stand : SourceRowsStand) (server : Server) (tab
   some_next after last is key row fit_key fit next =
       let es = entries rows in
       let from = after_key key_spelling last in
-      let r : NextRow key_spelling es from (key, row) = fits_next (RowFits IsKey IsRow) key_spelling row_spelling es from (key, row) entries_apart rows_fit (fit_key, fit) rows_rise (subst (λ (t : Table). IsNextKey t from (key_spelling key) (row_spelling row)) stored next) in
+      let r : NextRow key_spelling es from (key, row) = fits_next (RowFits IsKey IsRow) key_spelling row_spelling es from (key, row) rows_apart rows_fit (fit_key, fit) rows_rise (subst (λ (t : Table). IsNextKey t from (key_spelling key) (row_spelling row)) stored next) in
       let own : key ≡ key_of table.def row = (fits_each (StandsUnderKey table.def) es (key, row) rows_stand (record { front = r.front; back = r.back; split = r.split })).own in
       left_after after last is
       ∙ ap (map (λ (e : Entry). e.1)) (after_first key_spelling es from (key, row) r)

@@ -173,6 +173,7 @@ module _ (gets : LogGetsRow) (are_rows : OpenChangesAreRows) (goes_on : HeadGoes
   -- the unit was appended
   pub unit_appended : AppendsUnit unit seq c d
   unit_appended = record {
+    room = omega (arith, room);
     others = λ a n other.
         ap (λ (x : Contents). x a n) ends
         ∙ end_apart logged key (Some (head_spelling end)) a n other

@@ -1,5 +1,5 @@
 -- One more unit of the program's own at the log of a server: its records, and what they make of contents.
-use Rattle.std.specs.Prelude.{◌≡◌, ◌⊎◌, ℕ, zero, ◌+◌, ◌<◌, ◌==◌, ◌||◌, false, IsTrue, if◌then◌else◌, List, [], ◌∷◌, ◌++◌, length, map, Option, Some, None, ⊤}
+use Rattle.std.specs.Prelude.{◌≡◌, ◌⊎◌, ℕ, zero, ◌+◌, ◌<◌, ◌≤◌, ◌==◌, ◌||◌, false, IsTrue, if◌then◌else◌, List, [], ◌∷◌, ◌++◌, length, map, Option, Some, None, ⊤}
 use Rattle.std.specs.List.{AllByRecursion}
 use Rattle.repl_types.specs.declared.area.Area.{Area}
 use Rattle.repl_types.specs.declared.area.Area.TheVariants as areas
@@ -131,9 +131,10 @@ pub record HasUnit (server : Server) (unit : Unit) (seq : ℕ) (c d : Contents) 
   pub put : d areas.Head 0 ≡ set_key (c areas.Head 0) (single_spelling (record {})) (Some (head_spelling (head_of (with_more (unit_records unit) server))))
   pub last : seq ≡ length (with_more (unit_records unit) server).log
 
--- A unit was appended. Tables that aren't of the log are as they were. If the others were those of a server's log, and
--- its end was the stored one, they are those of its log with the unit.
+-- A unit was appended, with a seq that a log may have. Tables that aren't of the log are as they were. If the others
+-- were those of a server's log, and its end was the stored one, they are those of its log with the unit.
 pub record AppendsUnit (unit : Unit) (seq : ℕ) (c d : Contents) : Type 0 where
+  pub room : seq ≤ log_limit
   pub others : (a : Area) (n : ℕ) → is_of_log a n ≡ false → d a n ≡ c a n
   pub stores : (server : Server) → IsKept server → EndIs (head_of server) c → Stores server c → HasUnit server unit seq c d
 

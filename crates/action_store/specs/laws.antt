@@ -1,0 +1,4 @@
+pub mod Numbered
+pub mod ShortTrails
+pub mod Sources
+pub mod States
