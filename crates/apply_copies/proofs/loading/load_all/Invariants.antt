@@ -1,0 +1,22 @@
+use Rattle.std.specs.Prelude.{◌-◌, IfSome}
+use Rattle.repl_types.specs.Sizes.{key_limit}
+use Rattle.row_codec.specs.Spelling.{key_spelling}
+use Rattle.site_store.specs.Records.{after_key}
+use Rattle.site_store.specs.Views.{sees}
+use Rattle.server_steps.specs.Calls.{GoesOn}
+use Rattle.set_places.specs.Reading.{ReadsOnly}
+use Rattle.apply_copies.specs.Keys.{IsStoredKey}
+use Rattle.apply_copies.specs.Rules.{is_of_load}
+use Rattle.apply_copies.proofs.CopiedRows.{HasLoaded}
+use Rattle.apply_copies.proofs.KeyRanks.{rank_of, rank_limit}
+use Rattle.apply_copies.proofs.loading.load_all.Given as goal
+
+abbrev pub invariant-loop-key : goal.invariant-loop-key
+invariant-loop-key g l = record {
+  stored : IfSome l.last IsStoredKey;
+  goes : GoesOn g.K.Keeper.kept l.fn.sites l.sites l.set.target (HasLoaded (sees g.K.Keeper.kept l.fn.sites l.set.source) l.table l.number l.member (after_key key_spelling l.last) l.rows);
+  reads : ReadsOnly is_of_load g.K.Keeper.kept l.fn.sites l.sites;
+}
+
+abbrev pub decreases-loop-key : goal.decreases-loop-key
+decreases-loop-key g l = rank_limit key_limit - rank_of l.last

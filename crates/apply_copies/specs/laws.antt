@@ -1,0 +1,5 @@
+pub mod CopyRows
+pub mod FewRows
+pub mod SourceRows
+pub mod Undamaged
+pub mod Values

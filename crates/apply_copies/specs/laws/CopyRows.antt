@@ -1,0 +1,128 @@
+-- The rows of a user copy of a source at a point: what they are made of, and that they can be stored.
+use Rattle.std.proofs.Common.{◌≡◌, ℕ, Bool, true, false, cond, List, [], ◌∷◌, length, map, filter, refl, sym, ap, subst, ◌∙◌, arith}
+use Rattle.std.specs.Prelude.{◌&&◌, ◌==◌, nat_lt, nat_le, Some, None, IfSome}
+use Rattle.std.specs.FinMap.{empty, entries, len-empty, len-entries}
+use Rattle.std.specs.List.{AllByRecursion}
+use Rattle.repl_types.specs.Value.{Values, key_cmp}
+use Rattle.repl_types.specs.declared.area.Area.TheVariants as areas
+use Rattle.repl_types.specs.declared.record.Change.{Change}
+use Rattle.repl_types.specs.declared.record.LogRecord.{LogRecord}
+use Rattle.repl_types.specs.declared.record.LogRecord.TheVariants as records
+use Rattle.repl_types.specs.declared.table.TableDef.{TableDef}
+use Rattle.repl_types.specs.declared.unit.Placed.{Placed}
+use Rattle.repl_types.specs.declared.unit.Unit.{Unit as LogUnit}
+use Rattle.repl_types.specs.laws.Lists.{all_filter}
+use Rattle.keep_core.specs.Contents.{Contents, Table}
+use Rattle.row_codec.specs.LogRecords.{IsLogRecord}
+use Rattle.row_codec.specs.Spelling.{IsKey, IsRow, key_spelling}
+use Rattle.repl_definitions.specs.Members.{IsMember}
+use Rattle.repl_definitions.specs.declared.member.Member.{Member}
+use Rattle.repl_records.specs.TargetSide.{copy_spelling, IsCopy}
+use Rattle.repl_records.specs.declared.target_side.CopyRow.{CopyRow}
+use Rattle.repl_model.specs.MemberCopies.{user_copy}
+use Rattle.repl_model.specs.Selection.{SourceTable, is_selected, selected_rows, target_row}
+use Rattle.repl_model.specs.SoundLogs.{LogIsSound}
+use Rattle.repl_model.specs.SourceAt.{unplaced, after_units, units_up_to, source_at}
+use Rattle.repl_model.specs.Tables.{Rows, after_change, after_changes}
+use Rattle.repl_model.specs.Units.{At, positions, last_end, change_of, changes_up_to, unit_at, units}
+use Rattle.repl_model.specs.World.{Server}
+use Rattle.rows_in_order.specs.Rows.{table_from_rows}
+use Rattle.load_worlds.specs.laws.Entries.{numbered_in}
+use Rattle.load_worlds.specs.laws.Members.{at_one, at_each, in_filter, each_given, each_image}
+use Rattle.log_rows.specs.SourceTables.{HasRows, StandsUnderKey, RowsStand, KeysOfRowsFit, TypedChangesHaveRows, RowsStayStanding}
+use Rattle.log_rows.specs.laws.StandingRows.{standing_fit}
+use Rattle.site_store.specs.Damage.{IsUndamaged, IsSpelt}
+use Rattle.site_store.specs.laws.Damage.{rows_spelt, spelt_undamaged}
+use Rattle.stored_defs.specs.Reading.{RowFits}
+use Rattle.apply_copies.specs.Copying.{selected, copied}
+use Rattle.apply_copies.specs.Rules.{target_rules}
+use Rattle.apply_copies.specs.laws.Values.{target_row_fits}
+
+-- the rows of a user copy as records are those that are copied
+pub copied_are : (source : SourceTable) (member : Member) (point : ℕ) → map {A = Values × Values} {B = Values × CopyRow} (λ r. (r.0, record { row = r.1 })) (user_copy source member point) ≡ copied member (entries (source_at source.def source.log point))
+unfolding user_copy
+copied_are source member point = again (selected_rows source member point)
+  where
+    again : (rows : List (Values × Values)) → map {A = Values × Values} {B = Values × CopyRow} (λ r. (r.0, record { row = r.1 })) (map (λ (r : Values × Values). (r.0, target_row member r.1)) rows) ≡ map {A = Values × Values} {B = Values × CopyRow} (λ r. (r.0, record { row = target_row member r.1 })) rows
+    again [] = refl
+    again (r ∷ rows) = ap (λ (l : List (Values × CopyRow)). (r.0, record { row = target_row member r.1 }) ∷ l) (again rows)
+
+-- ---- the source at a point
+
+-- the changes of a unit are made of rows of values
+abbrev HasRowsEach : LogUnit → Type 0
+HasRowsEach u = AllByRecursion HasRows (unplaced u.changes)
+
+module _ (typed : TypedChangesHaveRows) (log : List LogRecord) (all : AllByRecursion IsLogRecord log) where
+  -- a change of a record is
+  change_has_rows : (tx : ℕ) (r : At) → IsLogRecord r.1 → IfSome (change_of tx r) (λ p. HasRows p.change)
+  change_has_rows tx (pos, records.Change t change) is = pick (t == tx)
+    where
+      pick : (b : Bool) → IfSome (cond b (Some (record { pos = pos; change = change })) None) (λ (p : Placed). HasRows p.change)
+      pick true = typed t change is
+      pick false = tt
+  change_has_rows tx (pos, records.Commit t time authid origin) is = tt
+  change_has_rows tx (pos, records.Abort t) is = tt
+
+  -- so are the changes of the log's units
+  units_have_rows : AllByRecursion HasRowsEach (units log)
+  unfolding units
+  units_have_rows = each_given HasRowsEach (unit_at log) (positions log) (at_each (λ (r : At). IfSome (unit_at log r) HasRowsEach) (positions log) (λ r i. at_record r))
+    where
+      at_record : (r : At) → IfSome (unit_at log r) HasRowsEach
+      at_record (pos, records.Change tx change) = tt
+      at_record (pos, records.Commit tx time authid origin) =
+          let between = λ (r : At). nat_lt (last_end tx pos log) r.0 && nat_lt r.0 pos in
+          each_image HasRows (λ (p : Placed). p.change) (changes_up_to tx pos log) (each_given (λ (p : Placed). HasRows p.change) (change_of tx) (filter between (positions log)) (at_each (λ (r : At). IfSome (change_of tx r) (λ p. HasRows p.change)) (filter between (positions log)) (λ r i. change_has_rows tx r (at_one IsLogRecord log r.1 all (numbered_in 1 log r (in_filter between (positions log) r i).0)))))
+      at_record (pos, records.Abort tx) = tt
+
+module _ (typed : TypedChangesHaveRows) (stay : RowsStayStanding) where
+  -- rows stand under their keys after such changes
+  changes_stand : (def : TableDef) (changes : List Change) (rows : Rows) → AllByRecursion HasRows changes → RowsStand def rows → RowsStand def (after_changes def changes rows)
+  changes_stand def [] rows all stand = stand
+  changes_stand def (change ∷ changes) rows all stand = changes_stand def changes (after_change def change rows) all.1 (stay def change rows stand all.0)
+
+  -- and after such units
+  units_stand : (def : TableDef) (us : List LogUnit) (rows : Rows) → AllByRecursion HasRowsEach us → RowsStand def rows → RowsStand def (after_units def us rows)
+  units_stand def [] rows all stand = stand
+  units_stand def (u ∷ us) rows all stand = units_stand def us (after_changes def (unplaced u.changes) rows) all.1 (changes_stand def (unplaced u.changes) rows all.0 stand)
+
+  -- the rows of the source of a sound log stand under their keys at each point
+  pub rows_stand_at : (server : Server) (def : TableDef) (point : ℕ) → LogIsSound server → RowsStand def (source_at def server.log point)
+  unfolding source_at
+  rows_stand_at server def point sound = units_stand def (units_up_to point server.log) empty (all_filter HasRowsEach (λ (u : LogUnit). nat_le u.head.seq point) (units server.log) (units_have_rows typed server.log sound.typed)) (none_stand (StandsUnderKey def) (entries (empty {X = Values} {R = key_cmp})) (sym (len-entries (empty {X = Values} {R = key_cmp})) ∙ len-empty key_cmp Values))
+    where
+      none_stand : {X : Type 0} (P : X → Type 0) (xs : List X) → length xs ≡ 0 → AllByRecursion P xs
+      none_stand P [] e = tt
+      none_stand P (x ∷ xs) e = absurd (omega (arith, e))
+
+  -- the rows of a user copy of it can be stored
+  pub copy_rows_fit : KeysOfRowsFit → (server : Server) (source : SourceTable) (member : Member) (point : ℕ) → LogIsSound server → source.log ≡ server.log → IsMember member → AllByRecursion (RowFits IsKey IsCopy) (map (λ r. (r.0, record { row = r.1 })) (user_copy source member point))
+  copy_rows_fit keys server source member point sound same fits = subst (AllByRecursion (RowFits IsKey IsCopy)) (sym (copied_are source member point)) (each (selected member rows) (all_filter (λ (r : Values × Values). IsKey r.0 × IsRow r.1) (λ (r : Values × Values). is_selected member r.1) rows all))
+    where
+      rows : List (Values × Values)
+      rows = entries (source_at source.def source.log point)
+
+      all : AllByRecursion (λ (r : Values × Values). IsKey r.0 × IsRow r.1) rows
+      all = standing_fit keys source.def (source_at source.def source.log point) (subst (λ (log : List LogRecord). RowsStand source.def (source_at source.def log point)) (sym same) (rows_stand_at server source.def point sound))
+
+      each : (rs : List (Values × Values)) → AllByRecursion (λ (r : Values × Values). IsKey r.0 × IsRow r.1) rs → AllByRecursion (RowFits IsKey IsCopy) (map {A = Values × Values} {B = Values × CopyRow} (λ r. (r.0, record { row = target_row member r.1 })) rs)
+      each [] h = tt
+      each (r ∷ rs) h = ((h.0.0, target_row_fits r.1 h.0.1.1 member fits), each rs h.1)
+
+-- a target that has rows of a copy, and no others, shows no damage
+pub target_undamaged : (number : ℕ) (c : Contents) (rows : List (Values × CopyRow)) → c areas.Target number ≡ table_from_rows key_spelling copy_spelling rows → AllByRecursion (RowFits IsKey IsCopy) rows → IsUndamaged (target_rules number) c
+target_undamaged number c rows is fit = spelt_undamaged (target_rules number) (λ a t key d needed. needed, λ a t key value d unfit. unfit) c spelt
+  where
+    there : (key value : List ℕ) → c areas.Target number key ≡ Some value → (target_rules number).is_key areas.Target number key × (target_rules number).is_value areas.Target number value
+    there key value has = rows_spelt (target_rules number) areas.Target number key_spelling copy_spelling rows key value (each rows fit) (ap (λ (u : Table). u key) (sym is) ∙ has)
+      where
+        each : (rs : List (Values × CopyRow)) → AllByRecursion (RowFits IsKey IsCopy) rs → AllByRecursion (λ (r : Values × CopyRow). (target_rules number).is_key areas.Target number (key_spelling r.0) × (target_rules number).is_value areas.Target number (copy_spelling r.1)) rs
+        each [] h = tt
+        each (r ∷ rs) h = (((λ a t. (r.0, h.0.0, refl)), (λ a t. (r.1, h.0.1, refl))), each rs h.1)
+
+    spelt : IsSpelt (target_rules number) c
+    spelt a t key value has = (
+      λ area table. (there key value (sym (λ i. c (area i) (table i) key) ∙ has)).0 refl refl,
+      λ area table. (there key value (sym (λ i. c (area i) (table i) key) ∙ has)).1 refl refl,
+    )

@@ -1,0 +1,42 @@
+//! The laws that the proofs of this crate cite.
+
+ghost use Rattle.repl_records.specs.TargetSide.{copy_spelling, IsCopy, HasCopySpelling};
+ghost use Rattle.repl_records.specs.declared.target_side.CopyRow.{CopyRow};
+ghost use Rattle.repl_types.specs.Sizes.{row_limit};
+ghost use Rattle.row_codec.specs.Storable.{IsStorable};
+ghost use Rattle.log_rows.specs.SourceLogs.{SourceRowsStand};
+ghost use Rattle.log_rows.specs.SourceTables.{KeysOfRowsFit, TypedChangesHaveRows};
+ghost use Rattle.log_rows.specs.SourceTables.{RowsStayStanding};
+ghost use Rattle.std.specs.Prelude.{◌≤◌, length};
+ghost use Rattle.apply_copies.specs.Rules.{SourceIsUndamaged, TargetIsUndamaged};
+
+use log_rows::{a_change_is_stored, the_source_stands};
+use repl_records::records_of_64_values_are_storable;
+
+/// A row of at most 64 values can be stored in a copy.
+pub fn laws_of_copies()
+    ensures { (r : CopyRow) → IsCopy r → length r.row ≤ row_limit
+        → IsStorable HasCopySpelling copy_spelling r }
+{
+    records_of_64_values_are_storable();
+}
+
+/// What is known of the rows of a source.
+pub fn laws_of_sources()
+    ensures keys { KeysOfRowsFit }
+    ensures stand { SourceRowsStand }
+    ensures typed { TypedChangesHaveRows }
+    ensures stay { RowsStayStanding }
+{
+    a_change_is_stored();
+    the_source_stands();
+}
+
+/// What a server of a sound world holds shows no damage of the source of a copy, and a target that
+/// has the rows of a copy shows none.
+pub fn copies_are_undamaged()
+    ensures source { SourceIsUndamaged }
+    ensures target { TargetIsUndamaged }
+{
+    laws_of_sources();
+}

@@ -1,0 +1,4 @@
+mod CopyDamage
+mod CopyTables
+mod LoadedCopies
+mod LoadFaults

@@ -1,0 +1,10 @@
+mod FirstMembers
+mod LastUnits
+mod LoadSteps
+mod PutRefreshes
+mod PutSignals
+mod RefreshSteps
+mod Refreshed
+mod SignalRecords
+mod SignalSteps
+mod Signalled

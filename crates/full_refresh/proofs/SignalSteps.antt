@@ -1,0 +1,108 @@
+-- The steps of a signal, one after another, and what is known if one fails: proofs.
+use Rattle.std.proofs.Common.{◌≡◌, inl, ℕ, List, [], get_or, map, sym, ap, subst, ◌∙◌}
+use Rattle.std.specs.Prelude.{Option, Some, None}
+use Rattle.std.proofs.Math.ListN.{set as set_at}
+use Rattle.std.proofs.lemmas.Option.{slice_get_within, get_or_from_slice_get}
+use Rattle.repl_types.specs.declared.unit.Unit.{Unit as LogUnit}
+use Rattle.repl_types.specs.declared.unit.Placed.{Placed}
+use Rattle.faults.specs.declared.fault.Fault.{Fault}
+use Rattle.keep_core.specs.Contents.{Contents}
+use Rattle.keep_core.specs.Kept.{Kept}
+use Rattle.repl_records.specs.declared.prune.SyncMark.{SyncMark}
+use Rattle.repl_model.specs.AfterActions.{source_tables, signal_records}
+use Rattle.repl_model.specs.Sound.{empty_server}
+use Rattle.repl_model.specs.World.{Server, World, KnownSet}
+use Rattle.site_store.specs.declared.sites.Sites.{Sites}
+use Rattle.site_store.specs.Servers.{AllClosed}
+use Rattle.site_store.specs.Views.{names, held, work, sees}
+use Rattle.site_store.specs.Calls.{Blames}
+use Rattle.site_store.specs.Damage.{Rules, joined, Shows, Damages, IsUndamaged, IsNoDamage}
+use Rattle.site_store.specs.laws.Damage.{shown_first, shown_second, blames_by, no_damage}
+use Rattle.server_steps.specs.Calls.{Looks, Breaks}
+use Rattle.server_steps.specs.laws.Faults.{blames_after, stops_as, stops_after}
+use Rattle.server_steps.specs.laws.Reads.{looks_sees}
+use Rattle.stored_defs.specs.Known.{server_in}
+use Rattle.world_store.specs.LogRows.{head_of}
+use Rattle.world_store.specs.Stands.{Reveals, Stands}
+use Rattle.load_worlds.specs.laws.Entries.{at_place_in}
+use Rattle.source_log.specs.Rules.{all_rules}
+use Rattle.source_log.specs.Scanning.{IsSeenAs}
+use Rattle.source_log.specs.Units.{unit_records, table_rules, HasNoRoomFor, ShowsUnitDamage}
+use Rattle.set_places.specs.declared.placed_set.PlacedSet.{PlacedSet}
+use Rattle.set_places.specs.Places.{IsPlacedAs}
+use Rattle.set_places.specs.Steps.{HasStepped, MayHaveBecome}
+use Rattle.set_places.specs.laws.Standing.{source_revealed}
+use Rattle.prune_control.specs.Noting.{mark_rules}
+use Rattle.prune_control.specs.laws.Marks.{marks_undamaged}
+use Rattle.full_refresh.specs.PutSignals.{PutsSignal, HasPutSignal}
+use Rattle.full_refresh.specs.Signals.{start_of, unit_of_signal, ShowsDamage}
+use Rattle.full_refresh.proofs.SignalRecords.{signal_is_unit}
+
+-- what the log of a set's source should have for its signal
+abbrev pub log_rules : PlacedSet → Rules
+log_rules set = joined all_rules (table_rules (map start_of (source_tables set.at_source.def)))
+
+module _ {K : Type 0} (kept : K → Kept) (set : PlacedSet) where
+  -- ---- who is to blame
+
+  module _ (s0 s1 : Sites K) where
+    -- if the mark wasn't read
+    pub mark_blames : (e : Fault) → Breaks mark_rules kept s0 s1 set.source e → Blames kept s0 s1 (ShowsDamage kept s0 set) e
+    mark_blames e f = (stops_as kept s0 s1 (Damages (λ s. s ≡ set.source) mark_rules kept s0) (ShowsDamage kept s0 set) e (λ s a cause h. (h.0, shown_second (log_rules set) mark_rules a cause (sees kept s0 s) h.1)) f).blames
+
+    module _ (looks : Looks kept s0 s1) (s2 : Sites K) where
+      -- or the end of the log
+      pub end_blames : (e : Fault) → Breaks all_rules kept s1 s2 set.source e → Blames kept s0 s2 (ShowsDamage kept s0 set) e
+      end_blames e f = (stops_after kept s0 s1 s2 looks.most (ShowsDamage kept s0 set) e looks.stays.passes looks.stays.held (stops_as kept s1 s2 (Damages (λ s. s ≡ set.source) all_rules kept s1) (ShowsDamage kept s0 set) e
+          (λ s a cause h. (h.0, shown_first (log_rules set) mark_rules a cause (sees kept s0 s) (shown_first all_rules (table_rules (map start_of (source_tables set.at_source.def))) a cause (sees kept s0 s) (subst (Shows all_rules a cause) (looks_sees kept s0 s1 looks s) h.1)))) f)).blames
+
+      -- or the unit wasn't appended
+      pub unit_blames : (unit : LogUnit) (e : Fault) → unit.changes ≡ map start_of (source_tables set.at_source.def) → Blames kept s1 s2 (ShowsUnitDamage kept s1 set.source unit) e → Blames kept s0 s2 (ShowsDamage kept s0 set) e
+      unit_blames unit e made h = blames_after kept s0 s1 s2 looks.most (ShowsDamage kept s0 set) e looks.stays.passes (blames_by kept s1 s2 (ShowsUnitDamage kept s1 set.source unit) (ShowsDamage kept s0 set) e h
+          (λ s a cause d. (d.0, shown_first (log_rules set) mark_rules a cause (sees kept s0 s) (subst (λ (l : List Placed). Shows (joined all_rules (table_rules l)) a cause (sees kept s0 s)) made (subst (Shows (joined all_rules (table_rules unit.changes)) a cause) (looks_sees kept s0 s1 looks s) d.1)))))
+
+  -- ---- in a world
+
+  -- nothing changed
+  pub unchanged : (s0 s1 : Sites K) (w v : World) (e : Fault) → held kept s1 ≡ held kept s0 → Stands (names s0) (held kept s0) w → IsNoDamage e → MayHaveBecome kept s0 s1 w v e
+  unchanged s0 s1 w v e same stands undamaged = record { stands = inl (subst (λ (h : List (Option Contents)). Stands (names s0) h w) (sym same) stands); undamaged = undamaged }
+
+  -- a step after reads is one from the beginning
+  pub stepped_after : (s0 s1 s2 : Sites K) (server : ℕ) (step : Contents → Contents → Type 0) → held kept s1 ≡ held kept s0 → HasStepped kept s1 s2 server step → HasStepped kept s0 s2 server step
+  stepped_after s0 s1 s2 server step same stepped = subst (λ (h : List (Option Contents)). (c : Contents) → get_or h server None ≡ Some c → (d : Contents) × (held kept s2 ≡ set_at h server (Some d)) × step c d) same stepped
+
+  module _ (s0 s1 : Sites K) (closed : AllClosed (work kept s0)) (w : World) (k : KnownSet) (stands : Stands (names s0) (held kept s0) w) (placed : IsPlacedAs w k set) where
+    -- the source is seen to have what the world calls for
+    pub revealed : Reveals w k.source (sees kept s0 set.source)
+    revealed = source_revealed kept s0 w k set stands (closed set.source) placed
+
+    -- after reads too
+    pub revealed_after : Looks kept s0 s1 → Reveals w k.source (sees kept s1 set.source)
+    revealed_after looks = subst (λ (o : Option Contents). Reveals w k.source o) (sym (looks_sees kept s0 s1 looks set.source)) revealed
+
+    -- its place is that of the world's server
+    pub place_is : server_in w set.source ≡ k.source
+    place_is = get_or_from_slice_get w set.source k.source (empty_server []) placed.source
+
+    -- so it is seen as it is in the world
+    pub seen_as : Looks kept s0 s1 → IsSeenAs kept s1 set.source w
+    seen_as looks = record {
+      sound = stands.sound;
+      within = slice_get_within w set.source k.source placed.source;
+      reveals = subst (λ (s : Server). Reveals w s (sees kept s1 set.source)) (sym place_is) (revealed_after looks);
+    }
+
+    -- no damage is found of the mark
+    pub mark_undamaged : (e : Fault) → Breaks mark_rules kept s0 s1 set.source e → IsNoDamage e
+    mark_undamaged e f = no_damage kept s0 s1 (λ s. s ≡ set.source) mark_rules e
+        (λ s is. subst (λ (q : ℕ). (c : Contents) × (sees kept s0 q ≡ Some c) × IsUndamaged mark_rules c) (sym is) (revealed.0, revealed.1, marks_undamaged w k.source revealed.0 stands.sound (at_place_in w set.source k.source placed.source) revealed.2)) f.blames
+
+  -- the records of the unit that was made are those of the signal
+  pub records_made : (w : World) (k : KnownSet) (unit : LogUnit) (time : ℕ) → IsPlacedAs w k set → unit ≡ unit_of_signal set.at_source.def time → time ≡ (head_of k.source).time → unit_records unit ≡ signal_records k.at_source.def k.source.log
+  records_made w k unit time placed made at = ap unit_records made ∙ (λ i. unit_records (unit_of_signal (placed.source_def i) (at i))) ∙ signal_is_unit k.at_source.def k.source.log
+
+  -- what was answered after reads is so from the beginning
+  pub answered_after : (s0 s1 s2 : Sites K) (known : SyncMark) (unit : LogUnit) (c : Contents) (answer : Option ℕ) → held kept s1 ≡ held kept s0 → sees kept s1 set.source ≡ Some c → HasPutSignal kept s1 s2 set known unit answer
+      → (P : Option ℕ → Type 0) → ((held kept s2 ≡ held kept s0) × HasNoRoomFor unit c → P None) → ((seq : ℕ) → HasStepped kept s0 s2 set.source (PutsSignal set.at_source.number known unit seq) → P (Some seq)) → P answer
+  answered_after s0 s1 s2 known unit c None same saw full P none some = none (full.same ∙ same, full.none c saw)
+  answered_after s0 s1 s2 known unit c (Some seq) same saw put P none some = some seq (stepped_after s0 s1 s2 set.source (PutsSignal set.at_source.number known unit seq) same put.stepped)

@@ -1,0 +1,4 @@
+pub mod Signals
+pub mod PutSignals
+pub mod Loading
+pub mod Refreshes

@@ -1,0 +1,3 @@
+mod PutMarks
+mod Reports
+mod StoredMarks

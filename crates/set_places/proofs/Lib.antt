@@ -1,0 +1,4 @@
+mod FindFaults
+mod FoundSets
+mod FoundSources
+mod MemberRows

@@ -1,0 +1,6 @@
+pub mod Places
+pub mod Finding
+pub mod Members
+pub mod Reading
+pub mod Steps
+pub mod laws

@@ -1,0 +1,12 @@
+pub mod StoredStates
+pub mod StoredCapture
+pub mod StoredEntries
+pub mod Looking
+pub mod JoinedRules
+pub mod ActionCases
+pub mod NoDamage
+pub mod MemberGaps
+pub mod MemberLists
+pub mod FirstGaps
+pub mod NextUnits
+pub mod BlockCuts

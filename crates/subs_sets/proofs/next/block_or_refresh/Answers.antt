@@ -1,0 +1,21 @@
+use Rattle.std.proofs.lemmas.Result.{err_from_is_err_and}
+use Rattle.server_steps.specs.laws.Damage.{breaks_after}
+use Rattle.server_steps.specs.laws.Reads.{looks_then}
+use Rattle.subs_sets.specs.Rules.{source_rules}
+use Rattle.subs_sets.proofs.next.block_or_refresh.Goals as goal
+
+pub returns-in_err-to-clause-fault : goal.returns-in_err-to-clause-fault
+returns-in_err-to-clause-fault g c =
+    let p = err_from_is_err_and c.from_residual-in_err-to.result c.from_residual-in_err-to.ensures.1 in
+    rw (p.1, p.2) (breaks_after source_rules g.K.Keeper.kept c.args.sites.now c.find_gap.new.sites c.block_end.new.sites c.args.set.now.source c.in_err-to.field-0.0 c.in_ok-gap.ensures.ok c.in_err-to.ensures.fault)
+
+pub returns-in_default-clause-ok : goal.returns-in_default-clause-ok
+returns-in_default-clause-ok g c = looks_then g.K.Keeper.kept c.args.sites.now c.find_gap.new.sites c.block_end.new.sites c.in_ok-gap.ensures.ok c.in_ok-to.ensures.ok
+
+pub returns-in_err-action-clause-fault : goal.returns-in_err-action-clause-fault
+returns-in_err-action-clause-fault g c =
+    let p = err_from_is_err_and c.from_residual-in_err-action.result c.from_residual-in_err-action.ensures.1 in
+    rw (p.1, p.2) (breaks_after source_rules g.K.Keeper.kept c.args.sites.now c.find_gap.new.sites c.refresh_by_signal.new.sites c.args.set.now.source c.in_err-action.field-0.0 c.in_ok-gap.ensures.ok c.in_err-action.ensures.fault)
+
+pub returns-clause-ok : goal.returns-clause-ok
+returns-clause-ok g c = looks_then g.K.Keeper.kept c.args.sites.now c.find_gap.new.sites c.refresh_by_signal.new.sites c.in_ok-gap.ensures.ok c.in_ok-action.ensures.ok

@@ -1,0 +1,6 @@
+pub mod Actions
+pub mod Cuts
+pub mod Gaps
+pub mod Rules
+pub mod States
+pub mod laws

@@ -1,0 +1,92 @@
+//! Where a block ends.
+
+ghost use Rattle.std.specs.Prelude.{◌≡◌, ◌<◌, ◌≤◌, OnOk, IfOk, IfErr, IfSome};
+ghost use Rattle.repl_model.specs.NextActions.{block_end as block_end_lem};
+ghost use Rattle.repl_model.specs.Trails.{synchpoint};
+ghost use Rattle.server_steps.specs.Calls.{Looks, Breaks};
+ghost use Rattle.set_places.specs.Places.{IsPlacedAtSource};
+ghost use Rattle.set_places.specs.Members.{ForSource};
+ghost use Rattle.set_places.specs.Reading.{ReadsOnly};
+ghost use Rattle.subs_sets.specs.Cuts.{captured_after, first_unit, is_within_limits};
+ghost use Rattle.subs_sets.specs.Rules.{is_read, source_rules};
+
+use faults::Fault;
+use keep_core::Keeper;
+use repl_definitions::SetDef;
+use repl_records::UowRow;
+use row_codec::Table0;
+use set_places::PlacedSet;
+use site_store::Sites;
+use std::alloc::Global;
+
+/// How many seconds a minute has.
+const MINUTE: u64 = 60;
+
+/// Whether the unit with a number, counted from 1, at a time is within the limits of a set on one
+/// block whose first unit is at another time. A limit of 0 is none.
+fn is_within(def: &SetDef, first: u64, number: u64, time: u64) -> bool
+    ensures { result ≡ is_within_limits def.now first number time }
+{
+    let count = u64::from(def.commit_count);
+    let minutes = u64::from(def.max_minutes);
+    let is_counted = count == 0 || number <= count;
+    let is_early = minutes == 0 || time <= first.saturating_add(MINUTE * minutes);
+    is_counted && is_early
+}
+
+/// The seq and the time of the first captured unit after a point, if there is one.
+fn next_unit<K: Keeper>(
+    sites: &mut Sites<K>,
+    alloc: Global,
+    set: &PlacedSet,
+    point: u64,
+) -> Result<Option<(u64, u64)>, Fault>
+    requires placed { IsPlacedAtSource K.kept sites.old set.now }
+    ensures ok { OnOk result (Looks K.kept sites.old sites.new) }
+    ensures unit { IfOk result (λ found. ForSource K.kept sites.old set.now (λ w k.
+        found ≡ first_unit (captured_after point k.source))) }
+    ensures rises { IfOk result (λ found. IfSome found (λ unit. point < unit.0)) }
+    ensures fault { IfErr result (Breaks source_rules K.kept sites.old sites.new set.now.source) }
+    ensures reads { ReadsOnly is_read K.kept sites.old sites.new }
+{
+    let next = sites.next::<UowRow>(alloc, set.source, Table0, Some(&point))?;
+    let Some((seq, row)) = next else {
+        return Ok(None);
+    };
+    Ok(Some((seq, row.time)))
+}
+
+/// The seq at which the block of a set after a point ends: of the captured units after the point,
+/// that of the last one which one block takes. It takes at least one. If there is no such unit, the
+/// answer is 0.
+pub fn block_end<K: Keeper>(
+    sites: &mut Sites<K>,
+    alloc: Global,
+    set: &PlacedSet,
+    point: u64,
+) -> Result<u64, Fault>
+    requires placed { IsPlacedAtSource K.kept sites.old set.now }
+    ensures ok { OnOk result (Looks K.kept sites.old sites.new) }
+    ensures cut { IfOk result (λ cut. ForSource K.kept sites.old set.now (λ w k.
+        point ≡ synchpoint k.at_target.trail → k.source.floor ≤ point
+        → cut ≡ block_end_lem k)) }
+    ensures fault { IfErr result (Breaks source_rules K.kept sites.old sites.new set.now.source) }
+    ensures reads { ReadsOnly is_read K.kept sites.old sites.new }
+{
+    let first = next_unit(sites, alloc, set, point)?;
+    let Some((mut cut, time)) = first else {
+        return Ok(0);
+    };
+    let mut number: u64 = 1;
+    loop {
+        let next = next_unit(sites, alloc, set, cut)?;
+        let Some((seq, later)) = next else {
+            return Ok(cut);
+        };
+        number = number.saturating_add(1);
+        if !is_within(&set.at_source.def, time, number, later) {
+            return Ok(cut);
+        }
+        cut = seq;
+    }
+}
