@@ -1,0 +1,7 @@
+mod Agreeing
+mod Images
+mod StoredCopies
+mod OneChange
+mod FirstUnits
+mod Units
+mod KnownMembers

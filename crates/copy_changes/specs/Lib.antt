@@ -1,0 +1,2 @@
+pub mod ChangedCopies
+pub mod laws

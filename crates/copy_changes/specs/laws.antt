@@ -1,0 +1,2 @@
+pub mod LoggedChanges
+pub mod ShownRows
