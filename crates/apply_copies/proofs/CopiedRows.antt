@@ -31,7 +31,7 @@ use Rattle.world_store.specs.Tables.{no_rows}
 use Rattle.apply_copies.specs.Copying.{CanBeCopied, LoadsSelected, LoadsRow, HasRows, selected, copied, LoadsNext, LoadsAll}
 use Rattle.apply_copies.specs.Loading.{is_target}
 use Rattle.apply_copies.specs.Rules.{target_rules}
-use Rattle.apply_copies.specs.laws.FewRows.{filter_few}
+use Rattle.subs_sets.specs.laws.FewRows.{filter_few}
 use Rattle.apply_copies.specs.laws.Values.{target_row_fits}
 
 -- ---- one row
@@ -62,7 +62,7 @@ front_before (r ∷ rs) row back rise = (later rs rise.0, front_before rs row ba
     later (q ∷ qs) after = later qs after.1
 
 -- what two reads of one server say, if it is seen
-both_seen : (saw : Option Contents) (P Q R : Contents → Type 0) → ((s : Contents) → P s → Q s → R s) → IfSome saw P → IfSome saw Q → IfSome saw R
+pub both_seen : (saw : Option Contents) (P Q R : Contents → Type 0) → ((s : Contents) → P s → Q s → R s) → IfSome saw P → IfSome saw Q → IfSome saw R
 both_seen None P Q R step p q = tt
 both_seen (Some s) P Q R step p q = step s p q
 
@@ -143,6 +143,18 @@ module _ (member : Member) where
 pub other_number : (n m : ℕ) → (n == m) ≡ (m == n)
 other_number n m = grind (arith, nat_tests)
 
+-- a write at a target leaves all other tables
+pub put_others : (number : ℕ) (k : List ℕ) (v : Option (List ℕ)) (c : Contents) (a : Area) (m : ℕ) → is_target number a m ≡ false → put_at c areas.Target number k v a m ≡ c a m
+put_others number k v c a m other = ap (λ (b : Bool). cond b (set_key (c areas.Target number) k v) (c a m)) (ap (λ (b : Bool). same_area areas.Target a && b) (other_number number m) ∙ other)
+
+-- a row that is put, or isn't, leaves all other tables
+pub loaded_others : (number : ℕ) (member : Member) (key row : Values) (put : ℕ) (c d : Contents) → LoadsRow number member key row put c d → (a : Area) (m : ℕ) → is_target number a m ≡ false → d a m ≡ c a m
+loaded_others number member key row put c d loads a m other = pick (is_selected member row) loads.loads
+  where
+    pick : (t : Bool) → LoadsSelected t number member key row put c d → d a m ≡ c a m
+    pick true loaded = ap (λ (f : Contents). f a m) loaded.1 ∙ put_others number (key_spelling key) (Some (row_spelling (target_row member row))) c a m other
+    pick false loaded = ap (λ (f : Contents). f a m) loaded.1
+
 module _ (saw : Option Contents) (table number : ℕ) (member : Member) where
   -- The rows of a table of the source up to a key were copied to a target that had none.
   pub record HasLoaded (after : List ℕ) (put : ℕ) (c d : Contents) : Type 0 where
@@ -161,7 +173,7 @@ module _ (saw : Option Contents) (table number : ℕ) (member : Member) where
   -- the next row is copied
   pub loaded_next : (after : List ℕ) (put sum n : ℕ) (key : Values) (c d e : Contents) → IsKey key → sum ≡ min (put + n) (2 ^ 64 - 1) → HasLoaded after put c d → LoadsNext saw table number member after (Some (key, n)) d e → HasLoaded (key_spelling key) sum c e
   loaded_next after put sum n key c d e fit sums before step = record {
-    others = λ a m other. elsewhere (is_selected member step.0) step.3.loads a m other ∙ before.others a m other;
+    others = λ a m other. loaded_others number member key step.0 n d e step.3 a m other ∙ before.others a m other;
     shown = λ n a cause h. before.shown n a cause (step.3.shown n a cause h);
     copies = both_seen saw
         (λ s. (rows : List (Values × Values)) → HasRows table rows s → c areas.Target number ≡ no_rows → IsPart member rows after put (d areas.Target number))
@@ -170,13 +182,6 @@ module _ (saw : Option Contents) (table number : ℕ) (member : Member) where
         (λ s part next rows has empty. part_next member number table rows s d e after put sum n key step.0 has fit step.1 next sums (part rows has empty) step.3)
         before.copies step.2;
   }
-    where
-      elsewhere : (t : Bool) → LoadsSelected t number member key step.0 n d e → (a : Area) (m : ℕ) → is_target number a m ≡ false → e a m ≡ d a m
-      elsewhere true loaded a m other =
-          let k = key_spelling key in
-          let v = Some (row_spelling (target_row member step.0)) in
-          ap (λ (f : Contents). f a m) loaded.1 ∙ ap (λ (b : Bool). cond b (set_key (d areas.Target number) k v) (d a m)) (ap (λ (b : Bool). same_area areas.Target a && b) (other_number number m) ∙ other)
-      elsewhere false loaded a m other = ap (λ (f : Contents). f a m) loaded.1
 
   -- there is no next row, so all are copied
   pub loaded_all : (after : List ℕ) (put : ℕ) (c d e : Contents) → HasLoaded after put c d → LoadsNext saw table number member after None d e → LoadsAll saw table number member put c e

@@ -15,7 +15,7 @@ use Rattle.repl_definitions.specs.Sets.{source_set_spelling}
 use Rattle.repl_definitions.specs.declared.member.Member.{Member}
 use Rattle.site_store.specs.declared.sites.Sites.{Sites}
 use Rattle.site_store.specs.Calls.{Bounds, no_access, both, Passes, Reads, ClosesAll, Blames, IsMemoryOr}
-use Rattle.site_store.specs.Damage.{Damages}
+use Rattle.site_store.specs.Damage.{Rules, Damages}
 use Rattle.site_store.specs.Views.{sees}
 use Rattle.site_store.specs.laws.Counts.{at_most_itself, passes_then}
 use Rattle.site_store.specs.laws.Damage.{shown_first}
@@ -26,6 +26,7 @@ use Rattle.load_worlds.specs.laws.Entries.{at_place_in}
 use Rattle.set_places.specs.declared.placed_set.PlacedSet.{PlacedSet}
 use Rattle.set_places.specs.Members.{member_rules}
 use Rattle.set_places.specs.Places.{HasSourceRow, IsPlacedAtSource}
+use Rattle.apply_copies.specs.ChangeRules.{may_be_change_key, may_be_change, calls_for_table, is_unfit_change, change_source_rules, ShowsDamageOfChanges}
 use Rattle.apply_copies.specs.Rules.{target_rules, may_be_source_key, may_be_source_row, is_too_wide, source_rules, ShowsDamage}
 
 -- ---- members
@@ -68,22 +69,32 @@ module _ {K : Type 0} (kept : K → Kept) (s0 : Sites K) (set : PlacedSet) (numb
   pub target_stops : (s1 : Sites K) (e : Fault) → Breaks (target_rules number) kept s0 s1 set.target e → Stops kept s0 s1 (ShowsDamage kept s0 set number) e
   target_stops s1 e f = stops_as kept s0 s1 (Damages (λ s. s ≡ set.target) (target_rules number) kept s0) (ShowsDamage kept s0 set number) e (λ s a cause h. inr h) f
 
-  -- ---- a set that is too wide
+  -- ---- which damage of change rows is shown
 
-  module _ (place : ℕ) (own : Member) (at : slice_get set.at_source.def.members place ≡ Some own) (placed : IsPlacedAtSource kept s0 set) where
-    -- the row of a set that has a member with too many columns is unfit
-    pub wide_stops : (s1 s2 : Sites K) (e : Fault) → row_limit < length own.columns → Reads kept s0 s1 set.source areas.Defs → ClosesAll kept s1 s2 no_access → IsMemoryOr (faults.Damaged set.source areas.Defs (causes.Unfit (source_set_spelling set.at_source))) e → Stops kept s0 s2 (ShowsDamage kept s0 set number) e
-    wide_stops s1 s2 e wide read closes fault = source_stops s2 e (by_seen (sees kept s0 set.source) refl placed.row)
-      where
-        bytes : List ℕ
-        bytes = source_set_spelling set.at_source
+  -- damage at the source
+  pub change_stops : (s1 : Sites K) (e : Fault) → Breaks change_source_rules kept s0 s1 set.source e → Stops kept s0 s1 (ShowsDamageOfChanges kept s0 set number) e
+  change_stops s1 e f = stops_as kept s0 s1 (Damages (λ s. s ≡ set.source) change_source_rules kept s0) (ShowsDamageOfChanges kept s0 set number) e (λ s a cause h. inl h) f
 
-        unfit : (key : List ℕ) (c : Contents) → source_rules.is_unfit areas.Defs 2 key bytes c
-        unfit key c = inr (set.at_source, placed.fits, refl, (own, at_place_in set.at_source.def.members place own at, wide))
+  -- damage at the source, by the rules of members
+  pub change_member_stops : (s1 : Sites K) (e : Fault) → Breaks member_rules kept s0 s1 set.source e → Stops kept s0 s1 (ShowsDamageOfChanges kept s0 set number) e
+  change_member_stops s1 e f = stops_as kept s0 s1 (Damages (λ s. s ≡ set.source) member_rules kept s0) (ShowsDamageOfChanges kept s0 set number) e (λ s a cause h. inl (h.0, shown_first member_rules (record { is_key = may_be_change_key; is_value = may_be_change; is_needed = calls_for_table; is_unfit = is_unfit_change }) a cause (sees kept s0 s) h.1)) f
 
-        breaks : (key : List ℕ) → IfSome (sees kept s0 set.source) (λ c. c areas.Defs 2 key ≡ Some bytes) → IfSome (sees kept s0 set.source) (source_rules.is_unfit areas.Defs 2 key bytes) → Breaks source_rules kept s0 s2 set.source e
-        breaks key stands shown = unfit_breaks source_rules kept s0 s1 s2 set.source areas.Defs 2 key bytes e read stands shown closes fault
+-- ---- a set that is too wide
 
-        by_seen : (saw : Option Contents) → sees kept s0 set.source ≡ saw → IfSome saw (HasSourceRow set.at_source) → Breaks source_rules kept s0 s2 set.source e
-        by_seen None is has = breaks [] (subst (λ (o : Option Contents). IfSome o (λ c. c areas.Defs 2 [] ≡ Some bytes)) (sym is) tt) (subst (λ (o : Option Contents). IfSome o (source_rules.is_unfit areas.Defs 2 [] bytes)) (sym is) tt)
-        by_seen (Some c) is has = breaks has.0 (subst (λ (o : Option Contents). IfSome o (λ c. c areas.Defs 2 has.0 ≡ Some bytes)) (sym is) has.1) (subst (λ (o : Option Contents). IfSome o (source_rules.is_unfit areas.Defs 2 has.0 bytes)) (sym is) (unfit has.0 c))
+module _ {K : Type 0} (kept : K → Kept) (s0 : Sites K) (set : PlacedSet) (rules : Rules) (unfit : (key value : List ℕ) (c : Contents) → is_too_wide areas.Defs 2 key value c → rules.is_unfit areas.Defs 2 key value c) (place : ℕ) (own : Member) (at : slice_get set.at_source.def.members place ≡ Some own) (placed : IsPlacedAtSource kept s0 set) where
+  -- the row of a set that has a member with too many columns is unfit
+  pub wide_breaks : (s1 s2 : Sites K) (e : Fault) → row_limit < length own.columns → Reads kept s0 s1 set.source areas.Defs → ClosesAll kept s1 s2 no_access → IsMemoryOr (faults.Damaged set.source areas.Defs (causes.Unfit (source_set_spelling set.at_source))) e → Breaks rules kept s0 s2 set.source e
+  wide_breaks s1 s2 e wide read closes fault = by_seen (sees kept s0 set.source) refl placed.row
+    where
+      bytes : List ℕ
+      bytes = source_set_spelling set.at_source
+
+      is_unfit : (key : List ℕ) (c : Contents) → rules.is_unfit areas.Defs 2 key bytes c
+      is_unfit key c = unfit key bytes c (set.at_source, placed.fits, refl, (own, at_place_in set.at_source.def.members place own at, wide))
+
+      breaks : (key : List ℕ) → IfSome (sees kept s0 set.source) (λ c. c areas.Defs 2 key ≡ Some bytes) → IfSome (sees kept s0 set.source) (rules.is_unfit areas.Defs 2 key bytes) → Breaks rules kept s0 s2 set.source e
+      breaks key stands shown = unfit_breaks rules kept s0 s1 s2 set.source areas.Defs 2 key bytes e read stands shown closes fault
+
+      by_seen : (saw : Option Contents) → sees kept s0 set.source ≡ saw → IfSome saw (HasSourceRow set.at_source) → Breaks rules kept s0 s2 set.source e
+      by_seen None is has = breaks [] (subst (λ (o : Option Contents). IfSome o (λ c. c areas.Defs 2 [] ≡ Some bytes)) (sym is) tt) (subst (λ (o : Option Contents). IfSome o (rules.is_unfit areas.Defs 2 [] bytes)) (sym is) tt)
+      by_seen (Some c) is has = breaks has.0 (subst (λ (o : Option Contents). IfSome o (λ c. c areas.Defs 2 has.0 ≡ Some bytes)) (sym is) has.1) (subst (λ (o : Option Contents). IfSome o (rules.is_unfit areas.Defs 2 has.0 bytes)) (sym is) (is_unfit has.0 c))

@@ -24,6 +24,10 @@ pub record CanBeCopied (member : Member) : Type 0 where
   pub fits : IsMember member
   pub narrow : length member.columns ≤ row_limit
 
+-- no area is read, since a row is only put
+abbrev pub no_area : Area → Bool
+no_area a = false
+
 -- if a row is selected, the row that it makes is put under a key, and else nothing
 abbrev pub LoadsSelected : Bool → ℕ → Member → Values → Values → ℕ → Contents → Contents → Type 0
 LoadsSelected true number member key row put c d = (put ≡ 1) × (d ≡ put_at c areas.Target number (key_spelling key) (Some (row_spelling (target_row member row))))

@@ -1,6 +1,9 @@
+pub mod ChangeRules
+pub mod Changing
 pub mod Clearing
 pub mod Copying
 pub mod Keys
 pub mod Loading
 pub mod Rules
+pub mod Taking
 pub mod laws

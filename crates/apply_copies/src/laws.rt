@@ -8,9 +8,12 @@ ghost use Rattle.log_rows.specs.SourceLogs.{SourceRowsStand};
 ghost use Rattle.log_rows.specs.SourceTables.{KeysOfRowsFit, TypedChangesHaveRows};
 ghost use Rattle.log_rows.specs.SourceTables.{RowsStayStanding};
 ghost use Rattle.std.specs.Prelude.{◌≤◌, length};
+ghost use Rattle.copy_changes.specs.ChangedCopies.{CopyTakesChanges};
+ghost use Rattle.apply_copies.specs.ChangeRules.{ChangeSourceIsUndamaged};
 ghost use Rattle.apply_copies.specs.Rules.{SourceIsUndamaged, TargetIsUndamaged};
 
-use log_rows::{a_change_is_stored, the_source_stands};
+use copy_changes::a_copy_takes_changes;
+use log_rows::{a_change_is_stored, rows_that_fit_are_storable, the_source_stands};
 use repl_records::records_of_64_values_are_storable;
 
 /// A row of at most 64 values can be stored in a copy.
@@ -39,4 +42,21 @@ pub fn copies_are_undamaged()
     ensures target { TargetIsUndamaged }
 {
     laws_of_sources();
+}
+
+/// What change rows make of a copy.
+pub fn laws_of_changes()
+    ensures { CopyTakesChanges }
+{
+    a_copy_takes_changes();
+}
+
+/// What a server of a sound world holds shows no damage of the source from which a copy takes
+/// change rows.
+pub fn changes_are_undamaged()
+    ensures { ChangeSourceIsUndamaged }
+{
+    laws_of_sources();
+    the_source_stands();
+    rows_that_fit_are_storable();
 }

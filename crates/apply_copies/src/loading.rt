@@ -11,7 +11,7 @@ ghost use Rattle.set_places.specs.Reading.{ReadsOnly};
 ghost use Rattle.apply_copies.specs.Loading.{target_number as target_number_lem, LoadsCopy};
 ghost use Rattle.apply_copies.specs.Keys.{IsStoredKey, IsLaterKey};
 ghost use Rattle.apply_copies.specs.Loading.{HasOnlyRows};
-ghost use Rattle.apply_copies.specs.Copying.{CanBeCopied, LoadsRow, LoadsNext, LoadsAll};
+ghost use Rattle.apply_copies.specs.Copying.{CanBeCopied, no_area, LoadsRow, LoadsNext, LoadsAll};
 ghost use Rattle.apply_copies.specs.Rules.{is_of_load, source_rules, ShowsDamage};
 
 use crate::clearing::clear_rows;
@@ -28,7 +28,7 @@ use std::alloc::Global;
 
 /// The number of the target of a member. No set of a server that stands for a world has a number
 /// for which this would pass the greatest number.
-fn target_number(set: &PlacedSet, member: u32) -> u32
+pub fn target_number(set: &PlacedSet, member: u32) -> u32
     ensures { result ≡ target_number_lem set.now.at_target.number member }
 {
     set.at_target
@@ -39,7 +39,7 @@ fn target_number(set: &PlacedSet, member: u32) -> u32
 
 /// Puts the row that a row of the source makes, if the member selects it, and answers how many rows
 /// were put.
-fn load_row<K: Keeper>(
+pub fn load_row<K: Keeper>(
     sites: &mut Sites<K>,
     alloc: Global,
     target: u32,
@@ -56,7 +56,7 @@ fn load_row<K: Keeper>(
     ensures ok { IfOk result (λ put. GoesOn K.kept sites.old sites.new target
         (LoadsRow number member.now key.now row.now put)) }
     ensures fault { IfErr result (FailsToWrite K.kept sites.old sites.new) }
-    ensures reads { ReadsOnly is_of_load K.kept sites.old sites.new }
+    ensures reads { ReadsOnly no_area K.kept sites.old sites.new }
 {
     laws_of_copies();
     if !is_selected(member, row) {

@@ -1,7 +1,4 @@
-mod FirstMembers
 mod LastUnits
-mod LoadSteps
-mod PutRefreshes
 mod PutSignals
 mod RefreshSteps
 mod Refreshed

@@ -1,7 +1,6 @@
 -- The steps of a signal, one after another, and what is known if one fails: proofs.
-use Rattle.std.proofs.Common.{◌≡◌, inl, ℕ, List, [], get_or, map, sym, ap, subst, ◌∙◌}
+use Rattle.std.proofs.Common.{◌≡◌, ℕ, List, [], map, sym, ap, subst, ◌∙◌}
 use Rattle.std.specs.Prelude.{Option, Some, None}
-use Rattle.std.proofs.Math.ListN.{set as set_at}
 use Rattle.std.proofs.lemmas.Option.{slice_get_within, get_or_from_slice_get}
 use Rattle.repl_types.specs.declared.unit.Unit.{Unit as LogUnit}
 use Rattle.repl_types.specs.declared.unit.Placed.{Placed}
@@ -30,8 +29,8 @@ use Rattle.source_log.specs.Scanning.{IsSeenAs}
 use Rattle.source_log.specs.Units.{unit_records, table_rules, HasNoRoomFor, ShowsUnitDamage}
 use Rattle.set_places.specs.declared.placed_set.PlacedSet.{PlacedSet}
 use Rattle.set_places.specs.Places.{IsPlacedAs}
-use Rattle.set_places.specs.Steps.{HasStepped, MayHaveBecome}
-use Rattle.set_places.specs.laws.Standing.{source_revealed}
+use Rattle.set_places.specs.Steps.{HasStepped}
+use Rattle.target_steps.specs.laws.AtServers.{stepped_after, revealed, revealed_after}
 use Rattle.prune_control.specs.Noting.{mark_rules}
 use Rattle.prune_control.specs.laws.Marks.{marks_undamaged}
 use Rattle.full_refresh.specs.PutSignals.{PutsSignal, HasPutSignal}
@@ -63,23 +62,7 @@ module _ {K : Type 0} (kept : K → Kept) (set : PlacedSet) where
 
   -- ---- in a world
 
-  -- nothing changed
-  pub unchanged : (s0 s1 : Sites K) (w v : World) (e : Fault) → held kept s1 ≡ held kept s0 → Stands (names s0) (held kept s0) w → IsNoDamage e → MayHaveBecome kept s0 s1 w v e
-  unchanged s0 s1 w v e same stands undamaged = record { stands = inl (subst (λ (h : List (Option Contents)). Stands (names s0) h w) (sym same) stands); undamaged = undamaged }
-
-  -- a step after reads is one from the beginning
-  pub stepped_after : (s0 s1 s2 : Sites K) (server : ℕ) (step : Contents → Contents → Type 0) → held kept s1 ≡ held kept s0 → HasStepped kept s1 s2 server step → HasStepped kept s0 s2 server step
-  stepped_after s0 s1 s2 server step same stepped = subst (λ (h : List (Option Contents)). (c : Contents) → get_or h server None ≡ Some c → (d : Contents) × (held kept s2 ≡ set_at h server (Some d)) × step c d) same stepped
-
   module _ (s0 s1 : Sites K) (closed : AllClosed (work kept s0)) (w : World) (k : KnownSet) (stands : Stands (names s0) (held kept s0) w) (placed : IsPlacedAs w k set) where
-    -- the source is seen to have what the world calls for
-    pub revealed : Reveals w k.source (sees kept s0 set.source)
-    revealed = source_revealed kept s0 w k set stands (closed set.source) placed
-
-    -- after reads too
-    pub revealed_after : Looks kept s0 s1 → Reveals w k.source (sees kept s1 set.source)
-    revealed_after looks = subst (λ (o : Option Contents). Reveals w k.source o) (sym (looks_sees kept s0 s1 looks set.source)) revealed
-
     -- its place is that of the world's server
     pub place_is : server_in w set.source ≡ k.source
     place_is = get_or_from_slice_get w set.source k.source (empty_server []) placed.source
@@ -89,13 +72,15 @@ module _ {K : Type 0} (kept : K → Kept) (set : PlacedSet) where
     seen_as looks = record {
       sound = stands.sound;
       within = slice_get_within w set.source k.source placed.source;
-      reveals = subst (λ (s : Server). Reveals w s (sees kept s1 set.source)) (sym place_is) (revealed_after looks);
+      reveals = subst (λ (s : Server). Reveals w s (sees kept s1 set.source)) (sym place_is) (revealed_after kept set s0 s1 closed w k stands placed looks);
     }
 
     -- no damage is found of the mark
     pub mark_undamaged : (e : Fault) → Breaks mark_rules kept s0 s1 set.source e → IsNoDamage e
-    mark_undamaged e f = no_damage kept s0 s1 (λ s. s ≡ set.source) mark_rules e
-        (λ s is. subst (λ (q : ℕ). (c : Contents) × (sees kept s0 q ≡ Some c) × IsUndamaged mark_rules c) (sym is) (revealed.0, revealed.1, marks_undamaged w k.source revealed.0 stands.sound (at_place_in w set.source k.source placed.source) revealed.2)) f.blames
+    mark_undamaged e f =
+        let saw = revealed kept set s0 s1 closed w k stands placed in
+        no_damage kept s0 s1 (λ s. s ≡ set.source) mark_rules e
+        (λ s is. subst (λ (q : ℕ). (c : Contents) × (sees kept s0 q ≡ Some c) × IsUndamaged mark_rules c) (sym is) (saw.0, saw.1, marks_undamaged w k.source saw.0 stands.sound (at_place_in w set.source k.source placed.source) saw.2)) f.blames
 
   -- the records of the unit that was made are those of the signal
   pub records_made : (w : World) (k : KnownSet) (unit : LogUnit) (time : ℕ) → IsPlacedAs w k set → unit ≡ unit_of_signal set.at_source.def time → time ≡ (head_of k.source).time → unit_records unit ≡ signal_records k.at_source.def k.source.log
@@ -105,4 +90,4 @@ module _ {K : Type 0} (kept : K → Kept) (set : PlacedSet) where
   pub answered_after : (s0 s1 s2 : Sites K) (known : SyncMark) (unit : LogUnit) (c : Contents) (answer : Option ℕ) → held kept s1 ≡ held kept s0 → sees kept s1 set.source ≡ Some c → HasPutSignal kept s1 s2 set known unit answer
       → (P : Option ℕ → Type 0) → ((held kept s2 ≡ held kept s0) × HasNoRoomFor unit c → P None) → ((seq : ℕ) → HasStepped kept s0 s2 set.source (PutsSignal set.at_source.number known unit seq) → P (Some seq)) → P answer
   answered_after s0 s1 s2 known unit c None same saw full P none some = none (full.same ∙ same, full.none c saw)
-  answered_after s0 s1 s2 known unit c (Some seq) same saw put P none some = some seq (stepped_after s0 s1 s2 set.source (PutsSignal set.at_source.number known unit seq) same put.stepped)
+  answered_after s0 s1 s2 known unit c (Some seq) same saw put P none some = some seq (stepped_after kept set s0 s1 s2 set.source (PutsSignal set.at_source.number known unit seq) same put.stepped)

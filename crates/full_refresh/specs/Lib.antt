@@ -1,4 +1,3 @@
 pub mod Signals
 pub mod PutSignals
-pub mod Loading
 pub mod Refreshes

@@ -1,5 +1,6 @@
 -- The units that one block may take, and the limits of a set on it.
-use Rattle.std.specs.Prelude.{ℕ, ◌+◌, ◌*◌, Bool, ◌&&◌, ◌||◌, ◌==◌, nat_le, nat_lt, min, List, [], ◌∷◌, filter, Option, Some, None}
+use Rattle.std.specs.Prelude.{ℕ, ◌+◌, ◌-◌, ◌*◌, Bool, ◌&&◌, ◌||◌, ◌==◌, nat_le, nat_lt, min, List, [], ◌∷◌, filter, Option, Some, None}
+use Rattle.std.specs.Option.{option_map_or}
 use Rattle.repl_types.specs.declared.unit.Unit.{Unit as LogUnit}
 use Rattle.repl_definitions.specs.declared.set.SetDef.{SetDef}
 use Rattle.repl_model.specs.SourceAt.{units_between}
@@ -22,3 +23,7 @@ captured_after point server = filter (λ u. nat_lt point u.head.seq) (units_betw
 abbrev pub first_unit : List LogUnit → Option (ℕ × ℕ)
 first_unit [] = None
 first_unit (u ∷ us) = Some (u.head.seq, u.head.time)
+
+-- the time of the first captured unit of a server from a seq on, 0 if there is none
+abbrev pub time_from : ℕ → Server → ℕ
+time_from seq server = option_map_or (λ u. u.1) (first_unit (captured_after (seq - 1) server)) 0

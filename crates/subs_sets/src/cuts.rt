@@ -1,13 +1,16 @@
 //! Where a block ends.
 
-ghost use Rattle.std.specs.Prelude.{◌≡◌, ◌<◌, ◌≤◌, OnOk, IfOk, IfErr, IfSome};
+ghost use Rattle.std.specs.Prelude.{◌≡◌, ◌<◌, ◌≤◌, OnOk, OnErr, IfOk, IfErr, IfSome};
 ghost use Rattle.repl_model.specs.NextActions.{block_end as block_end_lem};
 ghost use Rattle.repl_model.specs.Trails.{synchpoint};
+ghost use Rattle.site_store.specs.Servers.{AllClosed};
+ghost use Rattle.site_store.specs.Views.{work};
 ghost use Rattle.server_steps.specs.Calls.{Looks, Breaks};
 ghost use Rattle.set_places.specs.Places.{IsPlacedAtSource};
 ghost use Rattle.set_places.specs.Members.{ForSource};
 ghost use Rattle.set_places.specs.Reading.{ReadsOnly};
 ghost use Rattle.subs_sets.specs.Cuts.{captured_after, first_unit, is_within_limits};
+ghost use Rattle.subs_sets.specs.Cuts.{time_from};
 ghost use Rattle.subs_sets.specs.Rules.{is_read, source_rules};
 
 use faults::Fault;
@@ -54,6 +57,33 @@ fn next_unit<K: Keeper>(
         return Ok(None);
     };
     Ok(Some((seq, row.time)))
+}
+
+/// The time in seconds of the first captured unit from a seq on, 0 if there is none.
+///
+/// After a fault no transaction is open at any server.
+pub fn unit_time<K: Keeper>(
+    sites: &mut Sites<K>,
+    alloc: Global,
+    set: &PlacedSet,
+    seq: u64,
+) -> Result<u64, Fault>
+    requires placed { IsPlacedAtSource K.kept sites.old set.now }
+    ensures ok { OnOk result (Looks K.kept sites.old sites.new) }
+    ensures time { IfOk result (λ time. ForSource K.kept sites.old set.now (λ w k.
+        time ≡ time_from seq k.source)) }
+    ensures fault { IfErr result (Breaks source_rules K.kept sites.old sites.new set.now.source) }
+    ensures closed { OnErr result (AllClosed (work K.kept sites.new)) }
+    ensures reads { ReadsOnly is_read K.kept sites.old sites.new }
+{
+    match next_unit(sites, alloc, set, seq.saturating_sub(1)) {
+        Ok(Some((_seq, time))) => Ok(time),
+        Ok(None) => Ok(0),
+        Err(e) => {
+            sites.rollback_all();
+            Err(e)
+        }
+    }
 }
 
 /// The seq at which the block of a set after a point ends: of the captured units after the point,

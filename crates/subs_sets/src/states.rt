@@ -1,12 +1,13 @@
 //! How far a set is at its target.
 
-ghost use Rattle.std.specs.Prelude.{◌≡◌, IsTrue, not, OnOk, IfOk, IfErr, IfSome};
+ghost use Rattle.std.specs.Prelude.{◌≡◌, IsTrue, not, OnOk, OnErr, IfOk, IfErr, IfSome};
 ghost use Rattle.repl_types.specs.declared.area.Area.TheVariants as areas;
 ghost use Rattle.repl_records.specs.SetState.{IsState};
 ghost use Rattle.repl_records.specs.Trail.{IsEntry};
 ghost use Rattle.repl_model.specs.Rules.{is_replica_set as is_replica_set_lem};
 ghost use Rattle.site_store.specs.Calls.{Reads};
-ghost use Rattle.site_store.specs.Views.{sees};
+ghost use Rattle.site_store.specs.Servers.{AllClosed};
+ghost use Rattle.site_store.specs.Views.{sees, work};
 ghost use Rattle.server_steps.specs.Calls.{Looks, Breaks};
 ghost use Rattle.set_places.specs.Places.{IsPlacedAtTarget};
 ghost use Rattle.set_places.specs.Members.{ForTarget};
@@ -111,11 +112,9 @@ pub fn set_state<K: Keeper>(
     Ok(state)
 }
 
-/// How far a read-only set is at its target. It is damage if the state of a replica set stands
-/// there.
-///
-/// It reads what the target's open transaction sees, and if none is open, what the target holds.
-pub fn read_only_state<K: Keeper>(
+/// How far a read-only set is at its target, as it is stored there. It is damage if the state of a
+/// replica set stands there.
+fn stored_points<K: Keeper>(
     sites: &mut Sites<K>,
     alloc: Global,
     set: &PlacedSet,
@@ -146,6 +145,34 @@ pub fn read_only_state<K: Keeper>(
             entries,
         }),
         SetState::Replica { .. } => Err(sites.unfit::<SetState>(alloc, set.target, &state)),
+    }
+}
+
+/// How far a read-only set is at its target. It is damage if the state of a replica set stands
+/// there.
+///
+/// It reads what the target's open transaction sees, and if none is open, what the target holds.
+/// After a fault no transaction is open at any server.
+pub fn read_only_state<K: Keeper>(
+    sites: &mut Sites<K>,
+    alloc: Global,
+    set: &PlacedSet,
+) -> Result<ReadOnlyState, Fault>
+    requires placed { IsPlacedAtTarget K.kept sites.old set.now }
+    requires read_only { IsTrue (not (is_replica_set_lem set.now.at_target.def)) }
+    ensures ok { OnOk result (Looks K.kept sites.old sites.new) }
+    ensures state { IfOk result (λ state. ForTarget K.kept sites.old set.now (λ w k.
+        state ≡ state_in w k)) }
+    ensures fault { IfErr result (Breaks state_rules K.kept sites.old sites.new set.now.target) }
+    ensures closed { OnErr result (AllClosed (work K.kept sites.new)) }
+    ensures reads { ReadsOnly is_read K.kept sites.old sites.new }
+{
+    match stored_points(sites, alloc, set) {
+        Ok(state) => Ok(state),
+        Err(e) => {
+            sites.rollback_all();
+            Err(e)
+        }
     }
 }
 

@@ -1,6 +1,6 @@
 -- The rows of a user copy of a source at a point: what they are made of, and that they can be stored.
-use Rattle.std.proofs.Common.{◌≡◌, ℕ, Bool, true, false, cond, List, [], ◌∷◌, length, map, filter, refl, sym, ap, subst, ◌∙◌, arith}
-use Rattle.std.specs.Prelude.{◌&&◌, ◌==◌, nat_lt, nat_le, Some, None, IfSome}
+use Rattle.std.proofs.Common.{◌≡◌, ℕ, List, [], ◌∷◌, length, map, refl, sym, ap, subst, ◌∙◌, arith}
+use Rattle.std.specs.Prelude.{nat_le, Some}
 use Rattle.std.specs.FinMap.{empty, entries, len-empty, len-entries}
 use Rattle.std.specs.List.{AllByRecursion}
 use Rattle.repl_types.specs.Value.{Values, key_cmp}
@@ -11,7 +11,7 @@ use Rattle.repl_types.specs.declared.record.LogRecord.TheVariants as records
 use Rattle.repl_types.specs.declared.table.TableDef.{TableDef}
 use Rattle.repl_types.specs.declared.unit.Placed.{Placed}
 use Rattle.repl_types.specs.declared.unit.Unit.{Unit as LogUnit}
-use Rattle.repl_types.specs.laws.Lists.{all_filter}
+use Rattle.repl_types.specs.laws.Lists.{all_filter, all_weaker}
 use Rattle.keep_core.specs.Contents.{Contents, Table}
 use Rattle.row_codec.specs.LogRecords.{IsLogRecord}
 use Rattle.row_codec.specs.Spelling.{IsKey, IsRow, key_spelling}
@@ -24,16 +24,16 @@ use Rattle.repl_model.specs.Selection.{SourceTable, is_selected, selected_rows, 
 use Rattle.repl_model.specs.SoundLogs.{LogIsSound}
 use Rattle.repl_model.specs.SourceAt.{unplaced, after_units, units_up_to, source_at}
 use Rattle.repl_model.specs.Tables.{Rows, after_change, after_changes}
-use Rattle.repl_model.specs.Units.{At, positions, last_end, change_of, changes_up_to, unit_at, units}
+use Rattle.repl_model.specs.Units.{units}
 use Rattle.repl_model.specs.World.{Server}
 use Rattle.rows_in_order.specs.Rows.{table_from_rows}
-use Rattle.load_worlds.specs.laws.Entries.{numbered_in}
-use Rattle.load_worlds.specs.laws.Members.{at_one, at_each, in_filter, each_given, each_image}
+use Rattle.load_worlds.specs.laws.Members.{each_image}
 use Rattle.log_rows.specs.SourceTables.{HasRows, StandsUnderKey, RowsStand, KeysOfRowsFit, TypedChangesHaveRows, RowsStayStanding}
 use Rattle.log_rows.specs.laws.StandingRows.{standing_fit}
 use Rattle.site_store.specs.Damage.{IsUndamaged, IsSpelt}
 use Rattle.site_store.specs.laws.Damage.{rows_spelt, spelt_undamaged}
 use Rattle.stored_defs.specs.Reading.{RowFits}
+use Rattle.copy_changes.specs.laws.LoggedChanges.{RecordHas, UnitHas, units_have}
 use Rattle.apply_copies.specs.Copying.{selected, copied}
 use Rattle.apply_copies.specs.Rules.{target_rules}
 use Rattle.apply_copies.specs.laws.Values.{target_row_fits}
@@ -55,26 +55,14 @@ HasRowsEach u = AllByRecursion HasRows (unplaced u.changes)
 
 module _ (typed : TypedChangesHaveRows) (log : List LogRecord) (all : AllByRecursion IsLogRecord log) where
   -- a change of a record is
-  change_has_rows : (tx : ℕ) (r : At) → IsLogRecord r.1 → IfSome (change_of tx r) (λ p. HasRows p.change)
-  change_has_rows tx (pos, records.Change t change) is = pick (t == tx)
-    where
-      pick : (b : Bool) → IfSome (cond b (Some (record { pos = pos; change = change })) None) (λ (p : Placed). HasRows p.change)
-      pick true = typed t change is
-      pick false = tt
-  change_has_rows tx (pos, records.Commit t time authid origin) is = tt
-  change_has_rows tx (pos, records.Abort t) is = tt
+  record_has_rows : (r : LogRecord) → IsLogRecord r → RecordHas HasRows r
+  record_has_rows (records.Change tx change) is = typed tx change is
+  record_has_rows (records.Commit tx time authid origin) is = tt
+  record_has_rows (records.Abort tx) is = tt
 
   -- so are the changes of the log's units
   units_have_rows : AllByRecursion HasRowsEach (units log)
-  unfolding units
-  units_have_rows = each_given HasRowsEach (unit_at log) (positions log) (at_each (λ (r : At). IfSome (unit_at log r) HasRowsEach) (positions log) (λ r i. at_record r))
-    where
-      at_record : (r : At) → IfSome (unit_at log r) HasRowsEach
-      at_record (pos, records.Change tx change) = tt
-      at_record (pos, records.Commit tx time authid origin) =
-          let between = λ (r : At). nat_lt (last_end tx pos log) r.0 && nat_lt r.0 pos in
-          each_image HasRows (λ (p : Placed). p.change) (changes_up_to tx pos log) (each_given (λ (p : Placed). HasRows p.change) (change_of tx) (filter between (positions log)) (at_each (λ (r : At). IfSome (change_of tx r) (λ p. HasRows p.change)) (filter between (positions log)) (λ r i. change_has_rows tx r (at_one IsLogRecord log r.1 all (numbered_in 1 log r (in_filter between (positions log) r i).0)))))
-      at_record (pos, records.Abort tx) = tt
+  units_have_rows = all_weaker (UnitHas HasRows) HasRowsEach (units log) (λ u has. each_image HasRows (λ (p : Placed). p.change) u.changes has) (units_have HasRows log (all_weaker IsLogRecord (RecordHas HasRows) log record_has_rows all))
 
 module _ (typed : TypedChangesHaveRows) (stay : RowsStayStanding) where
   -- rows stand under their keys after such changes

@@ -1,5 +1,5 @@
 -- The rows of the source that a server of a sound world has.
-use Rattle.std.proofs.Common.{◌≡◌, ℕ, ◌<◌, length, ap, ◌∙◌}
+use Rattle.std.proofs.Common.{◌≡◌, ℕ, ◌<◌, length, ap, ◌∙◌, arith}
 use Rattle.std.specs.Prelude.{Option, Some, slice_get}
 use Rattle.std.specs.FinMap.{entries}
 use Rattle.std.specs.Option.{option_map_or}
@@ -24,7 +24,7 @@ use Rattle.log_rows.specs.SourceTables.{RowsStand, KeysOfRowsFit}
 use Rattle.log_rows.specs.laws.StandingRows.{table_of_entries, standing_fit, standing_rise, standing_some}
 use Rattle.set_places.specs.laws.Sources.{table_keyed}
 use Rattle.apply_copies.specs.Copying.{HasRows}
-use Rattle.apply_copies.specs.laws.FewRows.{few_rows}
+use Rattle.subs_sets.specs.laws.FewRows.{source_few}
 
 module _ (keys : KeysOfRowsFit) (stand : SourceRowsStand) (w : World) (server : Server) (c : Contents) (sound : IsSound w) (i : In server w) (holds : Holds w server c) (number : ℕ) (t : ServerTable) (at : slice_get server.tables number ≡ Some t) where
   -- its log is sound
@@ -49,5 +49,5 @@ module _ (keys : KeysOfRowsFit) (stand : SourceRowsStand) (w : World) (server : 
         rises = standing_rise keys t.def rows rows_stand;
         some = standing_some keys t.def rows rows_stand keyed;
         fit = standing_fit keys t.def rows rows_stand;
-        few = few_rows server t.def (last_commit server.log) log;
+        few = omega (arith, source_few t.def server.log (last_commit server.log), log.short);
       }

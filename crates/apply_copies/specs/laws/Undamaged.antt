@@ -60,6 +60,20 @@ joined_undamaged r q c sound spelt needed unfit a (causes.Unfit bytes) shows = e
 ]
 joined_undamaged r q c sound spelt needed unfit a (causes.NoRest steps) shows = shows
 
+module _ (w : World) (server : Server) (c : Contents) (sound : IsSound w) (i : In server w) (holds : Holds w server c) where
+  -- no set that stands there is too wide
+  pub none_too_wide : (key value : List ℕ) → c areas.Defs 2 key ≡ Some value → is_too_wide areas.Defs 2 key value c → ⊥
+  none_too_wide key value has wide =
+      let keeps : ServerKeepsRules w server = at_one (ServerKeepsRules w) w server sound.definitions.servers i in
+      let row : SourceSet = wide.0 in
+      let stands : table_from_rows set_spelling source_set_spelling (source_set_rows server) key ≡ Some (source_set_spelling row) = ap (λ (u : Table). u key) (sym (holds_defs w server c holds 2)) ∙ has ∙ ap Some wide.2 in
+      let found = row_of set_spelling source_set_spelling (source_set_rows server) key (source_set_spelling row) stands in
+      let side = source_row_is w server keeps found.0.0 row wide.1 (ap (table_from_rows set_spelling source_set_spelling (source_set_rows server)) found.2 ∙ stands) in
+      let limits = (at_one (λ (s : SourceSide). (s.def.source ≡ server.name) × SetKeepsLimits w s.def × UnknownSource w server s) server.source_sets side.0 keeps.sources (at_place_in server.source_sets row.number side.0 side.2)).1 in
+      let member : Member = wide.3.0 in
+      let narrow : length member.columns ≤ row_limit = at_one (λ (m : Member). length m.columns ≤ row_limit) side.0.def.members member limits.columns (subst (λ (def : SetDef). In member def.members) side.3 wide.3.1) in
+      omega (arith, narrow, wide.3.2)
+
 module _ (keys : KeysOfRowsFit) (stand : SourceRowsStand) (w : World) (server : Server) (c : Contents) (sound : IsSound w) (i : In server w) (holds : Holds w server c) where
   -- the rules of the rows of a source
   abbrev row_rules : Rules
@@ -77,19 +91,6 @@ module _ (keys : KeysOfRowsFit) (stand : SourceRowsStand) (w : World) (server : 
           let all : HasRows n rows c = has_committed keys stand w server c sound i holds n t at in
           rows_spelt row_rules areas.Source n key_spelling row_spelling rows key value (all_weaker (RowFits IsKey IsRow) (λ (r : Values × Values). row_rules.is_key areas.Source n (key_spelling r.0) × row_rules.is_value areas.Source n (row_spelling r.1)) rows (λ r fit. ((r.0, fit.0, refl), (record { row = r.1 }, fit.1, refl))) all.fit) (ap (λ (u : Table). u key) (sym all.is) ∙ has)
 
-  -- no set that stands there is too wide
-  none_too_wide : (key value : List ℕ) → c areas.Defs 2 key ≡ Some value → is_too_wide areas.Defs 2 key value c → ⊥
-  none_too_wide key value has wide =
-      let keeps : ServerKeepsRules w server = at_one (ServerKeepsRules w) w server sound.definitions.servers i in
-      let row : SourceSet = wide.0 in
-      let stands : table_from_rows set_spelling source_set_spelling (source_set_rows server) key ≡ Some (source_set_spelling row) = ap (λ (u : Table). u key) (sym (holds_defs w server c holds 2)) ∙ has ∙ ap Some wide.2 in
-      let found = row_of set_spelling source_set_spelling (source_set_rows server) key (source_set_spelling row) stands in
-      let side = source_row_is w server keeps found.0.0 row wide.1 (ap (table_from_rows set_spelling source_set_spelling (source_set_rows server)) found.2 ∙ stands) in
-      let limits = (at_one (λ (s : SourceSide). (s.def.source ≡ server.name) × SetKeepsLimits w s.def × UnknownSource w server s) server.source_sets side.0 keeps.sources (at_place_in server.source_sets row.number side.0 side.2)).1 in
-      let member : Member = wide.3.0 in
-      let narrow : length member.columns ≤ row_limit = at_one (λ (m : Member). length m.columns ≤ row_limit) side.0.def.members member limits.columns (subst (λ (def : SetDef). In member def.members) side.3 wide.3.1) in
-      omega (arith, narrow, wide.3.2)
-
   -- what a server of a sound world holds shows no damage by the rules of the source of a copy
   pub copies_undamaged : IsUndamaged source_rules c
   copies_undamaged = joined_undamaged member_rules row_rules c (members_undamaged w server c sound i holds) spelt (λ a t key none needed. needed) unfit
@@ -99,5 +100,5 @@ module _ (keys : KeysOfRowsFit) (stand : SourceRowsStand) (w : World) (server : 
       spelt a t key value has = (tt, tt)
 
       unfit : (a : Area) (t : ℕ) (key value : List ℕ) → c a t key ≡ Some value → row_rules.is_unfit a t key value c → ⊥
-      unfit areas.Defs (suc (suc zero)) key value has wide = none_too_wide key value has wide
+      unfit areas.Defs (suc (suc zero)) key value has wide = none_too_wide w server c sound i holds key value has wide
       unfit a t key value has wide = absurd wide

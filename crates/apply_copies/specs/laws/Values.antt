@@ -60,7 +60,7 @@ texts_fit (Int n) w fv fw = tt
 -- ---- expressions
 
 -- a value of a row of values is one, and past its end NULL is
-value_at : (row : Values) (place : ℕ) → AllByRecursion IsValue row → IsValue (get_or row place Null)
+pub value_at : (row : Values) (place : ℕ) → AllByRecursion IsValue row → IsValue (get_or row place Null)
 value_at [] place all = tt
 value_at (v ∷ row) zero all = all.0
 value_at (v ∷ row) (suc place) all = value_at row place all.1

@@ -1,4 +1,4 @@
-use Rattle.std.proofs.Common.{◌≡◌, ◌≢◌, ◌<◌, List, length, subst, ◌∙◌}
+use Rattle.std.proofs.Common.{◌≡◌, ◌≢◌, ◌<◌, List, inr, length, subst, ◌∙◌}
 use Rattle.std.proofs.lemmas.Result.{err_from_is_err_and}
 use Rattle.repl_types.specs.Sizes.{row_limit}
 use Rattle.repl_definitions.specs.declared.member.TargetColumn.{TargetColumn}
@@ -12,7 +12,7 @@ use Rattle.apply_copies.specs.Copying.{LoadsAll}
 use Rattle.apply_copies.specs.Loading.{target_number, LoadsCopy}
 use Rattle.apply_copies.specs.Rules.{source_rules, target_rules}
 use Rattle.apply_copies.proofs.Elsewhere.{open_elsewhere, looked_then, sees_elsewhere, breaks_elsewhere}
-use Rattle.apply_copies.proofs.MemberFaults.{own_at, source_stops, member_stops, target_stops, wide_stops}
+use Rattle.apply_copies.proofs.MemberFaults.{own_at, source_stops, member_stops, target_stops, wide_breaks}
 use Rattle.apply_copies.proofs.MemberLoads.{loads_copy}
 use Rattle.apply_copies.proofs.loading.load_member.Goals as goal
 
@@ -30,7 +30,9 @@ returns-then-as_slice-gt-ROW_LIMIT-clause-fault g c =
     let own = c.index-as_slice-member.result in
     let at = own_at set.at_source.def.members c.as_slice.result.now c.args.member own c.as_slice.ensures c.requires.member c.index-as_slice-member.is in
     let wide : row_limit < length own.columns = subst (λ (l : List TargetColumn). row_limit < length l) c.as_slice-2.ensures c.if-as_slice-gt-ROW_LIMIT.true in
-    wide_stops g.K.Keeper.kept c.args.sites.now set (target_number set.at_target.number c.args.member) c.args.member own at c.requires.source c.read_registration.new.sites c.unfit.new.self c.unfit.result wide c.in_ok-reg.ensures.read c.unfit.ensures.closes c.unfit.ensures.fault
+    let kept = g.K.Keeper.kept in
+    let s0 = c.args.sites.now in
+    source_stops kept s0 set (target_number set.at_target.number c.args.member) c.unfit.new.self c.unfit.result (wide_breaks kept s0 set source_rules (λ key value d wide. inr wide) c.args.member own at c.requires.source c.read_registration.new.sites c.unfit.new.self c.unfit.result wide c.in_ok-reg.ensures.read c.unfit.ensures.closes c.unfit.ensures.fault)
 
 pub returns-in_err-clear_rows-clause-fault : goal.returns-in_err-clear_rows-clause-fault
 returns-in_err-clear_rows-clause-fault g c =

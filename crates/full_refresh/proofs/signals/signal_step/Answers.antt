@@ -10,7 +10,8 @@ use Rattle.source_log.specs.Units.{unit_records}
 use Rattle.world_store.specs.LogRows.{head_of}
 use Rattle.full_refresh.specs.Signals.{HasSignalled}
 use Rattle.full_refresh.proofs.PutSignals.{PutsSome}
-use Rattle.full_refresh.proofs.SignalSteps.{mark_blames, end_blames, unit_blames, unchanged, stepped_after, answered_after, revealed, revealed_after, seen_as, place_is, mark_undamaged, records_made}
+use Rattle.full_refresh.proofs.SignalSteps.{mark_blames, end_blames, unit_blames, answered_after, seen_as, place_is, mark_undamaged, records_made}
+use Rattle.target_steps.specs.laws.AtServers.{unchanged, stepped_after, revealed, revealed_after}
 use Rattle.full_refresh.proofs.Signalled.{whole, may_have_signalled, has_answered, signal_fits}
 use Rattle.full_refresh.proofs.signals.signal_step.Goals as goal
 

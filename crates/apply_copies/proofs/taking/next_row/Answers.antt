@@ -1,0 +1,13 @@
+use Rattle.std.proofs.lemmas.Result.{err_from_is_err_and}
+use Rattle.repl_types.specs.declared.area.Area.TheVariants as areas
+use Rattle.repl_records.specs.Capture.{IsChangeRow, change_row_spelling}
+use Rattle.repl_records.specs.RecordKeys.{IsChangeKey, change_key_spelling}
+use Rattle.site_store.specs.Calls.{reads_of_one}
+use Rattle.server_steps.specs.laws.Damage.{next_breaks}
+use Rattle.apply_copies.specs.ChangeRules.{change_source_rules}
+use Rattle.apply_copies.proofs.taking.next_row.Goals as goal
+
+pub returns-in_err-next-clause-fault : goal.returns-in_err-next-clause-fault
+returns-in_err-next-clause-fault g c =
+    let p = err_from_is_err_and c.from_residual.result c.from_residual.ensures.1 in
+    rw (p.1, p.2) (next_breaks change_source_rules g.K.Keeper.kept IsChangeKey change_key_spelling IsChangeRow change_row_spelling c.args.sites.now c.next.new.self c.args.server areas.Cd c.args.table (change_key_spelling c.args.after) (reads_of_one 1 c.args.server areas.Cd) c.in_err-next.field-0.0 (λ bytes h. h.1) (λ bytes h. h.1) c.in_err-next.ensures.fault)

@@ -1,0 +1,22 @@
+use Rattle.std.specs.Prelude.{◌-◌, ◌^◌}
+use Rattle.repl_records.specs.RecordKeys.{IsChangeKey}
+use Rattle.site_store.specs.Views.{sees}
+use Rattle.server_steps.specs.Calls.{GoesOn}
+use Rattle.set_places.specs.Reading.{ReadsOnly}
+use Rattle.target_steps.specs.Taking.{ReadsCounted}
+use Rattle.apply_copies.specs.Changing.{source_as}
+use Rattle.apply_copies.specs.Taking.{is_of_changes}
+use Rattle.apply_copies.proofs.ChangeKeys.{rank_of}
+use Rattle.apply_copies.proofs.ChangesInTurn.{HasTaken}
+use Rattle.apply_copies.proofs.taking.take_changes.Given as goal
+
+abbrev pub invariant-loop-next : goal.invariant-loop-next
+invariant-loop-next g l = record {
+  fits : IsChangeKey l.after;
+  goes : GoesOn g.K.Keeper.kept l.fn.sites l.sites l.set.target (HasTaken (sees g.K.Keeper.kept l.fn.sites l.set.source) l.source.reg.number l.number (source_as l.source) l.member l.from l.upto l.after l.counts);
+  reads : ReadsOnly is_of_changes g.K.Keeper.kept l.fn.sites l.sites;
+  counted : ReadsCounted 0 g.K.Keeper.kept l.fn.sites l.sites l.counts;
+}
+
+abbrev pub decreases-loop-next : goal.decreases-loop-next
+decreases-loop-next g l = 2 ^ 144 - rank_of l.after

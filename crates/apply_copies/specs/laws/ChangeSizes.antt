@@ -1,0 +1,76 @@
+-- The change rows of a sound log are of rows whose keys can be stored.
+use Rattle.std.proofs.Common.{◌≡◌, ℕ, Bool, true, false, cond, [], ◌∷◌, refl, sym, ap, subst, ◌∙◌}
+use Rattle.std.specs.Prelude.{◌&&◌, nat_lt, nat_le, Some}
+use Rattle.std.specs.List.{AllByRecursion}
+use Rattle.std.specs.Str.{bytes_eq}
+use Rattle.repl_types.specs.Sizes.{IsKeySize}
+use Rattle.repl_types.specs.Value.{Values, images}
+use Rattle.repl_types.specs.declared.change_row.CdRow.{CdRow}
+use Rattle.repl_types.specs.declared.record.Change.{Change}
+use Rattle.repl_types.specs.declared.record.Change.TheVariants.{Insert, Update, Delete, Start, Stop}
+use Rattle.repl_types.specs.declared.unit.Placed.{Placed}
+use Rattle.repl_types.specs.declared.unit.Unit.{Unit as LogUnit}
+use Rattle.repl_types.specs.laws.Lists.{all_filter, all_weaker}
+use Rattle.row_codec.specs.Spelling.{IsRow, key_spelling}
+use Rattle.repl_model.specs.Applicable.{fits, change_fits, table_named}
+use Rattle.repl_model.specs.ChangeRows.{shows_nothing, insert_row, update_row, delete_row, rows_of, rows_of_placed, change_rows, changes_between}
+use Rattle.repl_model.specs.Rules.{RegistrationKeepsRules, all_places, are_among, places_rise}
+use Rattle.repl_model.specs.SoundDefinitions.{KeepsTable}
+use Rattle.repl_model.specs.SoundLogs.{LogIsSound}
+use Rattle.repl_model.specs.SourceAt.{units_between}
+use Rattle.repl_model.specs.Tables.{same_values, table_of}
+use Rattle.repl_model.specs.Units.{units}
+use Rattle.repl_model.specs.World.{Registered, Server, ServerTable, tables_of}
+use Rattle.log_rows.specs.SourceTables.{TypedChangesHaveRows}
+use Rattle.log_rows.specs.StorableRows.{FittingRowIsStorable}
+use Rattle.stored_defs.specs.laws.Lists.{both_true}
+use Rattle.cd_tables.specs.laws.InOrder.{all_lists}
+use Rattle.copy_changes.specs.ChangedCopies.{key_after}
+use Rattle.copy_changes.specs.laws.LoggedChanges.{Fits, UnitHas, units_fit}
+use Rattle.copy_changes.specs.laws.ShownRows.{key_shown}
+use Rattle.apply_copies.specs.ChangeRules.{source_of}
+
+module _ (storable : FittingRowIsStorable) (t : ServerTable) (r : Registered) (keeps : KeepsTable t) (rules : RegistrationKeepsRules t.def r.reg) where
+  -- a change row is of a row whose key can be stored
+  abbrev pub HasSize : CdRow → Type 0
+  HasSize change = IsKeySize (key_spelling (key_after (source_of t.def r.reg) change))
+
+  -- if its after-images are those of a row that fits the table, it is
+  of_row : (change : CdRow) (row : Values) → change.after ≡ images r.reg.after row → IsRow row → fits t.def row ≡ true → HasSize change
+  of_row change row is fit own =
+      let after = both_true (places_rise r.reg.after && are_among (all_places t.def) r.reg.after) (are_among r.reg.after t.def.key) rules.after in
+      let places = both_true (places_rise r.reg.after) (are_among (all_places t.def) r.reg.after) after.0 in
+      subst (λ (k : Values). IsKeySize (key_spelling k)) (sym (key_shown (source_of t.def r.reg) places.1 change row is after.1)) (storable t row keeps fit own).1
+
+  -- so are the change rows of a change of the table
+  of_change : (seq pos : ℕ) (change : Change) → bytes_eq (table_of change) t.def.name ≡ true → Fits t.def change → AllByRecursion HasSize (rows_of r.reg seq pos change)
+  unfolding change_fits
+  of_change seq pos (Insert table row) own fit = (of_row (insert_row r.reg seq pos 0 row) row refl fit.0 (fit.1 own), tt)
+  of_change seq pos (Update table before after) own fit =
+      let both = both_true (fits t.def before && fits t.def after) (same_values (images t.def.fixed before) (images t.def.fixed after)) (fit.1 own) in
+      let rows = both_true (fits t.def before) (fits t.def after) both.0 in
+      pick rows.0 rows.1 (shows_nothing r.reg before after) r.reg.del_ins
+    where
+      pick : fits t.def before ≡ true → fits t.def after ≡ true → (nothing taken_apart : Bool) → AllByRecursion HasSize (cond nothing [] (cond taken_apart (delete_row r.reg seq pos before ∷ insert_row r.reg seq pos 1 after ∷ []) (update_row r.reg seq pos before after ∷ [])))
+      pick old new true taken_apart = tt
+      pick old new false true = (of_row (delete_row r.reg seq pos before) before refl fit.0.0 old, (of_row (insert_row r.reg seq pos 1 after) after refl fit.0.1 new, tt))
+      pick old new false false = (of_row (update_row r.reg seq pos before after) after refl fit.0.1 new, tt)
+  of_change seq pos (Delete table row) own fit = (of_row (delete_row r.reg seq pos row) row refl fit.0 (fit.1 own), tt)
+  of_change seq pos (Start table) own fit = tt
+  of_change seq pos (Stop table) own fit = tt
+
+  -- and those of a unit
+  of_unit : (u : LogUnit) → UnitHas (Fits t.def) u → AllByRecursion HasSize (change_rows r.reg u)
+  unfolding change_rows
+  of_unit u fit = all_lists HasSize (rows_of_placed r.reg u.head.seq) u.changes (all_weaker (λ (placed : Placed). Fits t.def placed.change) (λ placed. AllByRecursion HasSize (rows_of_placed r.reg u.head.seq placed)) u.changes (λ placed fits. pick placed fits (bytes_eq (table_of placed.change) r.reg.table) refl) fit)
+    where
+      pick : (placed : Placed) → Fits t.def placed.change → (own : Bool) → bytes_eq (table_of placed.change) r.reg.table ≡ own → AllByRecursion HasSize (cond own (rows_of r.reg u.head.seq placed.pos placed.change) [])
+      pick placed fits true e = of_change u.head.seq placed.pos placed.change (ap (bytes_eq (table_of placed.change)) (sym rules.table) ∙ e) fits
+      pick placed fits false e = tt
+
+  -- and those between two points of a sound log
+  pub all_sized : TypedChangesHaveRows → (server : Server) → LogIsSound server → table_named t.def.name (tables_of server) ≡ Some t.def → (low high : ℕ) → AllByRecursion HasSize (changes_between server.log r.reg low high)
+  unfolding changes_between
+  all_sized typed server sound found low high =
+      let within = λ (u : LogUnit). nat_lt low u.head.seq && nat_le u.head.seq high in
+      all_lists HasSize (change_rows r.reg) (units_between low high server.log) (all_weaker (UnitHas (Fits t.def)) (λ u. AllByRecursion HasSize (change_rows r.reg u)) (units_between low high server.log) of_unit (all_filter (UnitHas (Fits t.def)) within (units server.log) (units_fit typed server t.def sound found)))

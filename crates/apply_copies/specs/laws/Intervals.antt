@@ -1,0 +1,109 @@
+-- The change rows of an interval are those of its units, among all that a server has captured.
+use Rattle.std.proofs.Common.{◌≡◌, ℕ, ◌≤◌, Bool, true, false, cond, List, [], ◌∷◌, ◌++◌, map, refl, ap, ◌∙◌, arith}
+use Rattle.std.specs.Prelude.{◌&&◌, nat_lt, nat_le, max, filter}
+use Rattle.std.specs.List.{AllByRecursion, flat_map}
+use Rattle.std.proofs.lemmas.Bool.{ltb-true, leb-true, lt-ltb, le-leb}
+use Rattle.std.proofs.lemmas.List.Elements.{filter-append}
+use Rattle.repl_types.specs.declared.change_row.CdRow.{CdRow}
+use Rattle.repl_types.specs.declared.change_row.Registration.{Registration}
+use Rattle.repl_types.specs.declared.record.Change.{Change}
+use Rattle.repl_types.specs.declared.record.Change.TheVariants.{Insert, Update, Delete, Start, Stop}
+use Rattle.repl_types.specs.declared.record.LogRecord.{LogRecord}
+use Rattle.repl_types.specs.declared.unit.Unit.{Unit as LogUnit}
+use Rattle.repl_types.specs.laws.Lists.{all_weaker, filter_none, filter_all}
+use Rattle.repl_records.specs.declared.record_keys.CdKey.{CdKey}
+use Rattle.repl_records.specs.declared.capture.ChangeRow.{ChangeRow}
+use Rattle.repl_model.specs.ChangeRows.{shows_nothing, insert_row, update_row, delete_row, rows_of, rows_of_placed, change_rows, changes_between}
+use Rattle.repl_model.specs.SourceAt.{units_between}
+use Rattle.repl_model.specs.Units.{units}
+use Rattle.repl_model.specs.World.{Registered, Server}
+use Rattle.rows_in_order.specs.laws.Before.{not_both}
+use Rattle.stored_defs.specs.laws.Lists.{both_true}
+use Rattle.capture_rows.specs.StoredChanges.{stored_change}
+use Rattle.capture_worlds.specs.laws.Lists.{filter_images}
+use Rattle.cd_tables.specs.Captured.{captured_changes}
+use Rattle.cd_tables.specs.StoredRows.{change_of}
+use Rattle.cd_tables.specs.laws.InOrder.{all_always, all_lists}
+use Rattle.cd_tables.specs.laws.SoundChanges.{of_own}
+use Rattle.apply_copies.specs.Changing.{rows_between}
+
+-- ---- lists
+
+-- a filter of what a weaker filter keeps keeps what it keeps of all
+filter_within : {X : Type 0} (p q : X → Bool) → ((x : X) → p x ≡ true → q x ≡ true) → (xs : List X) → filter p (filter q xs) ≡ filter p xs
+filter_within p q weaker [] = refl
+filter_within {X} p q weaker (x ∷ xs) = pick (q x) refl (p x) refl (filter_within p q weaker xs)
+  where
+    pick : (s : Bool) → q x ≡ s → (t : Bool) → p x ≡ t → filter p (filter q xs) ≡ filter p xs → filter p (cond s (x ∷ filter q xs) (filter q xs)) ≡ cond t (x ∷ filter p xs) (filter p xs)
+    pick true e t f rest = ap (λ (b : Bool). cond b (x ∷ filter p (filter q xs)) (filter p (filter q xs))) f ∙ ap (λ (l : List X). cond t (x ∷ l) l) rest
+    pick false e true f rest = absurd (not_both (q x) (weaker x f) e)
+    pick false e false f rest = rest
+
+-- ---- the change rows of units
+
+module _ (reg : Registration) where
+  -- a change row is of a unit with this seq
+  abbrev IsOf : ℕ → CdRow → Type 0
+  IsOf seq r = r.commitseq ≡ seq
+
+  -- the rows of a change are
+  of_change : (seq pos : ℕ) (change : Change) → AllByRecursion (IsOf seq) (rows_of reg seq pos change)
+  of_change seq pos (Insert table row) = (refl, tt)
+  of_change seq pos (Update table before after) = pick (shows_nothing reg before after) reg.del_ins
+    where
+      pick : (nothing taken_apart : Bool) → AllByRecursion (IsOf seq) (cond nothing [] (cond taken_apart (delete_row reg seq pos before ∷ insert_row reg seq pos 1 after ∷ []) (update_row reg seq pos before after ∷ [])))
+      pick true taken_apart = tt
+      pick false true = (refl, (refl, tt))
+      pick false false = (refl, tt)
+  of_change seq pos (Delete table row) = (refl, tt)
+  of_change seq pos (Start table) = tt
+  of_change seq pos (Stop table) = tt
+
+  -- and so are those of a unit
+  of_unit : (u : LogUnit) → AllByRecursion (IsOf u.head.seq) (change_rows reg u)
+  unfolding change_rows
+  of_unit u = let seq = u.head.seq in all_lists (IsOf seq) (rows_of_placed reg seq) u.changes (all_always (λ placed. AllByRecursion (IsOf seq) (rows_of_placed reg seq placed)) (λ placed. of_own reg seq (AllByRecursion (IsOf seq)) placed tt (of_change seq placed.pos placed.change)) u.changes)
+
+  -- the rows whose seqs pass a test are those of the units that do
+  kept_rows : (p : ℕ → Bool) (us : List LogUnit) → filter (λ r. p r.commitseq) (flat_map (change_rows reg) us) ≡ flat_map (change_rows reg) (filter (λ u. p u.head.seq) us)
+  kept_rows p [] = refl
+  kept_rows p (u ∷ us) = filter-append (λ (r : CdRow). p r.commitseq) (change_rows reg u) (flat_map (change_rows reg) us) ∙ pick (p u.head.seq) refl (kept_rows p us)
+    where
+      passes : (t : Bool) → p u.head.seq ≡ t → AllByRecursion (λ (r : CdRow). p r.commitseq ≡ t) (change_rows reg u)
+      passes t e = all_weaker (IsOf u.head.seq) (λ (r : CdRow). p r.commitseq ≡ t) (change_rows reg u) (λ r is. ap p is ∙ e) (of_unit u)
+
+      pick : (t : Bool) → p u.head.seq ≡ t → filter (λ (r : CdRow). p r.commitseq) (flat_map (change_rows reg) us) ≡ flat_map (change_rows reg) (filter (λ (v : LogUnit). p v.head.seq) us)
+          → filter (λ (r : CdRow). p r.commitseq) (change_rows reg u) ++ filter (λ (r : CdRow). p r.commitseq) (flat_map (change_rows reg) us) ≡ flat_map (change_rows reg) (cond t (u ∷ filter (λ (v : LogUnit). p v.head.seq) us) (filter (λ (v : LogUnit). p v.head.seq) us))
+      pick true e rest = λ i. filter_all (λ (r : CdRow). p r.commitseq) (change_rows reg u) (passes true e) i ++ rest i
+      pick false e rest = λ i. filter_none (λ (r : CdRow). p r.commitseq) (change_rows reg u) (passes false e) i ++ rest i
+
+  -- the rows of an interval among those of a longer one
+  longer_rows : (log : List LogRecord) (first low high last : ℕ) → first ≤ low → high ≤ last → filter (λ r. nat_lt low r.commitseq && nat_le r.commitseq high) (changes_between log reg first last) ≡ changes_between log reg low high
+  unfolding changes_between
+  longer_rows log first low high last le before =
+      kept_rows (λ seq. nat_lt low seq && nat_le seq high) (units_between first last log)
+      ∙ ap (flat_map (change_rows reg)) (filter_within (λ (u : LogUnit). nat_lt low u.head.seq && nat_le u.head.seq high) (λ u. nat_lt first u.head.seq && nat_le u.head.seq last) (λ u in_short. in_long u.head.seq (both_true (nat_lt low u.head.seq) (nat_le u.head.seq high) in_short)) (units log))
+    where
+      in_long : (seq : ℕ) → (nat_lt low seq ≡ true) × (nat_le seq high ≡ true) → (nat_lt first seq && nat_le seq last) ≡ true
+      in_long seq h =
+          let above = ltb-true low seq h.0 in
+          let below = leb-true seq high h.1 in
+          λ i. lt-ltb first seq (omega (arith, le, above)) i && le-leb seq last (omega (arith, before, below)) i
+
+-- ---- captured change rows
+
+-- change rows as they are stored, with their keys again
+change_rows_again : (rows : List CdRow) → map change_of (map stored_change rows) ≡ rows
+change_rows_again [] = refl
+change_rows_again (r ∷ rows) = ap (λ (l : List CdRow). r ∷ l) (change_rows_again rows)
+
+-- those of an interval that is captured whole are the changes of its units
+pub interval_rows : (server : Server) (r : Registered) (low high : ℕ) → r.active ≡ true → r.start ≤ low → r.floor ≤ low → high ≤ server.captured → rows_between low high (captured_changes server r) ≡ changes_between server.log r.reg low high
+interval_rows server r low high active start floor captured =
+    ap (λ (b : Bool). rows_between low high (cond b (map stored_change rows) [])) active
+    ∙ ap (map change_of) (filter_images stored_change (λ (q : CdKey × ChangeRow). nat_lt low q.0.commitseq && nat_le q.0.commitseq high) rows)
+    ∙ change_rows_again (filter (λ (q : CdRow). nat_lt low q.commitseq && nat_le q.commitseq high) rows)
+    ∙ longer_rows r.reg server.log (max r.start r.floor) low high server.captured (omega (arith, start, floor)) captured
+  where
+    rows : List CdRow
+    rows = changes_between server.log r.reg (max r.start r.floor) server.captured

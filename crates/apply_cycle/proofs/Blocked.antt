@@ -1,0 +1,164 @@
+-- What a block makes of a world: proofs.
+use Rattle.std.proofs.Common.{◌≡◌, ◌⊎◌, ℕ, Bool, true, false, ◌||◌, List, [], ◌∷◌, length, inl, inr, refl, sym, ap, subst, ◌∙◌, arith}
+use Rattle.std.specs.Prelude.{◌==◌, if◌then◌else◌, Option, None}
+use Rattle.std.specs.List.{AllByRecursion, list_any}
+use Rattle.std.specs.Option.{option_map_or}
+use Rattle.std.proofs.lemmas.Bool.{cond-false}
+use Rattle.repl_types.specs.declared.area.Area.{Area}
+use Rattle.repl_types.specs.declared.status.DamageCause.{DamageCause}
+use Rattle.faults.specs.declared.fault.Counts.{Counts}
+use Rattle.faults.specs.declared.fault.Stepped.TheVariants as steps
+use Rattle.keep_core.specs.Contents.{Contents}
+use Rattle.keep_core.specs.Kept.{Kept}
+use Rattle.repl_definitions.specs.declared.member.Member.{Member}
+use Rattle.repl_definitions.specs.declared.member.TargetKind.{TargetKind}
+use Rattle.repl_definitions.specs.declared.member.TargetKind.TheVariants.{UserCopy, PointInTime, BaseAggregate, ChangeAggregate, Ccd, Replica}
+use Rattle.repl_definitions.specs.declared.set.SetDef.{SetDef}
+use Rattle.repl_model.specs.AfterActions.{is_base_aggregate, base_point, block_entry, with_entry, after_action}
+use Rattle.repl_model.specs.NextActions.{Action, signals, blocks}
+use Rattle.repl_model.specs.Sound.{IsSound, NumbersAreSound}
+use Rattle.repl_model.specs.SoundDefinitions.{read_only_sets}
+use Rattle.repl_model.specs.SourceAt.{time_at}
+use Rattle.repl_model.specs.Trails.{Entry, block, synchpoint, base_of}
+use Rattle.repl_model.specs.World.{Server, World, KnownSet, known_sets}
+use Rattle.world_store.specs.Stands.{Holds, Reveals, Stands}
+use Rattle.world_store.specs.TargetRows.{source_time, trail_entry}
+use Rattle.load_worlds.specs.laws.Entries.{at_place_in}
+use Rattle.load_worlds.specs.laws.KnownSets.{known_stands}
+use Rattle.load_worlds.specs.laws.Members.{In, at_one}
+use Rattle.site_store.specs.declared.sites.Sites.{Sites}
+use Rattle.site_store.specs.Views.{names, held, sees}
+use Rattle.action_store.specs.ActedServers.{Acted, with_step, BlockHolds, OthersHoldAfterStep}
+use Rattle.action_store.specs.StoredSteps.{is_numbered, PutsStep, block_state, BlockIsStored}
+use Rattle.action_worlds.specs.StaysSound.{NextActionsSound, HasRoom}
+use Rattle.subs_sets.specs.Cuts.{time_from}
+use Rattle.subs_sets.specs.States.{state_in}
+use Rattle.subs_sets.specs.declared.states.ReadOnlyState.{ReadOnlyState}
+use Rattle.set_places.specs.declared.placed_set.PlacedSet.{PlacedSet}
+use Rattle.set_places.specs.Places.{IsPlacedAs, IsReadOnly}
+use Rattle.set_places.specs.Steps.{HasBecome, HasStepped}
+use Rattle.set_places.specs.laws.Commits.{has_become}
+use Rattle.set_places.specs.laws.Known.{is_among, same_def}
+use Rattle.set_places.specs.laws.Standing.{revealed_at_place}
+use Rattle.target_steps.specs.declared.step.Step.{Step}
+use Rattle.target_steps.specs.declared.step.Step.TheVariants.{Block}
+use Rattle.target_steps.specs.Taking.{CanStep}
+use Rattle.target_steps.specs.Steps.{PutsTargets, PutsSomeTargets}
+use Rattle.target_steps.specs.laws.Stepped.{none_numbered, counts_are, step_put, has_targets}
+use Rattle.apply_cycle.specs.Blocks.{IsBlockNext, HasBlocked}
+use Rattle.apply_cycle.specs.laws.NextBlocks.{members_kept, ends_after, end_captured, end_time}
+
+-- ---- base aggregates
+
+-- a kind whose rows aren't numbered is no base aggregate
+plain_kind : (kind : TargetKind) → is_numbered kind ≡ false → is_base_aggregate kind ≡ false
+plain_kind UserCopy e = refl
+plain_kind PointInTime e = refl
+plain_kind BaseAggregate e = absurd cc
+plain_kind ChangeAggregate e = refl
+plain_kind (Ccd complete condensed) e = refl
+plain_kind Replica e = refl
+
+-- so none of such members is one
+none_aggregate : (members : List Member) → AllByRecursion (λ member. is_numbered member.kind ≡ false) members → list_any (λ member. is_base_aggregate member.kind) members ≡ false
+none_aggregate [] all = refl
+none_aggregate (m ∷ ms) all = ap (λ (b : Bool). b || list_any (λ member. is_base_aggregate member.kind) ms) (plain_kind m.kind all.0) ∙ none_aggregate ms all.1
+
+-- ---- in a world
+
+module _ (sound_next : NextActionsSound) (target_holds : BlockHolds) (stored : BlockIsStored) (takes : TargetKind → Bool) (unnumbered : (kind : TargetKind) → takes kind ≡ true → is_numbered kind ≡ false) (w : World) (k : KnownSet) (set : PlacedSet) (sound : IsSound w) (placed : IsPlacedAs w k set) (read_only : IsReadOnly k) (upto : ℕ) (next : IsBlockNext takes k upto) where
+  -- the set is one of the read-only sets
+  among : In k (read_only_sets (known_sets w))
+  among = is_among w k set placed read_only
+
+  -- the numbers of its source are sound
+  numbers : NumbersAreSound k.source
+  numbers = at_one NumbersAreSound w k.source sound.numbers (at_place_in w set.source k.source placed.source)
+
+  -- where its targets have come to
+  abbrev low : ℕ
+  low = synchpoint k.at_target.trail
+
+  -- the step, which can be made
+  abbrev step : Step
+  step = Block low upto
+
+  pub can : CanStep k (Block low upto)
+  can = record {
+    from = refl;
+    gaps = members_kept k upto next.0;
+    rises = omega (arith, ends_after k upto next.0 numbers);
+    captured = end_captured k upto next.0 numbers;
+  }
+
+  -- no base aggregate is read
+  no_base : block_entry k upto ≡ block low upto None
+  no_base =
+      let none = none_aggregate k.at_source.def.members (subst (λ (def : SetDef). AllByRecursion (λ member. is_numbered member.kind ≡ false) def.members) (sym (same_def w k sound placed.known)) (none_numbered takes unnumbered w k set sound placed read_only step can next.1)) in
+      let base : base_point k ≡ None = cond-false (list_any (λ member. is_base_aggregate member.kind) k.at_source.def.members) _ _ none in
+      ap (λ (q : Option ℕ). block low upto (if upto == k.source.captured then q else None)) base ∙ either (upto == k.source.captured)
+    where
+      either : (b : Bool) → block low upto (if b then None else None) ≡ block low upto None
+      either true = refl
+      either false = refl
+
+  -- the world after the block
+  abbrev after : World
+  after = after_action w k (blocks upto)
+
+  -- it is sound
+  sound_after : IsSound after
+  sound_after = subst (λ (a : Action). IsSound (after_action w k a)) next.0 (sound_next w k sound among (λ is. by_other (sym is ∙ next.0)))
+    where
+      by_other : ◌≡◌ {A = Action} signals (blocks upto) → HasRoom k
+      by_other e = absurd (apart e)
+        where
+          apart : ◌≡◌ {A = Action} signals (blocks upto) → ⊥
+          apart e = cc
+
+  module _ (time : ℕ) (time_is : time ≡ time_from upto k.source) where
+    -- the time that is put is that of the source at the block's end
+    pub at_time : time ≡ source_time w k.at_target.def upto
+    at_time = time_is ∙ end_time k upto next.0 numbers ∙ sym (ap (λ (o : Option Server). option_map_or (λ source. time_at source.log upto) o 0) (known_stands w k placed.known).source)
+
+    module _ {K : Type 0} (kept : K → Kept) (shows : Area → DamageCause → Option Contents → Type 0) (sites : Sites K) (reveals : Reveals w k.source (sees kept sites set.source)) (known : ReadOnlyState) (known_is : known ≡ state_in w k) (counts : Counts) (c d : Contents) (holds : Holds w k.target c) (puts : PutsTargets kept takes shows sites set (Block known.synchpoint upto) time known counts c d) where
+      -- it was put from where the targets had come to
+      puts_there : PutsTargets kept takes shows sites set step time known counts c d
+      puts_there = subst (λ (p : ℕ). PutsTargets kept takes shows sites set (Block p upto) time known counts c d) (ap (λ (s : ReadOnlyState). s.synchpoint) known_is) puts
+
+      -- what was put makes the step of the world
+      put : PutsStep set.at_target.number (block_state upto (source_time w k.at_target.def upto) (base_of k.at_target.trail) k.at_target.flag (length k.at_target.trail)) (length k.at_target.trail) (trail_entry w k.at_target.def (block low upto None)) c d
+      put = subst (λ (t : ℕ). PutsStep set.at_target.number (block_state upto t (base_of k.at_target.trail) k.at_target.flag (length k.at_target.trail)) (length k.at_target.trail) (trail_entry w k.at_target.def (block low upto None)) c d) at_time
+          (step_put takes unnumbered w k set sound placed read_only step can next.1 kept shows sites reveals time known known_is counts c d holds puts_there None)
+
+      -- so the target holds what the world after the block calls for
+      pub block_holds : Holds after (with_entry k.at_target.def (block_entry k upto) k.target) d
+      block_holds =
+          target_holds w k set.at_target.number (block_entry k upto) c d sound among placed.at_target holds
+          (subst (λ (e : Entry). Acted set.at_target.number (with_step w k e) (with_entry k.at_target.def e k.target) c d) (sym no_base)
+          (stored w k set.at_target.number low upto None c d sound among placed.at_target (subst (λ (e : Entry). IsSound (with_step w k e)) no_base sound_after) holds (none_numbered takes unnumbered w k set sound placed read_only step can next.1) put
+          (has_targets takes unnumbered w k set sound placed read_only step can next.1 kept shows sites reveals time known known_is counts c d holds puts_there None)))
+
+    -- ---- at the servers
+
+    module _ {K : Type 0} (kept : K → Kept) (shows : Area → DamageCause → Option Contents → Type 0) (s0 s1 s2 : Sites K) (stands : Stands (names s0) (held kept s0) w) (reveals : Reveals w k.source (sees kept s1 set.source)) (known : ReadOnlyState) (known_is : known ≡ state_in w k) where
+      -- once the block is put, they stand for the world after it
+      pub has_blocked : OthersHoldAfterStep → HasStepped kept s0 s2 set.target (PutsSomeTargets kept takes shows s1 set (Block known.synchpoint upto) time known) → HasBecome kept s0 s2 after
+      has_blocked others stepped = has_become kept s0 s2 w set.target k.target (with_entry k.at_target.def (block_entry k upto)) (PutsSomeTargets kept takes shows s1 set (Block known.synchpoint upto) time known) stands placed.target (λ s. refl) sound_after
+          (λ c d holds p. block_holds kept shows s1 reveals known known_is p.0 c d holds p.1)
+          (λ other c i apart holds. (others w k (block_entry k upto) other c holds).0) stepped
+
+      -- if the call failed, they may still stand for the world before it
+      pub may_have_blocked : OthersHoldAfterStep → (held kept s2 ≡ held kept s0) ⊎ HasStepped kept s0 s2 set.target (PutsSomeTargets kept takes shows s1 set (Block known.synchpoint upto) time known) → HasBecome kept s0 s2 w ⊎ HasBecome kept s0 s2 after
+      may_have_blocked others (inl same) = inl (subst (λ (h : List (Option Contents)). Stands (names s0) h w) (sym same) stands)
+      may_have_blocked others (inr stepped) = inr (has_blocked others stepped)
+
+      -- what is answered is the block's ends and its counts
+      pub has_answered : OthersHoldAfterStep → (counts : Counts) → HasStepped kept s0 s2 set.target (PutsTargets kept takes shows s1 set (Block known.synchpoint upto) time known counts) → HasBlocked kept s0 s2 w k upto (steps.Block known.synchpoint upto counts.inserts counts.updates counts.deletes)
+      has_answered others counts stepped =
+          let r = revealed_at_place (names s0) (held kept s0) w set.target k.target stands placed.target in
+          let d = stepped r.0 r.1 in
+          let counted = counts_are takes unnumbered w k set sound placed read_only step can next.1 kept shows s1 reveals time known known_is counts r.0 d.0 r.2 (puts_there kept shows s1 reveals known known_is counts r.0 d.0 r.2 d.2) None in (
+            has_blocked others (λ b is. let e = stepped b is in (e.0, e.1, (counts, e.2))),
+            λ i. steps.Block (known_is i).synchpoint upto (counted i).inserts (counted i).updates (counted i).deletes,
+          )

@@ -1,0 +1,3 @@
+mod BlockSteps
+mod Blocked
+mod StepCases

@@ -1,0 +1,178 @@
+-- One action of a set after reads is the step from the beginning: proofs.
+use Rattle.std.proofs.Common.{◌≡◌, ℕ, Bool, true, false, ◌||◌, List, inl, inr, refl, sym, subst, arith}
+use Rattle.std.specs.Prelude.{Option}
+use Rattle.repl_types.specs.declared.area.Area.{Area}
+use Rattle.repl_types.specs.declared.area.Area.TheVariants as areas
+use Rattle.repl_types.specs.declared.status.DamageCause.{DamageCause}
+use Rattle.faults.specs.declared.fault.Fault.{Fault}
+use Rattle.faults.specs.declared.fault.Fault.TheVariants as faults
+use Rattle.faults.specs.declared.fault.Stepped.{Stepped}
+use Rattle.faults.specs.declared.fault.Stepped.TheVariants as steps
+use Rattle.keep_core.specs.Contents.{Contents}
+use Rattle.keep_core.specs.Kept.{Kept}
+use Rattle.repl_model.specs.AfterActions.{after_action}
+use Rattle.repl_model.specs.NextActions.{Action, next_action}
+use Rattle.repl_model.specs.World.{World, KnownSet}
+use Rattle.world_store.specs.Stands.{Stands}
+use Rattle.site_store.specs.declared.sites.Sites.{Sites}
+use Rattle.site_store.specs.Servers.{AllClosed}
+use Rattle.site_store.specs.Views.{names, held, work}
+use Rattle.site_store.specs.Calls.{Blames}
+use Rattle.site_store.specs.Damage.{Rules, Shows, Damages}
+use Rattle.site_store.specs.laws.Damage.{blames_by}
+use Rattle.server_steps.specs.Calls.{Looks}
+use Rattle.server_steps.specs.laws.Faults.{blames_after}
+use Rattle.server_steps.specs.laws.Reads.{looks_sees}
+use Rattle.set_places.specs.declared.placed_set.PlacedSet.{PlacedSet}
+use Rattle.set_places.specs.Reading.{ReadsOnly}
+use Rattle.set_places.specs.Steps.{HasBecome, MayHaveBecome}
+use Rattle.source_log.specs.Rules.{all_rules}
+use Rattle.subs_sets.specs.Rules.{is_read, source_rules, state_rules}
+use Rattle.prune_control.specs.Noting.{mark_rules}
+use Rattle.target_steps.specs.Taking.{is_of_block, ShowsAtEnds}
+use Rattle.full_refresh.specs.Refreshes as refreshing
+use Rattle.full_refresh.specs.Refreshes.{IsRefresh}
+use Rattle.apply_cycle.specs.Blocks as blocking
+use Rattle.apply_cycle.specs.Blocks.{is_read_in_block, ReadsAnswered}
+use Rattle.apply_cycle.specs.Stepping.{IsAnswer, HasMade, HasFailed, ReadsInStep, IsBlamed, ShowsReportDamage, ShowsDamage}
+
+-- ---- in a world
+
+module _ {K : Type 0} (kept : K → Kept) (s0 s1 : Sites K) (w : World) (k : KnownSet) where
+  -- an action that was made is the next one
+  pub makes : (source : ℕ) (stepped : Stepped) (a : Action) → a ≡ next_action k → HasBecome kept s0 s1 (after_action w k a) → IsAnswer w k source a stepped → HasMade kept s0 s1 w k source stepped
+  makes source stepped a is become answer = subst (λ (b : Action). HasBecome kept s0 s1 (after_action w k b) × IsAnswer w k source b stepped) is (become, answer)
+
+  -- one that failed is too
+  pub fails : (e : Fault) (a : Action) → a ≡ next_action k → MayHaveBecome kept s0 s1 w (after_action w k a) e → HasFailed kept s0 s1 w k e
+  fails e a is may = by_fault e (subst (λ (b : Action). MayHaveBecome kept s0 s1 w (after_action w k b) e) is may)
+    where
+      by_fault : (e : Fault) → MayHaveBecome kept s0 s1 w (after_action w k (next_action k)) e → HasFailed kept s0 s1 w k e
+      by_fault faults.Memory may = may
+      by_fault (faults.Keeper s) may = may
+      by_fault (faults.Damaged s a cause) may = may
+      by_fault (faults.Refused refusal) may = absurd may.undamaged
+
+-- ---- after reads
+
+module _ {K : Type 0} (kept : K → Kept) (s0 s1 : Sites K) (looks : Looks kept s0 s1) where
+  -- servers that stand for a world do so afterwards
+  pub stands_on : (w : World) → Stands (names s0) (held kept s0) w → Stands (names s1) (held kept s1) w
+  stands_on w stands = subst (λ (l : List (List ℕ)). Stands l (held kept s1) w) (sym looks.stays.passes.names) (subst (λ (h : List (Option Contents)). Stands (names s0) h w) (sym looks.stays.held) stands)
+
+  -- no transaction is open afterwards, if none was
+  pub closed_on : AllClosed (work kept s0) → AllClosed (work kept s1)
+  closed_on closed = subst AllClosed (sym looks.stays.work) closed
+
+  -- what servers that have read become, they become from the beginning
+  pub become_back : (s2 : Sites K) (v : World) → HasBecome kept s1 s2 v → HasBecome kept s0 s2 v
+  become_back s2 v become = subst (λ (l : List (List ℕ)). Stands l (held kept s2) v) looks.stays.passes.names become
+
+  pub may_back : (s2 : Sites K) (w v : World) (e : Fault) → MayHaveBecome kept s1 s2 w v e → MayHaveBecome kept s0 s2 w v e
+  may_back s2 w v e may = record {
+    stands = elim may.stands [
+      | inl same ↦ inl (become_back s2 w same)
+      | inr next ↦ inr (become_back s2 v next)
+    ];
+    undamaged = may.undamaged;
+  }
+
+  -- so it is with a step that was made
+  pub made_back : (s2 : Sites K) (w : World) (k : KnownSet) (source : ℕ) (stepped : Stepped) → HasMade kept s1 s2 w k source stepped → HasMade kept s0 s2 w k source stepped
+  made_back s2 w k source stepped made = (become_back s2 (after_action w k (next_action k)) made.0, made.1)
+
+  -- and with one that failed
+  pub failed_back : (s2 : Sites K) (w : World) (k : KnownSet) (e : Fault) → HasFailed kept s1 s2 w k e → HasFailed kept s0 s2 w k e
+  failed_back s2 w k faults.Memory may = may_back s2 w (after_action w k (next_action k)) faults.Memory may
+  failed_back s2 w k (faults.Keeper s) may = may_back s2 w (after_action w k (next_action k)) (faults.Keeper s) may
+  failed_back s2 w k (faults.Damaged s a cause) may = may_back s2 w (after_action w k (next_action k)) (faults.Damaged s a cause) may
+  failed_back s2 w k (faults.Refused refusal) refused = (become_back s2 w refused.0, refused.1)
+
+  -- damage that is shown after reads was shown before them
+  pub damage_back : (P : ℕ → Type 0) (rules : Rules) (s : ℕ) (a : Area) (cause : DamageCause) → Damages P rules kept s1 s a cause → Damages P rules kept s0 s a cause
+  damage_back P rules s a cause h = (h.0, subst (Shows rules a cause) (looks_sees kept s0 s1 looks s) h.1)
+
+  -- who is to blame for a call after reads is to blame from the beginning
+  pub blames_back : (D E : ℕ → Area → DamageCause → Type 0) → ((s : ℕ) (a : Area) (cause : DamageCause) → D s a cause → E s a cause) → (s2 : Sites K) (e : Fault) → Blames kept s1 s2 D e → Blames kept s0 s2 E e
+  blames_back D E weaker s2 e h = blames_after kept s0 s1 s2 looks.most E e looks.stays.passes (blames_by kept s1 s2 D E e h weaker)
+
+  -- damage of either end
+  pub ends_back : (shows : Area → DamageCause → Option Contents → Type 0) (set : PlacedSet) (s : ℕ) (a : Area) (cause : DamageCause) → ShowsAtEnds kept shows s1 set s a cause → ShowsAtEnds kept shows s0 set s a cause
+  ends_back shows set s a cause h = (h.0, subst (shows a cause) (looks_sees kept s0 s1 looks s) h.1)
+
+  pub blamed_back : (D E : ℕ → Area → DamageCause → Type 0) → ((s : ℕ) (a : Area) (cause : DamageCause) → D s a cause → E s a cause) → (s2 : Sites K) (e : Fault) → IsBlamed kept s1 s2 D e → IsBlamed kept s0 s2 E e
+  blamed_back D E weaker s2 faults.Memory h = blames_back D E weaker s2 faults.Memory h
+  blamed_back D E weaker s2 (faults.Keeper s) h = blames_back D E weaker s2 (faults.Keeper s) h
+  blamed_back D E weaker s2 (faults.Damaged s a cause) h = blames_back D E weaker s2 (faults.Damaged s a cause) h
+  blamed_back D E weaker s2 (faults.Refused refusal) h = tt
+
+-- ---- who is to blame
+
+-- a call that blames somebody
+blamed : {K : Type 0} (kept : K → Kept) (s0 s1 : Sites K) (D : ℕ → Area → DamageCause → Type 0) (e : Fault) → Blames kept s0 s1 D e → IsBlamed kept s0 s1 D e
+blamed kept s0 s1 D faults.Memory h = h
+blamed kept s0 s1 D (faults.Keeper s) h = h
+blamed kept s0 s1 D (faults.Damaged s a cause) h = h
+blamed kept s0 s1 D (faults.Refused refusal) h = tt
+
+module _ {K : Type 0} (kept : K → Kept) (shows : Area → DamageCause → Option Contents → Type 0) (set : PlacedSet) (s0 s1 s2 : Sites K) (looks : Looks kept s0 s1) (e : Fault) where
+  -- for a refresh
+  pub refresh_blamed : Blames kept s1 s2 (refreshing.ShowsDamage kept shows s1 set) e → IsBlamed kept s0 s2 (ShowsDamage kept shows s0 set) e
+  refresh_blamed h = blamed kept s0 s2 (ShowsDamage kept shows s0 set) e (blames_back kept s0 s1 looks (refreshing.ShowsDamage kept shows s1 set) (ShowsDamage kept shows s0 set) weaker s2 e h)
+    where
+      weaker : (s : ℕ) (a : Area) (cause : DamageCause) → refreshing.ShowsDamage kept shows s1 set s a cause → ShowsDamage kept shows s0 set s a cause
+      weaker s a cause (inl (inl h)) = inr (inr (inl (inl (inl (damage_back kept s0 s1 looks (λ q. q ≡ set.source) all_rules s a cause h)))))
+      weaker s a cause (inl (inr h)) = inr (inr (inl (inl (inr (damage_back kept s0 s1 looks (λ q. q ≡ set.target) state_rules s a cause h)))))
+      weaker s a cause (inr h) = inr (inr (inl (inr (ends_back kept s0 s1 looks shows set s a cause h))))
+
+  -- for a block
+  pub block_blamed : Blames kept s1 s2 (blocking.ShowsDamage kept shows s1 set) e → IsBlamed kept s0 s2 (ShowsDamage kept shows s0 set) e
+  block_blamed h = blamed kept s0 s2 (ShowsDamage kept shows s0 set) e (blames_back kept s0 s1 looks (blocking.ShowsDamage kept shows s1 set) (ShowsDamage kept shows s0 set) weaker s2 e h)
+    where
+      weaker : (s : ℕ) (a : Area) (cause : DamageCause) → blocking.ShowsDamage kept shows s1 set s a cause → ShowsDamage kept shows s0 set s a cause
+      weaker s a cause (inl (inl h)) = inr (inr (inr (inl (inl (inl (damage_back kept s0 s1 looks (λ q. q ≡ set.source) source_rules s a cause h))))))
+      weaker s a cause (inl (inr h)) = inr (inr (inr (inl (inl (inr (damage_back kept s0 s1 looks (λ q. q ≡ set.target) state_rules s a cause h))))))
+      weaker s a cause (inr h) = inr (inr (inr (inl (inr (ends_back kept s0 s1 looks shows set s a cause h)))))
+
+  -- for a report
+  pub report_blamed : IsBlamed kept s1 s2 (ShowsReportDamage kept s1 set) e → IsBlamed kept s0 s2 (ShowsDamage kept shows s0 set) e
+  report_blamed h = blamed_back kept s0 s1 looks (ShowsReportDamage kept s1 set) (ShowsDamage kept shows s0 set) weaker s2 e h
+    where
+      weaker : (s : ℕ) (a : Area) (cause : DamageCause) → ShowsReportDamage kept s1 set s a cause → ShowsDamage kept shows s0 set s a cause
+      weaker s a cause (inl h) = inr (inr (inr (inr (inl (damage_back kept s0 s1 looks (λ q. q ≡ set.target) state_rules s a cause h)))))
+      weaker s a cause (inr h) = inr (inr (inr (inr (inr (damage_back kept s0 s1 looks (λ q. q ≡ set.source) mark_rules s a cause h)))))
+
+-- ---- reads
+
+module _ {K : Type 0} (kept : K → Kept) (s0 s1 : Sites K) (more : ℕ) where
+  -- a refresh says nothing of what it reads
+  pub refresh_reads : (stepped : Stepped) → IsRefresh stepped → ReadsInStep kept s0 s1 more stepped
+  refresh_reads (steps.Refresh point rows) is = tt
+  refresh_reads (steps.Signal server seq) is = tt
+  refresh_reads (steps.Block from to inserts updates deletes) is = absurd is
+  refresh_reads (steps.Report point) is = tt
+  refresh_reads (steps.Load m f rows) is = tt
+  refresh_reads (steps.Decide t d accepted rejected) is = tt
+  refresh_reads (steps.Settle m f rejected applied) is = tt
+  refresh_reads steps.Idle is = tt
+
+-- a block after the reads of what comes next reads no more
+pub block_reads : {K : Type 0} (kept : K → Kept) (s0 s1 s2 : Sites K) (more : ℕ) (stepped : Stepped) → ReadsOnly is_read kept s0 s1 → ReadsOnly is_read_in_block kept s1 s2 → ReadsAnswered more kept s1 s2 stepped → ReadsInStep kept s0 s2 more stepped
+block_reads kept s0 s1 s2 more stepped first then = by_answer stepped
+  where
+    not_read : (x y : Bool) → (x || y) ≡ false → x ≡ false
+    not_read true y is = is
+    not_read false y is = refl
+
+    both : ReadsOnly is_read_in_block kept s0 s2
+    both = λ s a is. omega (arith, first s a (not_read (is_read a) (is_of_block a) is), then s a is)
+
+    by_answer : (stepped : Stepped) → ReadsAnswered more kept s1 s2 stepped → ReadsInStep kept s0 s2 more stepped
+    by_answer (steps.Refresh point rows) counted = tt
+    by_answer (steps.Signal server seq) counted = tt
+    by_answer (steps.Block from to inserts updates deletes) counted = (both, λ short s. omega (arith, first s areas.Cd refl, counted short s))
+    by_answer (steps.Report point) counted = tt
+    by_answer (steps.Load m f rows) counted = tt
+    by_answer (steps.Decide t d accepted rejected) counted = tt
+    by_answer (steps.Settle m f rejected applied) counted = tt
+    by_answer steps.Idle counted = tt

@@ -1,0 +1,38 @@
+use Rattle.std.proofs.Common.{◌≡◌, ◌∙◌, sym, ap}
+use Rattle.std.proofs.lemmas.Result.{err_from_is_err_and}
+use Rattle.repl_model.specs.AfterActions.{after_action}
+use Rattle.repl_model.specs.NextActions.{blocks, next_action}
+use Rattle.subs_sets.specs.Actions.{action_of}
+use Rattle.apply_cycle.proofs.StepCases.{makes, stands_on, become_back, refresh_blamed, block_blamed, report_blamed}
+use Rattle.apply_cycle.proofs.steps.step.Goals as goal
+
+pub returns-in_err-stepped-in-Refresh-clause-blames : goal.returns-in_err-stepped-in-Refresh-clause-blames
+returns-in_err-stepped-in-Refresh-clause-blames g c =
+    let e = c.in_err-stepped-in-Refresh.field-0.0 in
+    let p = err_from_is_err_and c.from_residual-in_err-stepped-in-Refresh.result c.from_residual-in_err-stepped-in-Refresh.ensures.1 in
+    rw (p.1, p.2) (refresh_blamed g.K.Keeper.kept g.T.Targets.shows c.args.set.now c.args.sites.now c.next_action.new.sites c.refresh_step.new.sites c.in_ok-action.ensures.ok e c.in_err-stepped-in-Refresh.ensures.blames)
+
+pub returns-in_err-stepped-in-Block-clause-blames : goal.returns-in_err-stepped-in-Block-clause-blames
+returns-in_err-stepped-in-Block-clause-blames g c =
+    let e = c.in_err-stepped-in-Block.field-0.0 in
+    let p = err_from_is_err_and c.from_residual-in_err-stepped-in-Block.result c.from_residual-in_err-stepped-in-Block.ensures.1 in
+    rw (p.1, p.2) (block_blamed g.K.Keeper.kept g.T.Targets.shows c.args.set.now c.args.sites.now c.next_action.new.sites c.block_step.new.sites c.in_ok-action.ensures.ok e c.in_err-stepped-in-Block.ensures.blames)
+
+pub returns-in_err-stepped-in-Report-clause-blames : goal.returns-in_err-stepped-in-Report-clause-blames
+returns-in_err-stepped-in-Report-clause-blames g c =
+    let e = c.in_err-stepped-in-Report.field-0.0 in
+    let p = err_from_is_err_and c.from_residual-in_err-stepped-in-Report.result c.from_residual-in_err-stepped-in-Report.ensures.1 in
+    rw (p.1, p.2) (report_blamed g.K.Keeper.kept g.T.Targets.shows c.args.set.now c.args.sites.now c.next_action.new.sites c.report.new.sites c.in_ok-action.ensures.ok e c.in_err-stepped-in-Report.ensures.blames)
+
+pub returns-in_ok-stepped-in-Block-clause-ok : goal.returns-in_ok-stepped-in-Block-clause-ok
+returns-in_ok-stepped-in-Block-clause-ok g c = λ w k stands placed read_only each.
+    let kept = g.K.Keeper.kept in
+    let s0 = c.args.sites.now in
+    let s1 = c.next_action.new.sites in
+    let s2 = c.block_step.new.sites in
+    let set = c.args.set.now in
+    let looks = c.in_ok-action.ensures.ok in
+    let to = c.in-Block.to in
+    let next : blocks to ≡ next_action k = ap action_of (sym c.in-Block.is) ∙ c.in_ok-action.ensures.action w k stands placed read_only in
+    let made = c.in_ok-stepped-in-Block.ensures.ok w k (stands_on kept s0 s1 looks w stands) placed read_only (sym next, each) in
+    makes kept s0 s2 w k set.source c.in_ok-stepped-in-Block.stepped (blocks to) next (become_back kept s0 s1 looks s2 (after_action w k (blocks to)) made.0) made.1

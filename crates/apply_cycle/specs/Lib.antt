@@ -1,0 +1,3 @@
+pub mod Blocks
+pub mod Stepping
+pub mod laws

@@ -1,4 +1,0 @@
-mod CopyDamage
-mod CopyTables
-mod LoadedCopies
-mod LoadFaults

@@ -1,0 +1,4 @@
+mod CopyDamage
+mod CopySteps
+mod CopyTables
+mod StepFaults

@@ -1,0 +1,36 @@
+-- What is known of user copies as targets: which damage is shown of them, and that their rows aren't numbered.
+use Rattle.std.proofs.Common.{◌≡◌, true, false, inl, inr}
+use Rattle.std.specs.Prelude.{Option, None}
+use Rattle.repl_types.specs.declared.area.Area.{Area}
+use Rattle.repl_types.specs.declared.status.DamageCause.{DamageCause}
+use Rattle.repl_types.specs.declared.status.DamageCause.TheVariants as causes
+use Rattle.keep_core.specs.Contents.{Contents}
+use Rattle.repl_definitions.specs.declared.member.TargetKind.{TargetKind}
+use Rattle.repl_definitions.specs.declared.member.TargetKind.TheVariants.{UserCopy, PointInTime, BaseAggregate, ChangeAggregate, Ccd, Replica}
+use Rattle.action_store.specs.StoredSteps.{is_numbered}
+use Rattle.site_store.specs.Damage.{Rules, Shows}
+use Rattle.apply_copies.specs.ChangeRules.{change_source_rules}
+use Rattle.apply_copies.specs.Rules.{source_rules, target_rules}
+use Rattle.copy_targets.specs.Copies.{is_user_copy, ShowsCopyDamage}
+
+-- damage that is shown of what was seen is shown of a keeper that reveals nothing
+pub shows_unseen : (rules : Rules) (a : Area) (cause : DamageCause) (saw : Option Contents) → Shows rules a cause saw → Shows rules a cause None
+shows_unseen rules a (causes.Spelling bytes) saw h = (h.0, elim h.1 [ inl k ↦ inl (k.0, tt) | inr v ↦ inr (v.0, tt) ])
+shows_unseen rules a (causes.Absent key) saw h = (h.0, tt)
+shows_unseen rules a (causes.Unfit bytes) saw h = (h.0, tt)
+shows_unseen rules a (causes.NoRest steps) saw h = h
+
+-- so is damage of copies
+pub copy_damage_unseen : (a : Area) (cause : DamageCause) (saw : Option Contents) → ShowsCopyDamage a cause saw → ShowsCopyDamage a cause None
+copy_damage_unseen a cause saw (inl (inl h)) = inl (inl (shows_unseen source_rules a cause saw h))
+copy_damage_unseen a cause saw (inl (inr h)) = inl (inr (shows_unseen change_source_rules a cause saw h))
+copy_damage_unseen a cause saw (inr h) = inr (h.0, shows_unseen (target_rules h.0) a cause saw h.1)
+
+-- the rows of a user copy aren't numbered
+pub copies_unnumbered : (kind : TargetKind) → is_user_copy kind ≡ true → is_numbered kind ≡ false
+copies_unnumbered UserCopy is = λ i. false
+copies_unnumbered PointInTime is = absurd cc
+copies_unnumbered BaseAggregate is = absurd cc
+copies_unnumbered ChangeAggregate is = absurd cc
+copies_unnumbered (Ccd complete condensed) is = absurd cc
+copies_unnumbered Replica is = absurd cc

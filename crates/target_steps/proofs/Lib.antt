@@ -1,0 +1,4 @@
+mod FirstMembers
+mod PutTargets
+mod StepReads
+mod TakeSteps

@@ -1,0 +1,2 @@
+pub mod AtServers
+pub mod Stepped

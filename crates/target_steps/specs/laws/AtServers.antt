@@ -1,0 +1,51 @@
+-- What is known of the servers of a set between the calls of one of its steps.
+use Rattle.std.proofs.Common.{◌≡◌, ℕ, List, inl, get_or, sym, subst}
+use Rattle.std.specs.Prelude.{Option, Some, None}
+use Rattle.std.proofs.Math.ListN.{set as set_at}
+use Rattle.faults.specs.declared.fault.Fault.{Fault}
+use Rattle.keep_core.specs.Contents.{Contents}
+use Rattle.keep_core.specs.Kept.{Kept}
+use Rattle.repl_model.specs.World.{World, KnownSet}
+use Rattle.site_store.specs.declared.sites.Sites.{Sites}
+use Rattle.site_store.specs.Servers.{AllClosed}
+use Rattle.site_store.specs.Views.{names, held, work, sees}
+use Rattle.site_store.specs.Damage.{IsUndamaged, IsNoDamage}
+use Rattle.site_store.specs.laws.Damage.{no_damage}
+use Rattle.server_steps.specs.Calls.{Looks, Breaks}
+use Rattle.server_steps.specs.laws.Reads.{looks_sees}
+use Rattle.world_store.specs.Stands.{Reveals, Stands}
+use Rattle.load_worlds.specs.laws.Entries.{at_place_in}
+use Rattle.subs_sets.specs.Rules.{state_rules}
+use Rattle.subs_sets.specs.laws.Undamaged.{states_undamaged}
+use Rattle.set_places.specs.declared.placed_set.PlacedSet.{PlacedSet}
+use Rattle.set_places.specs.Places.{IsPlacedAs}
+use Rattle.set_places.specs.Steps.{HasStepped, MayHaveBecome}
+use Rattle.set_places.specs.laws.Standing.{source_revealed, target_revealed}
+
+module _ {K : Type 0} (kept : K → Kept) (set : PlacedSet) where
+  -- nothing changed
+  pub unchanged : (s0 s1 : Sites K) (w v : World) (e : Fault) → held kept s1 ≡ held kept s0 → Stands (names s0) (held kept s0) w → IsNoDamage e → MayHaveBecome kept s0 s1 w v e
+  unchanged s0 s1 w v e same stands undamaged = record { stands = inl (subst (λ (h : List (Option Contents)). Stands (names s0) h w) (sym same) stands); undamaged = undamaged }
+
+  -- a step after reads is one from the beginning
+  pub stepped_after : (s0 s1 s2 : Sites K) (server : ℕ) (step : Contents → Contents → Type 0) → held kept s1 ≡ held kept s0 → HasStepped kept s1 s2 server step → HasStepped kept s0 s2 server step
+  stepped_after s0 s1 s2 server step same stepped = subst (λ (h : List (Option Contents)). (c : Contents) → get_or h server None ≡ Some c → (d : Contents) × (held kept s2 ≡ set_at h server (Some d)) × step c d) same stepped
+
+  module _ (s0 s1 : Sites K) (closed : AllClosed (work kept s0)) (w : World) (k : KnownSet) (stands : Stands (names s0) (held kept s0) w) (placed : IsPlacedAs w k set) where
+    -- the source is seen to have what the world calls for
+    pub revealed : Reveals w k.source (sees kept s0 set.source)
+    revealed = source_revealed kept s0 w k set stands (closed set.source) placed
+
+    module _ (looks : Looks kept s0 s1) where
+      -- after reads too
+      pub revealed_after : Reveals w k.source (sees kept s1 set.source)
+      revealed_after = subst (λ (o : Option Contents). Reveals w k.source o) (sym (looks_sees kept s0 s1 looks set.source)) revealed
+
+      -- and so is the target
+      pub target_after : Reveals w k.target (sees kept s1 set.target)
+      target_after = subst (λ (o : Option Contents). Reveals w k.target o) (sym (looks_sees kept s0 s1 looks set.target)) (target_revealed kept s0 w k set stands (closed set.target) placed)
+
+      -- no damage is found of its state
+      pub state_undamaged : (s2 : Sites K) (e : Fault) → Breaks state_rules kept s1 s2 set.target e → IsNoDamage e
+      state_undamaged s2 e f = no_damage kept s1 s2 (λ s. s ≡ set.target) state_rules e
+          (λ s is. subst (λ (q : ℕ). (c : Contents) × (sees kept s1 q ≡ Some c) × IsUndamaged state_rules c) (sym is) (target_after.0, target_after.1, states_undamaged w k.target target_after.0 stands.sound (at_place_in w set.target k.target placed.target) target_after.2)) f.blames
