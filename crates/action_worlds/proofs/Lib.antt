@@ -11,3 +11,5 @@ mod SignalUnits
 mod SignalLogs
 mod Signals
 mod StaysSound
+mod KnownAfter
+mod Resting

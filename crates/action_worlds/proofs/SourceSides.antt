@@ -38,7 +38,7 @@ abbrev side_after : List ℕ → SetId → (SourceSide → SourceSide) → Serve
 side_after name id f server side = cond (is_changed name id server side) (f side) side
 
 -- what the rows at a server become when the source side of this set is changed
-abbrev rows_after : List ℕ → SetId → (SourceSide → SourceSide) → Server → Rows
+abbrev pub rows_after : List ℕ → SetId → (SourceSide → SourceSide) → Server → Rows
 rows_after name id f server = record {
   mark = λ side. (side_after name id f server side).mark;
   signal = λ side. (side_after name id f server side).signal;
@@ -56,7 +56,7 @@ side_keeps f keeps side =
     ∙ ap (λ (codes : List (ℕ × ℕ)). record after { def = side.def; t = side.t; d = side.d; codes = codes }) (keeps.codes side)
 
 -- the world in which the source side of this set is changed is the one whose servers get these rows
-world_after : (name : List ℕ) (id : SetId) (f : SourceSide → SourceSide) → KeepsSource f → (world : World) → with_server name (with_source_side id f) world ≡ changed_world (rows_after name id f) world
+pub world_after : (name : List ℕ) (id : SetId) (f : SourceSide → SourceSide) → KeepsSource f → (world : World) → with_server name (with_source_side id f) world ≡ changed_world (rows_after name id f) world
 world_after name id f keeps world = ap (λ (g : Server → Server). map g world) (fun_ext (λ server. by_name server (bytes_eq name server.name) ∙ by_rows server))
   where
     by_name : (server : Server) (b : Bool) → cond b (with_source_side id f server) server ≡ record server { source_sets = map (λ side. cond (b && same_set id side.def.id) (f side) side) server.source_sets }
@@ -71,6 +71,10 @@ world_after name id f keeps world = ap (λ (g : Server → Server). map g world)
     by_rows server =
         ap (λ (g : SourceSide → SourceSide). record server { source_sets = map g server.source_sets }) (fun_ext (λ side. by_test side (is_changed name id server side)))
         ∙ ap (λ (sides : List TargetSide). record server { source_sets = map (source_row (rows_after name id f server)) server.source_sets; target_sets = sides }) (sym (map-id server.target_sets))
+
+-- the row of a set becomes what is given for it
+pub row_after : (k : KnownSet) (f : SourceSide → SourceSide) → side_after k.source.name k.at_source.def.id f k.source k.at_source ≡ f k.at_source
+row_after k f = ap (λ (b : Bool). cond b (f k.at_source) k.at_source) (and_from (bytes_eq k.source.name k.source.name) (same_set k.at_source.def.id k.at_source.def.id) (name_itself k.source.name) (id_itself k.at_source.def.id))
 
 -- the row of any other set stays
 other_stays : (name : List ℕ) (id : SetId) (f : SourceSide → SourceSide) (server : Server) (side : SourceSide) → is_changed name id server side ≡ false → source_row (rows_after name id f server) side ≡ side
@@ -111,21 +115,17 @@ source_side_sound world k sound i f keeps mark signal = subst IsSound (sym (worl
             inl (any_from (λ (l : KnownSet). bytes_eq server.name l.source.name && same_set side.def.id l.at_target.def.id) (known_sets world) k known (and_from (bytes_eq server.name name) (same_set side.def.id k.at_target.def.id) of_server of_set))
         by_test side false e = inr (other_stays name id f server side e)
 
-    -- the set's row becomes what is given for it
-    row_after : side_after name id f k.source k.at_source ≡ f k.at_source
-    row_after = ap (λ (b : Bool). cond b (f k.at_source) k.at_source) (and_from (bytes_eq name name) (same_set id id) (name_itself name) (id_itself id))
-
     -- the set stays sound
     set_stays : SetStays rows k
     set_stays = inr (record {
       read_only = (read_only_is_known world k i).1;
       signals = (
-        subst (λ (side : SourceSide). IsTrue (is_seq_or_zero k.source.log side.signal)) (sym row_after) signal,
+        subst (λ (side : SourceSide). IsTrue (is_seq_or_zero k.source.log side.signal)) (sym (row_after k f)) signal,
         (at_one SignalsAreSound (known_sets world) k sound.signals known).1,
       );
       trail = record {
         goes = (at_one TrailIsSound (read_only_sets (known_sets world)) k sound.trails i).goes;
-        mark = subst (λ (side : SourceSide). side.mark ≤ synchpoint k.at_target.trail) (sym row_after) mark;
+        mark = subst (λ (side : SourceSide). side.mark ≤ synchpoint k.at_target.trail) (sym (row_after k f)) mark;
       };
     })
 

@@ -36,7 +36,7 @@ abbrev side_after : List ℕ → SetId → (TargetSide → TargetSide) → Serve
 side_after name id g server side = cond (is_changed name id server side) (g side) side
 
 -- what the rows at a server become when the target side of this set is changed
-abbrev rows_after : List ℕ → SetId → (TargetSide → TargetSide) → Server → Rows
+abbrev pub rows_after : List ℕ → SetId → (TargetSide → TargetSide) → Server → Rows
 rows_after name id g server = record {
   mark = λ side. side.mark;
   signal = λ side. side.signal;
@@ -45,7 +45,7 @@ rows_after name id g server = record {
 }
 
 -- the world in which the target side of this set is changed is the one whose servers get these rows
-world_after : (name : List ℕ) (id : SetId) (g : TargetSide → TargetSide) → KeepsTarget g → (world : World) → with_server name (with_target_side id g) world ≡ changed_world (rows_after name id g) world
+pub world_after : (name : List ℕ) (id : SetId) (g : TargetSide → TargetSide) → KeepsTarget g → (world : World) → with_server name (with_target_side id g) world ≡ changed_world (rows_after name id g) world
 world_after name id g keeps world = ap (λ (f : Server → Server). map f world) (fun_ext (λ server. by_name server (bytes_eq name server.name) ∙ by_rows server))
   where
     by_name : (server : Server) (b : Bool) → cond b (with_target_side id g server) server ≡ record server { target_sets = map (λ side. cond (b && same_set id side.def.id) (g side) side) server.target_sets }
@@ -60,6 +60,10 @@ world_after name id g keeps world = ap (λ (f : Server → Server). map f world)
     by_rows server =
         ap (λ (f : TargetSide → TargetSide). record server { target_sets = map f server.target_sets }) (fun_ext (λ side. by_test side (is_changed name id server side)))
         ∙ ap (λ (sides : List SourceSide). record server { source_sets = sides; target_sets = map (target_row (rows_after name id g server)) server.target_sets }) (sym (map-id server.source_sets))
+
+-- the row of a set becomes what is given for it
+pub row_after : (k : KnownSet) (g : TargetSide → TargetSide) → side_after k.target.name k.at_target.def.id g k.target k.at_target ≡ g k.at_target
+row_after k g = ap (λ (b : Bool). cond b (g k.at_target) k.at_target) (and_from (bytes_eq k.target.name k.target.name) (same_set k.at_target.def.id k.at_target.def.id) (name_itself k.target.name) (id_itself k.at_target.def.id))
 
 -- the row of any other set stays
 other_stays : (name : List ℕ) (id : SetId) (g : TargetSide → TargetSide) (server : Server) (side : TargetSide) → is_changed name id server side ≡ false → target_row (rows_after name id g server) side ≡ side
@@ -109,18 +113,14 @@ target_side_sound world k sound i g keeps goes mark = subst IsSound (sym (world_
             inl (sym (ap₂ (λ (at : Server) (row : TargetSide). is_some (known_from world at row)) own.0 own.1) ∙ known_itself world k stands)
         by_test side l false e = inr (other_stays name id g server side e)
 
-    -- the set's row becomes what is given for it
-    row_after : side_after name id g k.target k.at_target ≡ g k.at_target
-    row_after = ap (λ (b : Bool). cond b (g k.at_target) k.at_target) (and_from (bytes_eq name name) (same_set id id) (name_itself name) (id_itself id))
-
     -- the set stays sound
     set_stays : SetStays rows k
     set_stays = inr (record {
       read_only = (read_only_is_known world k i).1;
       signals = at_one SignalsAreSound (known_sets world) k sound.signals known;
       trail = record {
-        goes = subst (λ (side : TargetSide). GoesOn k.source.log 0 0 side.trail) (sym row_after) goes;
-        mark = subst (λ (side : TargetSide). k.at_source.mark ≤ synchpoint side.trail) (sym row_after) mark;
+        goes = subst (λ (side : TargetSide). GoesOn k.source.log 0 0 side.trail) (sym (row_after k g)) goes;
+        mark = subst (λ (side : TargetSide). k.at_source.mark ≤ synchpoint side.trail) (sym (row_after k g)) mark;
       };
     })
 

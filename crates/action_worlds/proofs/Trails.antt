@@ -88,16 +88,18 @@ signal_before k e = by_signal (nat_le k.at_source.signal (base_of k.at_target.tr
     by_signal true above now = absurd cc
     by_signal false above now = leb-false k.at_source.signal (base_of k.at_target.trail) above
 
--- What is known of a set whose next action is a block up to a point: it was refreshed, its source has captured units that
--- its targets haven't taken, and the block ends at the point.
-record BlocksNext (k : KnownSet) (upto : ℕ) : Type 0 where
-  old : is_new k.at_target.trail ≡ false
-  ahead : synchpoint k.at_target.trail < k.source.captured
-  ends : block_end k ≡ upto
+-- What is known of a set whose next action is a block up to a point: it was refreshed, no refresh was asked for, its
+-- source has captured units that its targets haven't taken, it has no gap, and the block ends at the point.
+pub record BlocksNext (k : KnownSet) (upto : ℕ) : Type 0 where
+  pub old : is_new k.at_target.trail ≡ false
+  pub calm : k.at_target.flag ≡ false
+  pub ahead : synchpoint k.at_target.trail < k.source.captured
+  pub gap : gap_of k ≡ None
+  pub ends : block_end k ≡ upto
 
 -- if the next action is a block, this is known
-block_is_next : (k : KnownSet) (upto : ℕ) → next_action k ≡ blocks upto → BlocksNext k upto
-block_is_next k upto e = by_tests (is_new k.at_target.trail || k.at_target.flag) (nat_le k.source.captured (synchpoint k.at_target.trail)) (nat_lt k.at_source.mark (synchpoint k.at_target.trail)) (gap_of k) refl refl e
+pub block_is_next : (k : KnownSet) (upto : ℕ) → next_action k ≡ blocks upto → BlocksNext k upto
+block_is_next k upto e = by_tests (is_new k.at_target.trail || k.at_target.flag) (nat_le k.source.captured (synchpoint k.at_target.trail)) (nat_lt k.at_source.mark (synchpoint k.at_target.trail)) (gap_of k) refl refl refl e
   where
     no_signal : {A : Type 0} (b : Bool) → cond b signals refreshes ≡ blocks upto → A
     no_signal true now = absurd cc
@@ -113,17 +115,25 @@ block_is_next k upto e = by_tests (is_new k.at_target.trail || k.at_target.flag)
     same_end : (n : ℕ) → blocks n ≡ blocks upto → n ≡ upto
     same_end n now = cc
 
-    by_tests : (a b c : Bool) (gap : Option Gap) → (is_new k.at_target.trail || k.at_target.flag) ≡ a → nat_le k.source.captured (synchpoint k.at_target.trail) ≡ b
+    by_tests : (a b c : Bool) (gap : Option Gap) → (is_new k.at_target.trail || k.at_target.flag) ≡ a → nat_le k.source.captured (synchpoint k.at_target.trail) ≡ b → gap_of k ≡ gap
         → cond a (refresh_by_signal k) (cond b (cond c reports idles) (by_gap k gap)) ≡ blocks upto → BlocksNext k upto
-    by_tests true b c gap old ahead now = no_refresh now
-    by_tests false true true gap old ahead now = absurd cc
-    by_tests false true false gap old ahead now = absurd cc
-    by_tests false false c None old ahead now = record {
+    by_tests true b c gap old ahead is now = no_refresh now
+    by_tests false true true gap old ahead is now = absurd cc
+    by_tests false true false gap old ahead is now = absurd cc
+    by_tests false false c None old ahead is now = record {
       old = (or_parts (is_new k.at_target.trail) k.at_target.flag old).0;
+      calm = (or_parts (is_new k.at_target.trail) k.at_target.flag old).1;
       ahead = leb-false k.source.captured (synchpoint k.at_target.trail) ahead;
+      gap = is;
       ends = same_end (block_end k) now;
     }
-    by_tests false false c (Some gap) old ahead now = by_disabled gap gap.disabled now
+    by_tests false false c (Some gap) old ahead is now = by_disabled gap gap.disabled now
+
+-- the block then ends at a seq above the point that the targets have reached
+pub block_ends_above : (k : KnownSet) (upto : ℕ) → NumbersAreSound k.source → BlocksNext k upto → (synchpoint k.at_target.trail < upto) × (is_seq k.source.log upto ≡ true)
+block_ends_above k upto numbers known = subst (λ (point : ℕ). (synchpoint k.at_target.trail < point) × (is_seq k.source.log point ≡ true)) known.ends
+    (cut_above k.at_source.def k.source.log (synchpoint k.at_target.trail) k.source.captured known.ahead
+    (seq_above k.source.log (synchpoint k.at_target.trail) k.source.captured known.ahead numbers.captured))
 
 -- ---- one more entry
 
@@ -136,11 +146,11 @@ synchpoint_is_seq : (k : KnownSet) → TrailIsSound k → is_seq_or_zero k.sourc
 synchpoint_is_seq k h = reaches_seq k.source.log 0 0 k.at_target.trail h.goes refl
 
 -- with one more entry the targets have reached its point
-reached_with : (trail : Trail) (entry : Entry) → synchpoint (trail ++ entry ∷ []) ≡ point_after entry
+pub reached_with : (trail : Trail) (entry : Entry) → synchpoint (trail ++ entry ∷ []) ≡ point_after entry
 reached_with trail entry = fold-append (λ (before : ℕ) (e : Entry). point_after e) 0 trail (entry ∷ [])
 
 -- a target with two changes of one side in turn is the one with both
-both_changes : (world : World) (k : KnownSet) (entry : Entry) → with_server k.target.name (refreshed k.at_target.def entry) world
+pub both_changes : (world : World) (k : KnownSet) (entry : Entry) → with_server k.target.name (refreshed k.at_target.def entry) world
     ≡ with_server k.target.name (with_target_side k.at_target.def.id (λ side. record side { flag = false; trail = side.trail ++ entry ∷ [] })) world
 both_changes world k entry = ap (λ (f : Server → Server). with_server k.target.name f world) (fun_ext by_server)
   where
@@ -204,13 +214,9 @@ block_sound world k upto sound i next = target_side_sound world k sound i (λ si
     numbers : NumbersAreSound k.source
     numbers = at_one NumbersAreSound world k.source sound.numbers (source_in world k (set_stands world k i))
 
-    captured : is_seq k.source.log k.source.captured ≡ true
-    captured = seq_above k.source.log (synchpoint k.at_target.trail) k.source.captured known.ahead numbers.captured
-
     reaches : (synchpoint k.at_target.trail < upto) × (is_seq k.source.log upto ≡ true)
-    reaches = subst (λ (point : ℕ). (synchpoint k.at_target.trail < point) × (is_seq k.source.log point ≡ true)) known.ends
-        (cut_above k.at_source.def k.source.log (synchpoint k.at_target.trail) k.source.captured known.ahead captured)
+    reaches = block_ends_above k upto numbers known
 
     read_at : (b : Bool) → is_base k.source.log (cond b (base_point k) None) ≡ true
-    read_at true = base_is_seq k (last_is_seq k.source.log k.source.captured captured)
+    read_at true = base_is_seq k (last_is_seq k.source.log upto reaches.1)
     read_at false = refl

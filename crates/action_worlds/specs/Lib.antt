@@ -1,2 +1,3 @@
 pub mod StaysSound
+pub mod Resting
 pub mod laws

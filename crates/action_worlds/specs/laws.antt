@@ -1,1 +1,2 @@
 pub mod Signals
+pub mod Resting

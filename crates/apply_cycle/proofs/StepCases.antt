@@ -17,15 +17,13 @@ use Rattle.world_store.specs.Stands.{Stands}
 use Rattle.site_store.specs.declared.sites.Sites.{Sites}
 use Rattle.site_store.specs.Servers.{AllClosed}
 use Rattle.site_store.specs.Views.{names, held, work}
-use Rattle.site_store.specs.Calls.{Blames}
 use Rattle.site_store.specs.Damage.{Rules, Shows, Damages}
-use Rattle.site_store.specs.laws.Damage.{blames_by}
 use Rattle.server_steps.specs.Calls.{Looks}
-use Rattle.server_steps.specs.laws.Faults.{blames_after}
 use Rattle.server_steps.specs.laws.Reads.{looks_sees}
 use Rattle.set_places.specs.declared.placed_set.PlacedSet.{PlacedSet}
 use Rattle.set_places.specs.Reading.{ReadsOnly}
-use Rattle.set_places.specs.Steps.{HasBecome, MayHaveBecome}
+use Rattle.set_places.specs.Steps.{HasBecome, MayHaveBecome, BlamesUnchanged}
+use Rattle.set_places.specs.laws.Commits.{unchanged_after}
 use Rattle.source_log.specs.Rules.{all_rules}
 use Rattle.subs_sets.specs.Rules.{is_read, source_rules, state_rules}
 use Rattle.prune_control.specs.Noting.{mark_rules}
@@ -93,8 +91,8 @@ module _ {K : Type 0} (kept : K → Kept) (s0 s1 : Sites K) (looks : Looks kept 
   damage_back P rules s a cause h = (h.0, subst (Shows rules a cause) (looks_sees kept s0 s1 looks s) h.1)
 
   -- who is to blame for a call after reads is to blame from the beginning
-  pub blames_back : (D E : ℕ → Area → DamageCause → Type 0) → ((s : ℕ) (a : Area) (cause : DamageCause) → D s a cause → E s a cause) → (s2 : Sites K) (e : Fault) → Blames kept s1 s2 D e → Blames kept s0 s2 E e
-  blames_back D E weaker s2 e h = blames_after kept s0 s1 s2 looks.most E e looks.stays.passes (blames_by kept s1 s2 D E e h weaker)
+  pub blames_back : (D E : ℕ → Area → DamageCause → Type 0) → ((s : ℕ) (a : Area) (cause : DamageCause) → D s a cause → E s a cause) → (s2 : Sites K) (e : Fault) → BlamesUnchanged kept s1 s2 D e → BlamesUnchanged kept s0 s2 E e
+  blames_back D E weaker s2 e h = unchanged_after kept s0 s1 s2 D E e looks weaker h
 
   -- damage of either end
   pub ends_back : (shows : Area → DamageCause → Option Contents → Type 0) (set : PlacedSet) (s : ℕ) (a : Area) (cause : DamageCause) → ShowsAtEnds kept shows s1 set s a cause → ShowsAtEnds kept shows s0 set s a cause
@@ -109,7 +107,7 @@ module _ {K : Type 0} (kept : K → Kept) (s0 s1 : Sites K) (looks : Looks kept 
 -- ---- who is to blame
 
 -- a call that blames somebody
-blamed : {K : Type 0} (kept : K → Kept) (s0 s1 : Sites K) (D : ℕ → Area → DamageCause → Type 0) (e : Fault) → Blames kept s0 s1 D e → IsBlamed kept s0 s1 D e
+blamed : {K : Type 0} (kept : K → Kept) (s0 s1 : Sites K) (D : ℕ → Area → DamageCause → Type 0) (e : Fault) → BlamesUnchanged kept s0 s1 D e → IsBlamed kept s0 s1 D e
 blamed kept s0 s1 D faults.Memory h = h
 blamed kept s0 s1 D (faults.Keeper s) h = h
 blamed kept s0 s1 D (faults.Damaged s a cause) h = h
@@ -117,7 +115,7 @@ blamed kept s0 s1 D (faults.Refused refusal) h = tt
 
 module _ {K : Type 0} (kept : K → Kept) (shows : Area → DamageCause → Option Contents → Type 0) (set : PlacedSet) (s0 s1 s2 : Sites K) (looks : Looks kept s0 s1) (e : Fault) where
   -- for a refresh
-  pub refresh_blamed : Blames kept s1 s2 (refreshing.ShowsDamage kept shows s1 set) e → IsBlamed kept s0 s2 (ShowsDamage kept shows s0 set) e
+  pub refresh_blamed : BlamesUnchanged kept s1 s2 (refreshing.ShowsDamage kept shows s1 set) e → IsBlamed kept s0 s2 (ShowsDamage kept shows s0 set) e
   refresh_blamed h = blamed kept s0 s2 (ShowsDamage kept shows s0 set) e (blames_back kept s0 s1 looks (refreshing.ShowsDamage kept shows s1 set) (ShowsDamage kept shows s0 set) weaker s2 e h)
     where
       weaker : (s : ℕ) (a : Area) (cause : DamageCause) → refreshing.ShowsDamage kept shows s1 set s a cause → ShowsDamage kept shows s0 set s a cause
@@ -126,7 +124,7 @@ module _ {K : Type 0} (kept : K → Kept) (shows : Area → DamageCause → Opti
       weaker s a cause (inr h) = inr (inr (inl (inr (ends_back kept s0 s1 looks shows set s a cause h))))
 
   -- for a block
-  pub block_blamed : Blames kept s1 s2 (blocking.ShowsDamage kept shows s1 set) e → IsBlamed kept s0 s2 (ShowsDamage kept shows s0 set) e
+  pub block_blamed : BlamesUnchanged kept s1 s2 (blocking.ShowsDamage kept shows s1 set) e → IsBlamed kept s0 s2 (ShowsDamage kept shows s0 set) e
   block_blamed h = blamed kept s0 s2 (ShowsDamage kept shows s0 set) e (blames_back kept s0 s1 looks (blocking.ShowsDamage kept shows s1 set) (ShowsDamage kept shows s0 set) weaker s2 e h)
     where
       weaker : (s : ℕ) (a : Area) (cause : DamageCause) → blocking.ShowsDamage kept shows s1 set s a cause → ShowsDamage kept shows s0 set s a cause

@@ -18,10 +18,9 @@ use Rattle.repl_model.specs.Units.{last_commit}
 use Rattle.repl_model.specs.World.{World, KnownSet}
 use Rattle.world_store.specs.TargetRows.{set_rows_refreshed, set_changes, count_op, is_insert, is_update, is_delete}
 use Rattle.site_store.specs.declared.sites.Sites.{Sites}
-use Rattle.site_store.specs.Calls.{Blames}
 use Rattle.set_places.specs.declared.placed_set.PlacedSet.{PlacedSet}
 use Rattle.set_places.specs.Reading.{ReadsOnly}
-use Rattle.set_places.specs.Steps.{HasBecome, MayHaveBecome}
+use Rattle.set_places.specs.Steps.{HasBecome, MayHaveBecome, BlamesUnchanged}
 use Rattle.site_store.specs.Damage.{Damages}
 use Rattle.subs_sets.specs.Rules as states
 use Rattle.subs_sets.specs.Rules.{state_rules}
@@ -32,14 +31,19 @@ use Rattle.prune_control.specs.Noting as noting
 use Rattle.apply_cycle.specs.Blocks as blocking
 use Rattle.apply_cycle.specs.Blocks.{is_read_in_block, ReadsAnswered}
 
--- what is answered of an action of a set whose source is the server with a number; a refusal isn't answered so
+-- what is answered of an action of a set whose source is the server with a number
+abbrev pub answer_of : World → KnownSet → ℕ → Action → Stepped
+answer_of w k source signals = steps.Signal source (length_signalled k)
+answer_of w k source refreshes = steps.Refresh (last_commit k.source.log) (set_rows_refreshed w k.at_target.def (last_commit k.source.log) (base_point k))
+answer_of w k source (blocks upto) = let changes = set_changes w k.at_target.def (synchpoint k.at_target.trail) upto in steps.Block (synchpoint k.at_target.trail) upto (count_op is_insert changes) (count_op is_update changes) (count_op is_delete changes)
+answer_of w k source reports = steps.Report (synchpoint k.at_target.trail)
+answer_of w k source idles = steps.Idle
+answer_of w k source (refuses place) = steps.Idle
+
+-- this was answered of an action; a refusal isn't answered so
 abbrev pub IsAnswer : World → KnownSet → ℕ → Action → Stepped → Type 0
-IsAnswer w k source signals stepped = stepped ≡ steps.Signal source (length_signalled k)
-IsAnswer w k source refreshes stepped = stepped ≡ steps.Refresh (last_commit k.source.log) (set_rows_refreshed w k.at_target.def (last_commit k.source.log) (base_point k))
-IsAnswer w k source (blocks upto) stepped = let changes = set_changes w k.at_target.def (synchpoint k.at_target.trail) upto in stepped ≡ steps.Block (synchpoint k.at_target.trail) upto (count_op is_insert changes) (count_op is_update changes) (count_op is_delete changes)
-IsAnswer w k source reports stepped = stepped ≡ steps.Report (synchpoint k.at_target.trail)
-IsAnswer w k source idles stepped = stepped ≡ steps.Idle
 IsAnswer w k source (refuses place) stepped = ⊥
+IsAnswer w k source a stepped = stepped ≡ answer_of w k source a
 
 -- why a step is refused: the log of the source has no room for the signal, or a refresh is called for and forbidden
 abbrev pub IsRefused : KnownSet → Refusal → Type 0
@@ -62,10 +66,10 @@ module _ {K : Type 0} (kept : K → Kept) (old new : Sites K) where
   ReadsInStep more (steps.Block from to inserts updates deletes) = ReadsOnly is_read_in_block kept old new × ReadsAnswered more kept old new (steps.Block from to inserts updates deletes)
   ReadsInStep more other = Unit {0}
 
-  -- somebody is to blame for a fault; a refusal blames nobody
+  -- somebody is to blame for a fault, and if it is damage, each server holds what it held; a refusal blames nobody
   abbrev pub IsBlamed : (ℕ → Area → DamageCause → Type 0) → Fault → Type 0
   IsBlamed damage (faults.Refused refusal) = Unit {0}
-  IsBlamed damage e = Blames kept old new damage e
+  IsBlamed damage e = BlamesUnchanged kept old new damage e
 
 -- what the target of a set was seen to have of the set's state, or the source of its mark, shows damage
 abbrev pub ShowsReportDamage : {K : Type 0} → (K → Kept) → Sites K → PlacedSet → ℕ → Area → DamageCause → Type 0

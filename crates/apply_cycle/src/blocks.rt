@@ -4,12 +4,12 @@ ghost use Rattle.std.specs.Prelude.{IsTrue, not, length, IfOk, IfErr};
 ghost use Rattle.repl_model.specs.AfterActions.{after_action};
 ghost use Rattle.repl_model.specs.NextActions.{blocks};
 ghost use Rattle.repl_model.specs.Rules.{is_replica_set};
-ghost use Rattle.site_store.specs.Calls.{KeepsServers, Blames};
+ghost use Rattle.site_store.specs.Calls.{KeepsServers};
 ghost use Rattle.site_store.specs.Servers.{AllClosed};
 ghost use Rattle.site_store.specs.Views.{work};
 ghost use Rattle.set_places.specs.Places.{IsPlaced, ForSet};
 ghost use Rattle.set_places.specs.Reading.{ReadsOnly};
-ghost use Rattle.set_places.specs.Steps.{MayHaveBecome};
+ghost use Rattle.set_places.specs.Steps.{MayHaveBecome, BlamesUnchanged};
 ghost use Rattle.apply_cycle.specs.Blocks.{IsBlockNext, HasBlocked, ShowsDamage};
 ghost use Rattle.apply_cycle.specs.Blocks.{is_read_in_block, ReadsAnswered};
 
@@ -44,7 +44,7 @@ pub fn block_step<K: Keeper, T: Targets<K>>(
     ensures fault { IfErr result (λ e. ForSet K.kept sites.old set.now (λ w k.
         IsBlockNext T.takes k upto
         → MayHaveBecome K.kept sites.old sites.new w (after_action w k (blocks upto)) e)) }
-    ensures blames { IfErr result (Blames K.kept sites.old sites.new
+    ensures blames { IfErr result (BlamesUnchanged K.kept sites.old sites.new
         (ShowsDamage K.kept T.shows sites.old set.now)) }
     ensures servers { KeepsServers K.kept sites.old sites.new }
     ensures reads { ReadsOnly is_read_in_block K.kept sites.old sites.new }

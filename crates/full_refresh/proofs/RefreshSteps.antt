@@ -7,15 +7,15 @@ use Rattle.faults.specs.declared.fault.Fault.{Fault}
 use Rattle.keep_core.specs.Contents.{Contents}
 use Rattle.keep_core.specs.Kept.{Kept}
 use Rattle.site_store.specs.declared.sites.Sites.{Sites}
-use Rattle.site_store.specs.Calls.{Blames}
 use Rattle.site_store.specs.Damage.{Shows, Damages}
-use Rattle.site_store.specs.laws.Damage.{blames_by}
 use Rattle.server_steps.specs.Calls.{Looks, Breaks}
-use Rattle.server_steps.specs.laws.Faults.{blames_after, stops_as, stops_after}
+use Rattle.server_steps.specs.laws.Faults.{stops_as, stops_after}
 use Rattle.server_steps.specs.laws.Reads.{looks_sees}
 use Rattle.source_log.specs.Rules.{all_rules}
 use Rattle.subs_sets.specs.Rules.{state_rules}
 use Rattle.set_places.specs.declared.placed_set.PlacedSet.{PlacedSet}
+use Rattle.set_places.specs.Steps.{BlamesUnchanged}
+use Rattle.set_places.specs.laws.Commits.{stops_unchanged, unchanged_after}
 use Rattle.target_steps.specs.Taking.{ShowsAtEnds}
 use Rattle.full_refresh.specs.Refreshes.{ShowsDamage}
 
@@ -24,16 +24,16 @@ module _ {K : Type 0} (kept : K → Kept) (shows : Area → DamageCause → Opti
 
   module _ (s0 s1 : Sites K) where
     -- if the end of the log wasn't read
-    pub end_blames : (e : Fault) → Breaks all_rules kept s0 s1 set.source e → Blames kept s0 s1 (ShowsDamage kept shows s0 set) e
-    end_blames e f = (stops_as kept s0 s1 (Damages (λ q. q ≡ set.source) all_rules kept s0) (ShowsDamage kept shows s0 set) e (λ s a cause h. inl (inl h)) f).blames
+    pub end_blames : (e : Fault) → Breaks all_rules kept s0 s1 set.source e → BlamesUnchanged kept s0 s1 (ShowsDamage kept shows s0 set) e
+    end_blames e f = stops_unchanged kept s0 s1 (ShowsDamage kept shows s0 set) e (stops_as kept s0 s1 (Damages (λ q. q ≡ set.source) all_rules kept s0) (ShowsDamage kept shows s0 set) e (λ s a cause h. inl (inl h)) f)
 
     module _ (looks : Looks kept s0 s1) (s2 : Sites K) (e : Fault) where
       -- or the state wasn't
-      pub state_blames : Breaks state_rules kept s1 s2 set.target e → Blames kept s0 s2 (ShowsDamage kept shows s0 set) e
-      state_blames f = (stops_after kept s0 s1 s2 looks.most (ShowsDamage kept shows s0 set) e looks.stays.passes looks.stays.held (stops_as kept s1 s2 (Damages (λ q. q ≡ set.target) state_rules kept s1) (ShowsDamage kept shows s0 set) e
-          (λ s a cause h. inl (inr (h.0, subst (Shows state_rules a cause) (looks_sees kept s0 s1 looks s) h.1))) f)).blames
+      pub state_blames : Breaks state_rules kept s1 s2 set.target e → BlamesUnchanged kept s0 s2 (ShowsDamage kept shows s0 set) e
+      state_blames f = stops_unchanged kept s0 s2 (ShowsDamage kept shows s0 set) e (stops_after kept s0 s1 s2 looks.most (ShowsDamage kept shows s0 set) e looks.stays.passes looks.stays.held (stops_as kept s1 s2 (Damages (λ q. q ≡ set.target) state_rules kept s1) (ShowsDamage kept shows s0 set) e
+          (λ s a cause h. inl (inr (h.0, subst (Shows state_rules a cause) (looks_sees kept s0 s1 looks s) h.1))) f))
 
       -- or the refresh wasn't put
-      pub put_blames : Blames kept s1 s2 (ShowsAtEnds kept shows s1 set) e → Blames kept s0 s2 (ShowsDamage kept shows s0 set) e
-      put_blames h = blames_after kept s0 s1 s2 looks.most (ShowsDamage kept shows s0 set) e looks.stays.passes (blames_by kept s1 s2 (ShowsAtEnds kept shows s1 set) (ShowsDamage kept shows s0 set) e h
-          (λ s a cause d. inr (d.0, subst (shows a cause) (looks_sees kept s0 s1 looks s) d.1)))
+      pub put_blames : BlamesUnchanged kept s1 s2 (ShowsAtEnds kept shows s1 set) e → BlamesUnchanged kept s0 s2 (ShowsDamage kept shows s0 set) e
+      put_blames h = unchanged_after kept s0 s1 s2 (ShowsAtEnds kept shows s1 set) (ShowsDamage kept shows s0 set) e looks
+          (λ s a cause d. inr (d.0, subst (shows a cause) (looks_sees kept s0 s1 looks s) d.1)) h

@@ -14,11 +14,10 @@ use Rattle.repl_model.specs.World.{Server, World, KnownSet}
 use Rattle.site_store.specs.declared.sites.Sites.{Sites}
 use Rattle.site_store.specs.Servers.{AllClosed}
 use Rattle.site_store.specs.Views.{names, held, work, sees}
-use Rattle.site_store.specs.Calls.{Blames}
 use Rattle.site_store.specs.Damage.{Rules, joined, Shows, Damages, IsUndamaged, IsNoDamage}
-use Rattle.site_store.specs.laws.Damage.{shown_first, shown_second, blames_by, no_damage}
+use Rattle.site_store.specs.laws.Damage.{shown_first, shown_second, no_damage}
 use Rattle.server_steps.specs.Calls.{Looks, Breaks}
-use Rattle.server_steps.specs.laws.Faults.{blames_after, stops_as, stops_after}
+use Rattle.server_steps.specs.laws.Faults.{stops_as, stops_after}
 use Rattle.server_steps.specs.laws.Reads.{looks_sees}
 use Rattle.stored_defs.specs.Known.{server_in}
 use Rattle.world_store.specs.LogRows.{head_of}
@@ -29,7 +28,8 @@ use Rattle.source_log.specs.Scanning.{IsSeenAs}
 use Rattle.source_log.specs.Units.{unit_records, table_rules, HasNoRoomFor, ShowsUnitDamage}
 use Rattle.set_places.specs.declared.placed_set.PlacedSet.{PlacedSet}
 use Rattle.set_places.specs.Places.{IsPlacedAs}
-use Rattle.set_places.specs.Steps.{HasStepped}
+use Rattle.set_places.specs.Steps.{BlamesUnchanged, HasStepped}
+use Rattle.set_places.specs.laws.Commits.{stops_unchanged, unchanged_after}
 use Rattle.target_steps.specs.laws.AtServers.{stepped_after, revealed, revealed_after}
 use Rattle.prune_control.specs.Noting.{mark_rules}
 use Rattle.prune_control.specs.laws.Marks.{marks_undamaged}
@@ -46,19 +46,19 @@ module _ {K : Type 0} (kept : K → Kept) (set : PlacedSet) where
 
   module _ (s0 s1 : Sites K) where
     -- if the mark wasn't read
-    pub mark_blames : (e : Fault) → Breaks mark_rules kept s0 s1 set.source e → Blames kept s0 s1 (ShowsDamage kept s0 set) e
-    mark_blames e f = (stops_as kept s0 s1 (Damages (λ s. s ≡ set.source) mark_rules kept s0) (ShowsDamage kept s0 set) e (λ s a cause h. (h.0, shown_second (log_rules set) mark_rules a cause (sees kept s0 s) h.1)) f).blames
+    pub mark_blames : (e : Fault) → Breaks mark_rules kept s0 s1 set.source e → BlamesUnchanged kept s0 s1 (ShowsDamage kept s0 set) e
+    mark_blames e f = stops_unchanged kept s0 s1 (ShowsDamage kept s0 set) e (stops_as kept s0 s1 (Damages (λ s. s ≡ set.source) mark_rules kept s0) (ShowsDamage kept s0 set) e (λ s a cause h. (h.0, shown_second (log_rules set) mark_rules a cause (sees kept s0 s) h.1)) f)
 
     module _ (looks : Looks kept s0 s1) (s2 : Sites K) where
       -- or the end of the log
-      pub end_blames : (e : Fault) → Breaks all_rules kept s1 s2 set.source e → Blames kept s0 s2 (ShowsDamage kept s0 set) e
-      end_blames e f = (stops_after kept s0 s1 s2 looks.most (ShowsDamage kept s0 set) e looks.stays.passes looks.stays.held (stops_as kept s1 s2 (Damages (λ s. s ≡ set.source) all_rules kept s1) (ShowsDamage kept s0 set) e
-          (λ s a cause h. (h.0, shown_first (log_rules set) mark_rules a cause (sees kept s0 s) (shown_first all_rules (table_rules (map start_of (source_tables set.at_source.def))) a cause (sees kept s0 s) (subst (Shows all_rules a cause) (looks_sees kept s0 s1 looks s) h.1)))) f)).blames
+      pub end_blames : (e : Fault) → Breaks all_rules kept s1 s2 set.source e → BlamesUnchanged kept s0 s2 (ShowsDamage kept s0 set) e
+      end_blames e f = stops_unchanged kept s0 s2 (ShowsDamage kept s0 set) e (stops_after kept s0 s1 s2 looks.most (ShowsDamage kept s0 set) e looks.stays.passes looks.stays.held (stops_as kept s1 s2 (Damages (λ s. s ≡ set.source) all_rules kept s1) (ShowsDamage kept s0 set) e
+          (λ s a cause h. (h.0, shown_first (log_rules set) mark_rules a cause (sees kept s0 s) (shown_first all_rules (table_rules (map start_of (source_tables set.at_source.def))) a cause (sees kept s0 s) (subst (Shows all_rules a cause) (looks_sees kept s0 s1 looks s) h.1)))) f))
 
       -- or the unit wasn't appended
-      pub unit_blames : (unit : LogUnit) (e : Fault) → unit.changes ≡ map start_of (source_tables set.at_source.def) → Blames kept s1 s2 (ShowsUnitDamage kept s1 set.source unit) e → Blames kept s0 s2 (ShowsDamage kept s0 set) e
-      unit_blames unit e made h = blames_after kept s0 s1 s2 looks.most (ShowsDamage kept s0 set) e looks.stays.passes (blames_by kept s1 s2 (ShowsUnitDamage kept s1 set.source unit) (ShowsDamage kept s0 set) e h
-          (λ s a cause d. (d.0, shown_first (log_rules set) mark_rules a cause (sees kept s0 s) (subst (λ (l : List Placed). Shows (joined all_rules (table_rules l)) a cause (sees kept s0 s)) made (subst (Shows (joined all_rules (table_rules unit.changes)) a cause) (looks_sees kept s0 s1 looks s) d.1)))))
+      pub unit_blames : (unit : LogUnit) (e : Fault) → unit.changes ≡ map start_of (source_tables set.at_source.def) → BlamesUnchanged kept s1 s2 (ShowsUnitDamage kept s1 set.source unit) e → BlamesUnchanged kept s0 s2 (ShowsDamage kept s0 set) e
+      unit_blames unit e made h = unchanged_after kept s0 s1 s2 (ShowsUnitDamage kept s1 set.source unit) (ShowsDamage kept s0 set) e looks
+          (λ s a cause d. (d.0, shown_first (log_rules set) mark_rules a cause (sees kept s0 s) (subst (λ (l : List Placed). Shows (joined all_rules (table_rules l)) a cause (sees kept s0 s)) made (subst (Shows (joined all_rules (table_rules unit.changes)) a cause) (looks_sees kept s0 s1 looks s) d.1)))) h
 
   -- ---- in a world
 

@@ -4,11 +4,11 @@ ghost use Rattle.std.specs.Prelude.{IsTrue, not, IfOk, IfErr};
 ghost use Rattle.repl_model.specs.AfterActions.{after_action};
 ghost use Rattle.repl_model.specs.NextActions.{refreshes};
 ghost use Rattle.repl_model.specs.Rules.{is_replica_set};
-ghost use Rattle.site_store.specs.Calls.{KeepsServers, Blames};
+ghost use Rattle.site_store.specs.Calls.{KeepsServers};
 ghost use Rattle.site_store.specs.Servers.{AllClosed};
 ghost use Rattle.site_store.specs.Views.{work};
 ghost use Rattle.set_places.specs.Places.{IsPlaced, ForSet};
-ghost use Rattle.set_places.specs.Steps.{MayHaveBecome};
+ghost use Rattle.set_places.specs.Steps.{MayHaveBecome, BlamesUnchanged};
 ghost use Rattle.full_refresh.specs.Refreshes.{IsRefreshNext, HasRefreshed, IsRefresh};
 ghost use Rattle.full_refresh.specs.Refreshes.{ShowsDamage};
 
@@ -44,7 +44,7 @@ pub fn refresh_step<K: Keeper, T: Targets<K>>(
     ensures fault { IfErr result (λ e. ForSet K.kept sites.old set.now (λ w k.
         IsRefreshNext T.takes k
         → MayHaveBecome K.kept sites.old sites.new w (after_action w k refreshes) e)) }
-    ensures blames { IfErr result (Blames K.kept sites.old sites.new
+    ensures blames { IfErr result (BlamesUnchanged K.kept sites.old sites.new
         (ShowsDamage K.kept T.shows sites.old set.now)) }
     ensures servers { KeepsServers K.kept sites.old sites.new }
 {

@@ -3,14 +3,14 @@
 ghost use Rattle.std.specs.Prelude.{◌<◌, length, OnErr, IfOk, IfErr};
 ghost use Rattle.repl_model.specs.AfterActions.{after_action};
 ghost use Rattle.repl_model.specs.NextActions.{signals};
-ghost use Rattle.site_store.specs.Calls.{KeepsServers, Blames};
+ghost use Rattle.site_store.specs.Calls.{KeepsServers};
 ghost use Rattle.site_store.specs.Damage.{IsNoDamage};
 ghost use Rattle.site_store.specs.Servers.{AllClosed};
 ghost use Rattle.site_store.specs.Views.{names, work, sees, IsOpenAt};
 ghost use Rattle.server_steps.specs.Calls.{GoesOn, Stops};
 ghost use Rattle.source_log.specs.Units.{MayAppendUnit, AppendsIfRoom, ShowsUnitDamage};
 ghost use Rattle.set_places.specs.Places.{IsPlaced, ForSet};
-ghost use Rattle.set_places.specs.Steps.{MayHaveBecome};
+ghost use Rattle.set_places.specs.Steps.{MayHaveBecome, BlamesUnchanged};
 ghost use Rattle.full_refresh.specs.Signals.{IsSignalNext, HasSignalled, ShowsDamage};
 ghost use Rattle.full_refresh.specs.PutSignals.{IfWhole, HasPutSignal, MayHavePutSignal};
 
@@ -102,7 +102,7 @@ pub fn signal_step<K: Keeper>(
         → HasSignalled K.kept sites.old sites.new w k seq)) }
     ensures fault { IfErr result (λ e. ForSet K.kept sites.old set.now (λ w k. IsSignalNext k
         → MayHaveBecome K.kept sites.old sites.new w (after_action w k signals) e)) }
-    ensures blames { IfErr result (Blames K.kept sites.old sites.new
+    ensures blames { IfErr result (BlamesUnchanged K.kept sites.old sites.new
         (ShowsDamage K.kept sites.old set.now)) }
     ensures servers { KeepsServers K.kept sites.old sites.new }
 {

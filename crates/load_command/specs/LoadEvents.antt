@@ -1,5 +1,5 @@
 -- What a run does with the text of a load, once its last line is read.
-use Rattle.std.specs.Prelude.{ℕ, Bool, ◌&&◌, ◌==◌, codes, if◌then◌else◌, List, [], ◌∷◌, ◌++◌, Option, Some, None, option_and_then, unwrap_or}
+use Rattle.std.specs.Prelude.{ℕ, Bool, codes, if◌then◌else◌, List, [], ◌∷◌, ◌++◌, Option, Some, None, option_and_then}
 use Rattle.std.specs.List.{list_all}
 use Rattle.std.specs.Option.{option_map_or}
 use Rattle.std.specs.Str.{bytes_eq, is_utf8}
@@ -35,10 +35,9 @@ raw_of text = if is_utf8 text then option_and_then stated_by (parse_document tex
 abbrev pub is_user_copy : RawMember → Bool
 is_user_copy member = bytes_eq member.kind (codes "user_copy")
 
--- a set is of a kind that is carried out: user copies, whose steps have no limits
+-- a set is of a kind that is carried out: user copies
 abbrev pub is_carried_out_set : RawSet → Bool
 is_carried_out_set set = list_all is_user_copy set.members
-    && unwrap_or set.commit_count 0 == 0 && unwrap_or set.max_minutes 0 == 0
 
 -- all sets of a text are
 abbrev pub has_carried_out_sets : RawDefs → Bool

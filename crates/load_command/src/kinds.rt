@@ -1,7 +1,6 @@
 //! Which texts are carried out.
 
 ghost use Rattle.std.specs.Prelude.{◌≡◌};
-ghost use Rattle.std.specs.List.{list_all};
 ghost use Rattle.load_command.specs.LoadEvents.{bad_text as bad_text_lem};
 ghost use Rattle.load_command.specs.LoadEvents.{is_user_copy as is_user_copy_lem};
 ghost use Rattle.load_command.specs.LoadEvents.{is_carried_out_set as is_carried_out_set_lem};
@@ -17,20 +16,14 @@ fn is_user_copy(member: &RawMember) -> bool
     member.kind.as_slice() == b"user_copy".as_slice()
 }
 
-/// Whether all members are user copies.
-fn are_user_copies(members: &[RawMember]) -> bool
-    ensures { result ≡ list_all is_user_copy_lem members.now }
-{
-    members.iter().all(|member| is_user_copy(member))
-}
-
-/// Whether a set is of a kind that is carried out: user copies, whose steps have no limits.
+/// Whether a set is of a kind that is carried out: user copies.
 fn is_carried_out_set(set: &RawSet) -> bool
     ensures { result ≡ is_carried_out_set_lem set.now }
 {
-    are_user_copies(set.members.as_slice())
-        && set.commit_count.unwrap_or(0) == 0
-        && set.max_minutes.unwrap_or(0) == 0
+    set.members
+        .as_slice()
+        .iter()
+        .all(|member| is_user_copy(member))
 }
 
 /// Whether all sets of a text are of such a kind.

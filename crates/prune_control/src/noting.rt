@@ -1,11 +1,12 @@
 //! The point that targets have reached is noted at their source.
 
 ghost use Rattle.std.specs.Prelude.{OnOk, IfErr};
-ghost use Rattle.site_store.specs.Calls.{KeepsServers, Blames};
+ghost use Rattle.site_store.specs.Calls.{KeepsServers};
 ghost use Rattle.site_store.specs.Servers.{AllClosed};
 ghost use Rattle.site_store.specs.Views.{work};
 ghost use Rattle.set_places.specs.Places.{IsPlacedAtSource, IsPlaced, ForSet};
-ghost use Rattle.set_places.specs.Steps.{HasBecome, MayHaveBecome, CommitsStep, MayCommitStep};
+ghost use Rattle.set_places.specs.Steps.{HasBecome, MayHaveBecome, BlamesUnchanged};
+ghost use Rattle.set_places.specs.Steps.{CommitsStep, MayCommitStep};
 ghost use Rattle.set_places.specs.Reading.{ReadsOnly};
 ghost use Rattle.repl_model.specs.AfterActions.{after_action};
 ghost use Rattle.repl_model.specs.NextActions.{reports};
@@ -67,7 +68,7 @@ pub fn note<K: Keeper>(
         → HasBecome K.kept sites.old sites.new (after_action w k reports))) }
     ensures fault { IfErr result (λ e. ForSet K.kept sites.old set.now (λ w k. IsReport k point
         → MayHaveBecome K.kept sites.old sites.new w (after_action w k reports) e)) }
-    ensures blames { IfErr result (Blames K.kept sites.old sites.new
+    ensures blames { IfErr result (BlamesUnchanged K.kept sites.old sites.new
         (ShowsDamage K.kept sites.old set.now.source)) }
     ensures servers { KeepsServers K.kept sites.old sites.new }
     ensures reads { ReadsOnly is_of_marks K.kept sites.old sites.new }

@@ -131,6 +131,10 @@ known_from world target side = option_and_then (λ source. option_map (λ at_sou
 unfoldable pub known_sets : World → List KnownSet
 known_sets world = flat_map (λ target. filter_map (known_from world target) target.target_sets) world
 
+-- the known set of a name, if there is one
+abbrev pub known_set : World → SetId → Option KnownSet
+known_set world id = find (λ k. same_set id k.at_target.def.id) (known_sets world)
+
 -- the code of a unit among codes by seqs, 0 if it has none
 abbrev pub code_in : List (ℕ × ℕ) → ℕ → ℕ
 code_in codes seq = option_map_or (λ c. c.1) (find (λ c. c.0 == seq) codes) 0

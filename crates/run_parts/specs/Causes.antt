@@ -7,6 +7,7 @@ use Rattle.keep_core.specs.Kept.{Kept}
 use Rattle.keep_core.specs.Revealed.{Rises}
 use Rattle.line_input.specs.Limits.{input_limit}
 use Rattle.repl_model.specs.World.{World}
+use Rattle.site_store.specs.Calls.{IsRead}
 use Rattle.site_store.specs.Views.{names, held, fault_counts}
 use Rattle.site_store.specs.declared.sites.Sites.{Sites}
 use Rattle.world_store.specs.Stands.{Stands}
@@ -25,11 +26,11 @@ BlamesStreams input in_before in_now out_before out_now statuses.InputTooLong = 
 BlamesStreams input in_before in_now out_before out_now statuses.OutputFault = Rises out_before out_now
 BlamesStreams input in_before in_now out_before out_now status = Unit {0}
 
--- A failed keeper has a count of faults that rose. What a damaged server holds at the end shows the damage, and the servers
--- stood for no world before.
+-- A failed keeper has a count of faults that rose. What a damaged server holds at the end shows the damage, unless that is a
+-- set which doesn't come to rest; and the servers stood for no world before.
 abbrev pub BlamesServers : {K : Type 0} → (K → Kept) → Sites K → Sites K → Status → Type 0
 BlamesServers kept old new (statuses.KeeperFault s) = Rises (slice_index_or (fault_counts kept old) s 0) (slice_index_or (fault_counts kept new) s 0)
-BlamesServers kept old new (statuses.Damaged s area cause) = ShowsDamage kept new s area cause × ((w : World) → ¬ (Stands (names old) (held kept old) w))
+BlamesServers kept old new (statuses.Damaged s area cause) = (IsRead cause → ShowsDamage kept new s area cause) × ((w : World) → ¬ (Stands (names old) (held kept old) w))
 BlamesServers kept old new status = Unit {0}
 
 -- What a status says of its cause.

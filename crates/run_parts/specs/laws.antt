@@ -2,4 +2,5 @@ pub mod Causes
 pub mod Damage
 pub mod Exits
 pub mod Lines
+pub mod Looking
 pub mod Parts

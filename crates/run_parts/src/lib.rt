@@ -2,9 +2,8 @@
 //! it ends the run early, and with which status.
 //!
 //! `specs/Parts.antt` has the words of the contract that all parts share, and `specs/Causes.antt`
-//! says who is to blame for an error. `refuse` writes the line of a refusal, and `reply`
-//! that of a reply. Parts compose by the
-//! laws in `specs/laws`. It stands on `run_core`, whose events say what happens in a run, and on
+//! says who is to blame for an error. `refuse` writes the line of a refusal, `refuse_set` that of the
+//! name of no set, and `reply` that of a reply. Parts compose by the laws in `specs/laws`. It stands on `run_core`, whose events say what happens in a run, and on
 //! `site_store` and `world_store`, which say for which world servers stand. The commands stand on
 //! it, each in a crate of its own, and `session_core`.
 //!
@@ -17,5 +16,5 @@ mod replies;
 mod run_error;
 
 pub use exit_status::{done_status, error_status};
-pub use replies::{refuse, reply};
+pub use replies::{refuse, refuse_set, reply};
 pub use run_error::{RunError, error_of_fault, error_of_reply};

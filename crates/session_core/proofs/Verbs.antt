@@ -4,6 +4,7 @@ use Rattle.std.specs.Prelude.{Option, Some, None, IsSome, IsTrue, slice_get, ◌
 use Rattle.std.specs.Str.{bytes_eq}
 use Rattle.std.proofs.lemmas.Option.{same_Some}
 use Rattle.std.proofs.lemmas.Slice.Eq.{bytes_eq-Decides}
+use Rattle.repl_types.specs.declared.record.SetId.{SetId}
 use Rattle.repl_commands.specs.declared.command.Command.{Command}
 use Rattle.repl_commands.specs.declared.command.Command.TheVariants.{Load, Feed, Capture, CaptureCold, Prune, PruneNormal, Step, Apply, Refresh, Stop, Generate, Rounds, Audit, StatusServer, StatusSet, ShowSource, ShowCd, ShowUow, ShowLog, ShowTarget, ShowTrail, ShowRejected}
 use Rattle.repl_model.specs.World.{World}
@@ -14,19 +15,24 @@ use Rattle.session_core.specs.Commands.{talk_of, is_carried_out_verb, takes_no_b
 
 -- each of these words is the first of a command that is carried out
 pub command_of_verb : (word : List ℕ) → IsTrue (is_carried_out_verb word) → (command : Command) × IsSome (talk_of command) × (slice_get (command_words command) 0 ≡ Some word)
-command_of_verb word is = by_verb (bytes_eq word (codes "load")) refl (bytes_eq word (codes "feed")) refl (bytes_eq word (codes "capture")) refl (bytes_eq word (codes "show")) refl (bytes_eq word (codes "status")) refl is
+command_of_verb word is = by_verb (bytes_eq word (codes "load")) refl (bytes_eq word (codes "feed")) refl (bytes_eq word (codes "capture")) refl (bytes_eq word (codes "step")) refl (bytes_eq word (codes "apply")) refl (bytes_eq word (codes "show")) refl (bytes_eq word (codes "status")) refl is
   where
+    no_set : SetId
+    no_set = record { qual = []; name = [] }
+
     is_it : (text : List ℕ) → bytes_eq word text ≡ true → ◌≡◌ {A = Option (List ℕ)} (Some text) (Some word)
     is_it text same = ap (λ (w : List ℕ). Some w) (sym ((bytes_eq-Decides word text).0 same))
 
-    by_verb : (l : Bool) → bytes_eq word (codes "load") ≡ l → (f : Bool) → bytes_eq word (codes "feed") ≡ f → (k : Bool) → bytes_eq word (codes "capture") ≡ k → (s : Bool) → bytes_eq word (codes "show") ≡ s → (t : Bool) → bytes_eq word (codes "status") ≡ t
-        → (l || (f || (k || (s || (t || false))))) ≡ true → (command : Command) × IsSome (talk_of command) × (slice_get (command_words command) 0 ≡ Some word)
-    by_verb true load f feed k capture s show t status e = (Load, refl, is_it (codes "load") load)
-    by_verb false load true feed k capture s show t status e = (Feed [], refl, is_it (codes "feed") feed)
-    by_verb false load false feed true capture s show t status e = (Capture [] None None, refl, is_it (codes "capture") capture)
-    by_verb false load false feed false capture true show t status e = (ShowLog [], refl, is_it (codes "show") show)
-    by_verb false load false feed false capture false show true status e = (StatusServer [], refl, is_it (codes "status") status)
-    by_verb false load false feed false capture false show false status e = absurd cc
+    by_verb : (l : Bool) → bytes_eq word (codes "load") ≡ l → (f : Bool) → bytes_eq word (codes "feed") ≡ f → (k : Bool) → bytes_eq word (codes "capture") ≡ k → (p : Bool) → bytes_eq word (codes "step") ≡ p → (a : Bool) → bytes_eq word (codes "apply") ≡ a → (s : Bool) → bytes_eq word (codes "show") ≡ s → (t : Bool) → bytes_eq word (codes "status") ≡ t
+        → (l || (f || (k || (p || (a || (s || (t || false))))))) ≡ true → (command : Command) × IsSome (talk_of command) × (slice_get (command_words command) 0 ≡ Some word)
+    by_verb true load_is f feed_is k capture_is p step_is a apply_is s show_is t status_is e = (Load, refl, is_it (codes "load") load_is)
+    by_verb false load_is true feed_is k capture_is p step_is a apply_is s show_is t status_is e = (Feed [], refl, is_it (codes "feed") feed_is)
+    by_verb false load_is false feed_is true capture_is p step_is a apply_is s show_is t status_is e = (Capture [] None None, refl, is_it (codes "capture") capture_is)
+    by_verb false load_is false feed_is false capture_is true step_is a apply_is s show_is t status_is e = (Step no_set, refl, is_it (codes "step") step_is)
+    by_verb false load_is false feed_is false capture_is false step_is true apply_is s show_is t status_is e = (Apply no_set, refl, is_it (codes "apply") apply_is)
+    by_verb false load_is false feed_is false capture_is false step_is false apply_is true show_is t status_is e = (ShowLog [], refl, is_it (codes "show") show_is)
+    by_verb false load_is false feed_is false capture_is false step_is false apply_is false show_is true status_is e = (StatusServer [], refl, is_it (codes "status") status_is)
+    by_verb false load_is false feed_is false capture_is false step_is false apply_is false show_is false status_is e = absurd cc
 
 -- and the first word of each such command is one of them
 pub verb_of_command : (word : List ℕ) (command : Command) → IsSome (talk_of command) → slice_get (command_words command) 0 ≡ Some word → IsTrue (is_carried_out_verb word)
@@ -36,48 +42,61 @@ verb_of_command word (Capture server units every) some is = subst (λ (w : List 
 verb_of_command word (CaptureCold server) some is = absurd cc
 verb_of_command word (Prune server minutes) some is = absurd cc
 verb_of_command word (PruneNormal server) some is = absurd cc
-verb_of_command word (Step set) some is = absurd cc
-verb_of_command word (Apply set) some is = absurd cc
+verb_of_command word (Step set) some is = subst (λ (w : List ℕ). IsTrue (is_carried_out_verb w)) (same_Some (codes "step") word is) refl
+verb_of_command word (Apply set) some is = subst (λ (w : List ℕ). IsTrue (is_carried_out_verb w)) (same_Some (codes "apply") word is) refl
 verb_of_command word (Refresh set) some is = absurd cc
 verb_of_command word (Stop server table) some is = absurd cc
 verb_of_command word (Generate server table seed units changes) some is = absurd cc
 verb_of_command word (Rounds qual) some is = absurd cc
 verb_of_command word (Audit set) some is = absurd cc
 verb_of_command word (StatusServer server) some is = subst (λ (w : List ℕ). IsTrue (is_carried_out_verb w)) (same_Some (codes "status") word is) refl
-verb_of_command word (StatusSet set) some is = absurd cc
+verb_of_command word (StatusSet set) some is = subst (λ (w : List ℕ). IsTrue (is_carried_out_verb w)) (same_Some (codes "status") word is) refl
 verb_of_command word (ShowSource server table) some is = subst (λ (w : List ℕ). IsTrue (is_carried_out_verb w)) (same_Some (codes "show") word is) refl
 verb_of_command word (ShowCd server table) some is = subst (λ (w : List ℕ). IsTrue (is_carried_out_verb w)) (same_Some (codes "show") word is) refl
 verb_of_command word (ShowUow server) some is = subst (λ (w : List ℕ). IsTrue (is_carried_out_verb w)) (same_Some (codes "show") word is) refl
 verb_of_command word (ShowLog server) some is = subst (λ (w : List ℕ). IsTrue (is_carried_out_verb w)) (same_Some (codes "show") word is) refl
-verb_of_command word (ShowTarget server table) some is = absurd cc
+verb_of_command word (ShowTarget server table) some is = subst (λ (w : List ℕ). IsTrue (is_carried_out_verb w)) (same_Some (codes "show") word is) refl
 verb_of_command word (ShowTrail server set) some is = absurd cc
 verb_of_command word (ShowRejected server set) some is = absurd cc
 
--- no other command without a body is carried out than `capture`, `status` of a server, and `show` of a source, of a log
--- or of what is captured
-pub not_carried_out : (command : Command) → takes_no_body command → ((server : List ℕ) (units every : Option ℕ) → command ≢ Capture server units every) → ((server : List ℕ) → command ≢ StatusServer server) → ((server table : List ℕ) → command ≢ ShowSource server table) → ((server table : List ℕ) → command ≢ ShowCd server table) → ((server : List ℕ) → command ≢ ShowUow server) → ((server : List ℕ) → command ≢ ShowLog server) → talk_of command ≡ None
-not_carried_out Load bodiless capture status source changes units log = absurd bodiless
-not_carried_out (Feed server) bodiless capture status source changes units log = absurd bodiless
-not_carried_out (Capture server most every) bodiless capture status source changes units log = absurd (capture server most every refl)
-not_carried_out (CaptureCold server) bodiless capture status source changes units log = refl
-not_carried_out (Prune server minutes) bodiless capture status source changes units log = refl
-not_carried_out (PruneNormal server) bodiless capture status source changes units log = refl
-not_carried_out (Step set) bodiless capture status source changes units log = refl
-not_carried_out (Apply set) bodiless capture status source changes units log = refl
-not_carried_out (Refresh set) bodiless capture status source changes units log = refl
-not_carried_out (Stop server table) bodiless capture status source changes units log = refl
-not_carried_out (Generate server table seed count each) bodiless capture status source changes units log = refl
-not_carried_out (Rounds qual) bodiless capture status source changes units log = refl
-not_carried_out (Audit set) bodiless capture status source changes units log = refl
-not_carried_out (StatusServer server) bodiless capture status source changes units log = absurd (status server refl)
-not_carried_out (StatusSet set) bodiless capture status source changes units log = refl
-not_carried_out (ShowSource server table) bodiless capture status source changes units log = absurd (source server table refl)
-not_carried_out (ShowCd server table) bodiless capture status source changes units log = absurd (changes server table refl)
-not_carried_out (ShowUow server) bodiless capture status source changes units log = absurd (units server refl)
-not_carried_out (ShowLog server) bodiless capture status source changes units log = absurd (log server refl)
-not_carried_out (ShowTarget server table) bodiless capture status source changes units log = refl
-not_carried_out (ShowTrail server set) bodiless capture status source changes units log = refl
-not_carried_out (ShowRejected server set) bodiless capture status source changes units log = refl
+-- The command isn't one of those without a body that are carried out: `capture`, a step or all steps of a set, `status`, and
+-- `show` of a source, of a log, of what is captured or of a target.
+pub record IsOther (command : Command) : Type 0 where
+  pub capture : (server : List ℕ) (units every : Option ℕ) → command ≢ Capture server units every
+  pub step : (set : SetId) → command ≢ Step set
+  pub apply : (set : SetId) → command ≢ Apply set
+  pub status : (server : List ℕ) → command ≢ StatusServer server
+  pub set_status : (set : SetId) → command ≢ StatusSet set
+  pub source : (server table : List ℕ) → command ≢ ShowSource server table
+  pub changes : (server table : List ℕ) → command ≢ ShowCd server table
+  pub units : (server : List ℕ) → command ≢ ShowUow server
+  pub log : (server : List ℕ) → command ≢ ShowLog server
+  pub target : (server table : List ℕ) → command ≢ ShowTarget server table
+
+-- then it isn't carried out
+pub not_carried_out : (command : Command) → takes_no_body command → IsOther command → talk_of command ≡ None
+not_carried_out Load bodiless other = absurd bodiless
+not_carried_out (Feed server) bodiless other = absurd bodiless
+not_carried_out (Capture server most every) bodiless other = absurd (other.capture server most every refl)
+not_carried_out (CaptureCold server) bodiless other = refl
+not_carried_out (Prune server minutes) bodiless other = refl
+not_carried_out (PruneNormal server) bodiless other = refl
+not_carried_out (Step set) bodiless other = absurd (other.step set refl)
+not_carried_out (Apply set) bodiless other = absurd (other.apply set refl)
+not_carried_out (Refresh set) bodiless other = refl
+not_carried_out (Stop server table) bodiless other = refl
+not_carried_out (Generate server table seed count each) bodiless other = refl
+not_carried_out (Rounds qual) bodiless other = refl
+not_carried_out (Audit set) bodiless other = refl
+not_carried_out (StatusServer server) bodiless other = absurd (other.status server refl)
+not_carried_out (StatusSet set) bodiless other = absurd (other.set_status set refl)
+not_carried_out (ShowSource server table) bodiless other = absurd (other.source server table refl)
+not_carried_out (ShowCd server table) bodiless other = absurd (other.changes server table refl)
+not_carried_out (ShowUow server) bodiless other = absurd (other.units server refl)
+not_carried_out (ShowLog server) bodiless other = absurd (other.log server refl)
+not_carried_out (ShowTarget server table) bodiless other = absurd (other.target server table refl)
+not_carried_out (ShowTrail server set) bodiless other = refl
+not_carried_out (ShowRejected server set) bodiless other = refl
 
 -- no other command takes a body than `load` and `feed`
 pub no_body : (command : Command) → command ≢ Load → ((server : List ℕ) → command ≢ Feed server) → takes_no_body command

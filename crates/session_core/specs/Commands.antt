@@ -12,41 +12,44 @@ use Rattle.run_core.specs.Runs.{Event}
 use Rattle.script_text.specs.Words.{first_word}
 use Rattle.script_text.specs.Asked.{Asked, asks, unknown, bad, asked_by}
 use Rattle.run_parts.specs.Refusing.{refused}
+use Rattle.apply_command.specs.StepEvents.{step_events, apply_events}
 use Rattle.capture_command.specs.CaptureEvents.{capture_events}
 use Rattle.feed_command.specs.FeedEvents.{begin_events}
 use Rattle.show_command.specs.ShowEvents.{source_events, log_events, changes_events, units_events}
 use Rattle.status_command.specs.StatusEvents.{status_events}
+use Rattle.target_command.specs.TargetEvents.{set_events, target_events}
 
 -- ---- which commands are carried out
 
--- what a run does at a command, None if the command isn't carried out yet; the text of a load is loaded at its end
-abbrev pub talk_of : Command → Option (World → List (Event World))
-talk_of Load = Some (λ w. [])
-talk_of (Feed server) = Some (begin_events server)
-talk_of (Capture server units every) = Some (capture_events server units every)
+-- what a run does at a command on a line with a number, None if the command isn't carried out yet; the text of a load is
+-- loaded at its end
+abbrev pub talk_of : Command → Option (ℕ → World → List (Event World))
+talk_of Load = Some (λ number w. [])
+talk_of (Feed server) = Some (λ number. begin_events server)
+talk_of (Capture server units every) = Some (λ number. capture_events server units every)
 talk_of (CaptureCold server) = None
 talk_of (Prune server minutes) = None
 talk_of (PruneNormal server) = None
-talk_of (Step set) = None
-talk_of (Apply set) = None
+talk_of (Step set) = Some (λ number. step_events number set)
+talk_of (Apply set) = Some (λ number. apply_events number set)
 talk_of (Refresh set) = None
 talk_of (Stop server table) = None
 talk_of (Generate server table seed units changes) = None
 talk_of (Rounds qual) = None
 talk_of (Audit set) = None
-talk_of (StatusServer server) = Some (status_events server)
-talk_of (StatusSet set) = None
-talk_of (ShowSource server table) = Some (source_events server table)
-talk_of (ShowCd server table) = Some (changes_events server table)
-talk_of (ShowUow server) = Some (units_events server)
-talk_of (ShowLog server) = Some (log_events server)
-talk_of (ShowTarget server table) = None
+talk_of (StatusServer server) = Some (λ number. status_events server)
+talk_of (StatusSet set) = Some (λ number. set_events number set)
+talk_of (ShowSource server table) = Some (λ number. source_events server table)
+talk_of (ShowCd server table) = Some (λ number. changes_events server table)
+talk_of (ShowUow server) = Some (λ number. units_events server)
+talk_of (ShowLog server) = Some (λ number. log_events server)
+talk_of (ShowTarget server table) = Some (λ number. target_events number server table)
 talk_of (ShowTrail server set) = None
 talk_of (ShowRejected server set) = None
 
 -- the first words of these commands, as `first_words_of_commands` shows
 abbrev pub carried_out_verbs : List (List ℕ)
-carried_out_verbs = codes "load" ∷ codes "feed" ∷ codes "capture" ∷ codes "show" ∷ codes "status" ∷ []
+carried_out_verbs = codes "load" ∷ codes "feed" ∷ codes "capture" ∷ codes "step" ∷ codes "apply" ∷ codes "show" ∷ codes "status" ∷ []
 
 -- a word is one of them
 abbrev pub is_carried_out_verb : List ℕ → Bool
@@ -66,7 +69,7 @@ takes_no_body other = Unit {0}
 
 -- at a command; one that isn't carried out is unknown
 abbrev pub command_events : ℕ → Command → World → List (Event World)
-command_events number command w = option_map_or (λ events. events w) (talk_of command) (refused (refusals.UnknownCommand number))
+command_events number command w = option_map_or (λ events. events number w) (talk_of command) (refused (refusals.UnknownCommand number))
 
 -- why a line that is of no command is refused: its first word is that of a command, so the line is bad; but as long as no
 -- form of that command is carried out, it is unknown

@@ -19,6 +19,7 @@ ghost use Rattle.run_parts.specs.Refusing.{refused as refused_lem};
 ghost use Rattle.feed_command.specs.FeedEvents.{begin_events, begun};
 
 use crate::bodies::{Answer, Bodies, fed, unfed};
+use apply_command::{apply_set, step_set};
 use capture_command::capture_server;
 use feed_command::begin_feed;
 use keep_core::{Keeper, Sink};
@@ -31,6 +32,7 @@ use site_store::Sites;
 use status_command::show_status;
 use std::alloc::Global;
 use std::str;
+use target_command::{show_set_status, show_target_rows};
 
 /// Whether the first word of a line is that of a command of which some form is carried out.
 fn begins_with_carried_out_verb(line: &[u8]) -> bool
@@ -41,6 +43,8 @@ fn begins_with_carried_out_verb(line: &[u8]) -> bool
             word == b"load".as_slice()
                 || word == b"feed".as_slice()
                 || word == b"capture".as_slice()
+                || word == b"step".as_slice()
+                || word == b"apply".as_slice()
                 || word == b"show".as_slice()
                 || word == b"status".as_slice()
         }
@@ -86,13 +90,19 @@ fn run_command<K: Keeper, O: Sink>(
             units,
             every,
         } => capture_server(alloc, sites, output, server, units, every),
+        Command::Step { set } => step_set(alloc, sites, output, number, &set),
+        Command::Apply { set } => apply_set(alloc, sites, output, number, &set),
         Command::StatusServer { server } => show_status(alloc, sites, output, server),
+        Command::StatusSet { set } => show_set_status(alloc, sites, output, number, &set),
         Command::ShowSource { server, table } => {
             show_source_rows(alloc, sites, output, server, table)
         }
         Command::ShowCd { server, table } => show_change_rows(alloc, sites, output, server, table),
         Command::ShowUow { server } => show_unit_rows(alloc, sites, output, server),
         Command::ShowLog { server } => show_log_records(alloc, sites, output, server),
+        Command::ShowTarget { server, table } => {
+            show_target_rows(alloc, sites, output, number, server, table)
+        }
         _ => refuse(alloc, output, &Refusal::UnknownCommand { line: number }),
     }
 }

@@ -3,8 +3,8 @@
 //!
 //! Below it are `run_words`, which reads the words, `script_lines` and `script_text`, which read the
 //! lines of a script, the commands, each in a crate of its own (`load_command`, `feed_command`,
-//! `capture_command`, `show_command`, `status_command`), `run_parts`, which has the contract that they
-//! share, and `copy_lists`, which carries out `copy`. `world_store` and `run_core` have the definitions
+//! `capture_command`, `apply_command`, `show_command`, `status_command`, `target_command`),
+//! `run_parts`, which has the contract that they share, and `copy_lists`, which carries out `copy`. `world_store` and `run_core` have the definitions
 //! that say what a run does to the servers. Above it, `sqlrep` calls `session` with the standard
 //! streams. The contract of `session` is what the program promises; `docs/MODEL.md` says its
 //! definitions in words.
@@ -56,15 +56,18 @@ use std::alloc::Global;
 ///
 /// A script is read to its end, line by line. At `load` the definitions of its body are loaded when
 /// the body ends, at the next line of a command or at the end of the input, and a line says how
-/// many were new; sets of other targets than user copies, or with limits of their steps, aren't
-/// taken yet. At `feed` of a server each body line is a record for the server's log. Records are
-/// appended together at the end of a transaction, once 1,000 wait, before a line is refused, and
-/// when the body ends, and then a line says how many there were. Once something is refused, the
-/// rest of the body is skipped. At `show` of a source table its committed rows are written, and at
-/// `show` of a log its records. At `status` of a server its lines are written, how far it is and its
-/// registrations and sets among them. For each line, each record and each load that is refused a
-/// line with the cause is written. No other command is carried out yet, so each is refused as
-/// unknown.
+/// many were new; sets of other targets than user copies aren't taken yet. At `feed` of a server
+/// each body line is a record for the server's log. Records are appended together at the end of a
+/// transaction, once 1,000 wait, before a line is refused, and when the body ends, and then a line
+/// says how many there were. Once something is refused, the rest of the body is skipped. At
+/// `capture` of a server its log is captured. At `step` of a set its next action is made in one
+/// commit, and its line is written; at `apply` one after another, until there is nothing to do or
+/// one is refused. At `show` of a source table its committed rows are written, at `show` of a log
+/// its records, at `show` of what is captured its change rows or its units, and at `show` of a
+/// target its rows. At `status` of a server its lines are written, how far it is and its
+/// registrations and sets among them, and at `status` of a set how far that is. For each line, each
+/// record and each load that is refused a line with the cause is written. No other command is
+/// carried out yet, so each is refused as unknown.
 ///
 /// At `Ok` and `Refused` the whole input was read, and all that the run does happened. At `Usage`
 /// nothing was read or written. At any other status some of it happened, from its beginning on, and

@@ -4,6 +4,8 @@
 #![tactic(auto)]
 
 #[cfg(test)]
+mod applies;
+#[cfg(test)]
 mod captures;
 #[cfg(test)]
 mod feeds;

@@ -1,12 +1,10 @@
 //! A script that loads definitions at three servers, and what is left there if a call of one of
 //! their keepers fails.
 
-use crate::runs::{CALLS, source_of, words_of};
-use keep_core::Keeper;
+use crate::runs::{CALLS, Failure, NONE, new_servers, run_at, with_failure};
 use keep_map::{BytesSink, MapKeeper};
-use repl_types::{List, Name, Status};
-use session_core::session;
-use site_store::{Site, Sites};
+use repl_types::Status;
+use site_store::Sites;
 use std::alloc::{AllocError, Global};
 use std::process::Abort;
 use std::test::Fail;
@@ -111,54 +109,12 @@ fn after_loads(output: &[u8]) -> &[u8] {
     &output[ALL_NEW.len()..]
 }
 
-/// A server with this keeper, of which no transaction is open.
-fn server_with(alloc: Global, name: &str, mut keeper: MapKeeper) -> Result<Site<MapKeeper>, Fail> {
-    let name = Name::new(alloc, name)?;
-    keeper.rollback();
-    Ok(Site::open_site(name, keeper))
-}
-
-/// Three servers that hold nothing. At one of them the call of this number fails, from 1 on; if it
-/// is a commit, it may take place nevertheless.
-fn new_servers(
-    alloc: Global,
-    server: u32,
-    call: u64,
-    takes_place: bool,
-) -> Result<Sites<MapKeeper>, Fail> {
-    let mut list = List::new(alloc);
-    for (place, name) in NAMES.into_iter().enumerate() {
-        let mut keeper = MapKeeper::new(alloc);
-        if place == server as usize {
-            keeper.fail_at(List::from_vec(vec![in alloc; call]?));
-            keeper.doubt_new(takes_place);
-        }
-        list.push(server_with(alloc, name, keeper)?)?;
-    }
-    Ok(Sites::new(list)?)
-}
-
-/// The servers with the same keepers, of which no call fails any more.
-fn mended(alloc: Global, sites: Sites<MapKeeper>) -> Result<Sites<MapKeeper>, Fail> {
-    let mut list = List::new(alloc);
-    for (name, site) in NAMES.into_iter().zip(sites.into_list().into_vec()) {
-        let mut keeper = site.into_keeper();
-        keeper.fail_at(List::new(alloc));
-        list.push(server_with(alloc, name, keeper)?)?;
-    }
-    Ok(Sites::new(list)?)
-}
-
 /// Runs the script.
 fn run_loads(
     alloc: Global,
     sites: &mut Sites<MapKeeper>,
-    output: &mut BytesSink,
-) -> Result<Status, AllocError> {
-    let words = words_of(alloc, "hq=:map: shop=:map: branch=:map:")?;
-    let mut input = source_of(alloc, SCRIPT)?;
-    sites.rollback_all();
-    Ok(session(alloc, words.as_slice(), sites, &mut input, output))
+) -> Result<(BytesSink, Status), AllocError> {
+    run_at(alloc, "hq=:map: shop=:map: branch=:map:", sites, SCRIPT)
 }
 
 /// Lets a call of a server fail, and answers the servers that the run leaves, or `None` if it ended
@@ -166,13 +122,11 @@ fn run_loads(
 fn servers_after(
     rt: &impl Abort,
     alloc: Global,
-    server: u32,
-    call: u64,
-    takes_place: bool,
+    failure: Failure,
 ) -> Result<Option<Sites<MapKeeper>>, Fail> {
-    let mut sites = new_servers(alloc, server, call, takes_place)?;
-    let mut output = BytesSink::new(alloc);
-    let status = run_loads(alloc, &mut sites, &mut output)?;
+    let Failure { server, call, .. } = failure;
+    let mut sites = new_servers(alloc, &NAMES, failure)?;
+    let (output, status) = run_loads(alloc, &mut sites)?;
     let whole = with_statuses(alloc, ALL_NEW)?;
     if status == Status::Ok {
         assert_eq!(rt; output.bytes(), whole.as_slice());
@@ -195,12 +149,12 @@ fn check_next_runs(
     alloc: Global,
     mut sites: Sites<MapKeeper>,
 ) -> Result<(), Fail> {
-    let mut output = BytesSink::new(alloc);
-    assert_eq!(rt; run_loads(alloc, &mut sites, &mut output)?, Status::Ok);
+    let (output, status) = run_loads(alloc, &mut sites)?;
+    assert_eq!(rt; status, Status::Ok);
     assert_eq!(rt; after_loads(output.bytes()), STATUSES);
 
-    let mut output = BytesSink::new(alloc);
-    assert_eq!(rt; run_loads(alloc, &mut sites, &mut output)?, Status::Ok);
+    let (output, status) = run_loads(alloc, &mut sites)?;
+    assert_eq!(rt; status, Status::Ok);
     assert_eq!(rt; output.bytes(), with_statuses(alloc, NONE_NEW)?.as_slice());
     Ok(())
 }
@@ -214,8 +168,13 @@ fn failing_calls(
     takes_place: bool,
 ) -> Result<u64, Fail> {
     for calls in 0..CALLS {
-        match servers_after(rt, alloc, server, calls + 1, takes_place)? {
-            Some(sites) => check_next_runs(rt, alloc, mended(alloc, sites)?)?,
+        let failure = Failure {
+            server,
+            call: calls + 1,
+            takes_place,
+        };
+        match servers_after(rt, alloc, failure)? {
+            Some(sites) => check_next_runs(rt, alloc, with_failure(alloc, &NAMES, sites, NONE)?)?,
             None => return Ok(calls),
         }
     }
@@ -227,10 +186,10 @@ fn two_loads_show_in_the_statuses_and_the_same_loads_add_nothing(
     rt: HostRuntime,
 ) -> Result<(), Fail> {
     let alloc = rt.alloc();
-    let mut sites = new_servers(alloc, 0, 0, false)?;
+    let mut sites = new_servers(alloc, &NAMES, NONE)?;
     for loads in [ALL_NEW, NONE_NEW] {
-        let mut output = BytesSink::new(alloc);
-        assert_eq!(rt; run_loads(alloc, &mut sites, &mut output)?, Status::Ok);
+        let (output, status) = run_loads(alloc, &mut sites)?;
+        assert_eq!(rt; status, Status::Ok);
         assert_eq!(rt; output.bytes(), with_statuses(alloc, loads)?.as_slice());
     }
     Ok(())

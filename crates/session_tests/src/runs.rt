@@ -10,7 +10,7 @@ use std::process::Abort;
 use std::test::Fail;
 
 /// The words of a line.
-pub fn words_of(alloc: Global, line: &str) -> Result<Vec<String>, AllocError> {
+fn words_of(alloc: Global, line: &str) -> Result<Vec<String>, AllocError> {
     let mut words = Vec::new(alloc);
     for word in line.split_ascii_whitespace() {
         words.push(String::from_str(alloc, word)?)?;
@@ -19,18 +19,87 @@ pub fn words_of(alloc: Global, line: &str) -> Result<Vec<String>, AllocError> {
 }
 
 /// An input of these bytes.
-pub fn source_of(alloc: Global, bytes: &[u8]) -> Result<BytesSource, AllocError> {
+fn source_of(alloc: Global, bytes: &[u8]) -> Result<BytesSource, AllocError> {
     Ok(BytesSource::new(List::from_vec(Vec::from_slice(alloc, bytes)?)))
 }
 
 /// More calls than a run makes at one server.
 pub const CALLS: u64 = 1_000;
 
-/// The server hq with this keeper, of which no transaction is open.
-pub fn server_hq(alloc: Global, mut keeper: MapKeeper) -> Result<Sites<MapKeeper>, Fail> {
+/// A call of the keeper of a server that fails, counted from 1; if it is a commit, it may take place
+/// nevertheless. 0 is the number of none.
+#[derive(Clone, Copy, Debug)]
+pub struct Failure {
+    pub server: u32,
+    pub call: u64,
+    pub takes_place: bool,
+}
+
+/// No call fails.
+pub const NONE: Failure = Failure {
+    server: 0,
+    call: 0,
+    takes_place: false,
+};
+
+/// A server with this keeper, of which no transaction is open and no call fails.
+fn server_with(alloc: Global, name: &str, mut keeper: MapKeeper) -> Result<Site<MapKeeper>, Fail> {
+    let name = Name::new(alloc, name)?;
     keeper.rollback();
+    Ok(Site::open_site(name, keeper))
+}
+
+/// The keeper at a place among the servers, of which only the call fails that is one of that server.
+fn failing_keeper(
+    alloc: Global,
+    mut keeper: MapKeeper,
+    place: usize,
+    failure: Failure,
+) -> Result<MapKeeper, AllocError> {
+    let call = if place == failure.server as usize {
+        failure.call
+    } else {
+        0
+    };
+    keeper.fail_at(List::from_vec(vec![in alloc; call]?));
+    keeper.doubt_new(failure.takes_place);
+    Ok(keeper)
+}
+
+/// Servers of these names, which hold nothing, with this failure.
+pub fn new_servers(
+    alloc: Global,
+    names: &[&str],
+    failure: Failure,
+) -> Result<Sites<MapKeeper>, Fail> {
     let mut list = List::new(alloc);
-    list.push(Site::open_site(Name::new(alloc, "hq")?, keeper))?;
+    for (place, name) in names.iter().enumerate() {
+        let keeper = failing_keeper(alloc, MapKeeper::new(alloc), place, failure)?;
+        list.push(server_with(alloc, name, keeper)?)?;
+    }
+    Ok(Sites::new(list)?)
+}
+
+/// The servers of these names with the same keepers, with this failure from now on.
+pub fn with_failure(
+    alloc: Global,
+    names: &[&str],
+    sites: Sites<MapKeeper>,
+    failure: Failure,
+) -> Result<Sites<MapKeeper>, Fail> {
+    let mut list = List::new(alloc);
+    let sites = sites.into_list().into_vec();
+    for (place, (name, site)) in names.iter().zip(sites).enumerate() {
+        let keeper = failing_keeper(alloc, site.into_keeper(), place, failure)?;
+        list.push(server_with(alloc, name, keeper)?)?;
+    }
+    Ok(Sites::new(list)?)
+}
+
+/// The server hq with this keeper, of which no transaction is open.
+pub fn server_hq(alloc: Global, keeper: MapKeeper) -> Result<Sites<MapKeeper>, Fail> {
+    let mut list = List::new(alloc);
+    list.push(server_with(alloc, "hq", keeper)?)?;
     Ok(Sites::new(list)?)
 }
 
@@ -39,7 +108,7 @@ pub fn empty_server(alloc: Global) -> Result<Sites<MapKeeper>, Fail> {
     server_hq(alloc, MapKeeper::new(alloc))
 }
 
-/// The server with the same keeper, of which the call of this number fails from now on; 0 is the
+/// The server hq with the same keeper, of which the call of this number fails from now on; 0 is the
 /// number of none.
 pub fn failing_at(
     alloc: Global,
@@ -47,24 +116,22 @@ pub fn failing_at(
     call: u64,
     takes_place: bool,
 ) -> Result<Sites<MapKeeper>, Fail> {
-    let mut list = List::new(alloc);
-    for site in sites.into_list().into_vec() {
-        let mut keeper = site.into_keeper();
-        keeper.fail_at(List::from_vec(vec![in alloc; call]?));
-        keeper.doubt_new(takes_place);
-        keeper.rollback();
-        list.push(Site::open_site(Name::new(alloc, "hq")?, keeper))?;
-    }
-    Ok(Sites::new(list)?)
+    let failure = Failure {
+        server: 0,
+        call,
+        takes_place,
+    };
+    with_failure(alloc, &["hq"], sites, failure)
 }
 
-/// Runs a script, and answers what it wrote and its status.
-pub fn run(
+/// Runs a script at the servers that these words name, and answers what it wrote and its status.
+pub fn run_at(
     alloc: Global,
+    servers: &str,
     sites: &mut Sites<MapKeeper>,
     script: &[u8],
 ) -> Result<(BytesSink, Status), AllocError> {
-    let words = words_of(alloc, "hq=:map:")?;
+    let words = words_of(alloc, servers)?;
     let mut input = source_of(alloc, script)?;
     let mut output = BytesSink::new(alloc);
     sites.rollback_all();
@@ -72,7 +139,16 @@ pub fn run(
     Ok((output, status))
 }
 
-/// Runs a script that ends in Ok and writes this.
+/// Runs a script at hq, and answers what it wrote and its status.
+pub fn run(
+    alloc: Global,
+    sites: &mut Sites<MapKeeper>,
+    script: &[u8],
+) -> Result<(BytesSink, Status), AllocError> {
+    run_at(alloc, "hq=:map:", sites, script)
+}
+
+/// Runs a script at hq that ends in Ok and writes this.
 pub fn check(
     rt: &impl Abort,
     alloc: Global,

@@ -15,7 +15,7 @@ use Rattle.repl_definitions.specs.declared.set.SetDef.{SetDef}
 use Rattle.repl_definitions.specs.declared.set.TargetSet.{TargetSet}
 use Rattle.repl_model.specs.Sound.{IsSound, empty_server}
 use Rattle.repl_model.specs.SoundDefinitions.{ServerKeepsRules, KnownSetKeepsRules}
-use Rattle.repl_model.specs.World.{SourceSide, TargetSide, Server, World, KnownSet, same_set, server_named, source_side, target_side, known_from, known_sets}
+use Rattle.repl_model.specs.World.{SourceSide, TargetSide, Server, World, KnownSet, same_set, server_named, source_side, target_side, known_from, known_sets, known_set}
 use Rattle.site_store.specs.declared.sites.Sites.{Sites}
 use Rattle.site_store.specs.Records.{RowIs}
 use Rattle.site_store.specs.Servers.{AllClosed}
@@ -31,7 +31,7 @@ use Rattle.stored_defs.specs.laws.Passing.{if_seen}
 use Rattle.stored_defs.specs.laws.Standing.{same_count, keeps_at, stands_on}
 use Rattle.set_places.specs.declared.placed_set.PlacedSet.{PlacedSet}
 use Rattle.set_places.specs.Finding.{IsFoundIn, IsFoundFrom, IsKnownAt}
-use Rattle.set_places.specs.Places.{HasTargetRow, IsPlacedAtTarget, IsPlaced, IsPlacedAs, IsKnownAs, known_set}
+use Rattle.set_places.specs.Places.{HasTargetRow, IsPlacedAtTarget, IsPlaced, IsPlacedAs, IsKnownAs}
 use Rattle.set_places.specs.laws.Staying.{placed_at_target_stays, placed_stays}
 use Rattle.set_places.specs.laws.SetRows.{found_by_name, none_by_name, target_row_is, no_target_row}
 use Rattle.set_places.proofs.FoundSources.{stands_there, target_read}

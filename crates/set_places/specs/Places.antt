@@ -1,5 +1,5 @@
 -- Where a set stands, at servers and in a world.
-use Rattle.std.specs.Prelude.{◌≡◌, ◌≢◌, ℕ, ◌<◌, List, Option, Some, None, IfSome, IsTrue, not, length, find, slice_get}
+use Rattle.std.specs.Prelude.{◌≡◌, ◌≢◌, ℕ, ◌<◌, List, Option, Some, None, IfSome, IsTrue, not, length, slice_get}
 use Rattle.repl_types.specs.declared.area.Area.TheVariants as areas
 use Rattle.repl_types.specs.declared.record.SetId.{SetId}
 use Rattle.keep_core.specs.Contents.{Contents}
@@ -7,7 +7,7 @@ use Rattle.keep_core.specs.Kept.{Kept}
 use Rattle.repl_definitions.specs.Sets.{source_set_spelling, IsSourceSet, target_set_spelling, IsTargetSet}
 use Rattle.repl_definitions.specs.declared.set.SourceSet.{SourceSet}
 use Rattle.repl_definitions.specs.declared.set.TargetSet.{TargetSet}
-use Rattle.repl_model.specs.World.{World, KnownSet, same_set, known_sets}
+use Rattle.repl_model.specs.World.{World, KnownSet, known_sets, known_set}
 use Rattle.repl_model.specs.Rules.{is_replica_set}
 use Rattle.site_store.specs.declared.sites.Sites.{Sites}
 use Rattle.site_store.specs.Views.{names, held, sees}
@@ -44,10 +44,6 @@ pub record IsPlaced {K : Type 0} (kept : K → Kept) (sites : Sites K) (set : Pl
   pub apart : set.source ≢ set.target
 
 -- ---- in a world
-
--- the known set of this name, if there is one
-abbrev pub known_set : World → SetId → Option KnownSet
-known_set w id = find (λ k. same_set id k.at_target.def.id) (known_sets w)
 
 -- A known set of a world stands at these places, with these rows.
 pub record IsPlacedAs (w : World) (k : KnownSet) (set : PlacedSet) : Type 0 where

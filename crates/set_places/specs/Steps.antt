@@ -29,6 +29,10 @@ module _ {K : Type 0} (kept : K → Kept) (old new : Sites K) where
 
   -- ---- at the servers
 
+  -- who is to blame for a call of one commit that failed; if damage was found, each server holds what it held
+  abbrev pub BlamesUnchanged : (ℕ → Area → DamageCause → Type 0) → Fault → Type 0
+  BlamesUnchanged damage e = Blames kept old new (λ s a cause. damage s a cause × (held kept new ≡ held kept old)) e
+
   module _ (server : ℕ) (step : Contents → Contents → Type 0) where
     -- if one server reveals what it held, it holds what came of that by this step, and the others hold what they held
     abbrev pub HasStepped : Type 0
@@ -42,10 +46,10 @@ module _ {K : Type 0} (kept : K → Kept) (old new : Sites K) where
       pub closed : AllClosed (work kept new)
 
     -- This failed: each server holds what it held, or the commit took place. No transaction is open, and somebody is to
-    -- blame.
+    -- blame; where damage was found, nothing took place.
     pub record MayCommitStep (damage : ℕ → Area → DamageCause → Type 0) (e : Fault) : Type 0 where
       pub most : Bounds
       pub passes : Passes kept old new most
       pub stepped : (held kept new ≡ held kept old) ⊎ HasStepped
       pub closed : AllClosed (work kept new)
-      pub blames : Blames kept old new damage e
+      pub blames : BlamesUnchanged damage e

@@ -28,7 +28,7 @@ use Rattle.stored_defs.specs.Reading.{RowFits}
 use Rattle.stored_defs.specs.laws.Lists.{all_map}
 use Rattle.show_source.specs.Replies.{captured_changes, change_text, stored_change_line}
 use Rattle.show_source.specs.Records.{AreShown, rows_text}
-use Rattle.show_source.proofs.Pieces.{text_shown}
+use Rattle.show_source.specs.laws.Texts.{text_shown}
 use Rattle.show_source.proofs.CapturedUnits.{between_few}
 use Rattle.show_source.proofs.FewRows.{flat_map_few, units_small}
 use Rattle.capture_rows.specs.StoredChanges.{stored_change}

@@ -22,7 +22,7 @@ use Rattle.show_source.specs.Replies.{captured_units, stored_unit_line, unit_tex
 use Rattle.show_source.specs.Records.{AreShown, rows_text}
 use Rattle.show_source.proofs.FewRows.{filter_few, units_few}
 use Rattle.show_source.proofs.LogRecords.{in_order}
-use Rattle.show_source.proofs.Pieces.{text_shown}
+use Rattle.show_source.specs.laws.Texts.{text_shown}
 use Rattle.cd_tables.specs.laws.InOrder.{Below, rows_rise}
 use Rattle.cd_tables.specs.laws.SoundUnits.{UnitFits, seq_of, between_fit, between_rise}
 

@@ -1,11 +1,8 @@
 -- What a sink took of a text, piece by piece.
-use Rattle.std.proofs.Common.{◌≡◌, ℕ, List, [], ◌∷◌, ◌++◌, map, length, Option, append_assoc, append-nil, refl, sym, ap, ◌∙◌}
+use Rattle.std.proofs.Common.{◌≡◌, ℕ, List, [], ◌∷◌, ◌++◌, Option, append_assoc, append-nil, refl, sym, ap, ◌∙◌}
 use Rattle.std.specs.List.{flat_map}
-use Rattle.std.proofs.lemmas.List.{length-map}
 use Rattle.keep_core.specs.Revealed.{Takes, TakesPrefix}
 use Rattle.keep_core.specs.laws.Revealed.{takes_nothing, takes_both}
-use Rattle.show_source.specs.Replies.{count_line}
-use Rattle.show_source.specs.Records.{row_lines, rows_text}
 
 -- what was taken is a prefix of what was to be taken
 pub prefix_taken : (before now : Option (List ℕ)) (text first rest : List ℕ) → text ≡ first ++ rest → Takes before now first → TakesPrefix before now text
@@ -32,15 +29,3 @@ given_by_both f (x ∷ xs) ys = ap (λ (l : List ℕ). f x ++ l) (given_by_both 
 -- what one gives
 pub given_by_one : {X : Type 0} (f : X → List ℕ) (x : X) → flat_map f (x ∷ []) ≡ f x
 given_by_one f x = append-nil (f x)
-
--- ---- the text of rows
-
-module _ {A X E : Type 0} (line : A → X → List ℕ) (row : E → A × X) where
-  -- the lines of the rows of elements, and a last line
-  lines_shown : (es : List E) (last : List ℕ) → row_lines line (map row es) ++ last ≡ flat_map (λ l. l) (map (λ (e : E). line (row e).0 (row e).1) es ++ last ∷ [])
-  lines_shown [] last = sym (append-nil last)
-  lines_shown (e ∷ es) last = append_assoc (line (row e).0 (row e).1) (row_lines line (map row es)) last ∙ ap (λ (l : List ℕ). line (row e).0 (row e).1 ++ l) (lines_shown es last)
-
-  -- the text of these rows is those lines and that of their count
-  pub text_shown : (es : List E) → rows_text line (map row es) ≡ flat_map (λ l. l) (map (λ (e : E). line (row e).0 (row e).1) es ++ count_line (length es) ∷ [])
-  text_shown es = ap (λ (n : ℕ). row_lines line (map row es) ++ count_line n) (length-map es row) ∙ lines_shown es (count_line (length es))

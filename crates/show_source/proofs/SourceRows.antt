@@ -32,7 +32,7 @@ use Rattle.stored_defs.specs.laws.Lists.{all_map, both_true}
 use Rattle.show_source.specs.Replies.{committed_rows, source_text}
 use Rattle.show_source.specs.Records.{AreShown, rows_text}
 use Rattle.show_source.proofs.FewRows.{source_few}
-use Rattle.show_source.proofs.Pieces.{text_shown}
+use Rattle.show_source.specs.laws.Texts.{text_shown}
 
 -- ---- keys in order
 

@@ -4,7 +4,7 @@ ghost use Rattle.std.specs.Prelude.{◌≡◌, ◌++◌, ℕ, List, OnOk};
 ghost use Rattle.reply_text.specs.Rows.{row_line, log_line};
 ghost use Rattle.show_source.specs.Replies.{stored_change_line, stored_unit_line};
 
-use repl_records::{CdKey, ChangeRow, SourceRow, UowRow};
+use repl_records::{CdKey, ChangeRow, CopyRow, SourceRow, UowRow};
 use repl_types::{CdRow, List, LogRecord, UnitHead, Value};
 use reply_text::{write_change_row, write_log_row, write_row, write_unit_row};
 use row_codec::Stored;
@@ -23,6 +23,14 @@ pub trait ShownRecord: Stored {
 
 impl ShownRecord for SourceRow {
     ghost line = { λ _ source. row_line source.row };
+
+    fn write_shown(self, _: &List<Value>, out: &mut Vec<u8>) -> Result<(), AllocError> {
+        write_row(&self.row, out)
+    }
+}
+
+impl ShownRecord for CopyRow {
+    ghost line = { λ _ copy. row_line copy.row };
 
     fn write_shown(self, _: &List<Value>, out: &mut Vec<u8>) -> Result<(), AllocError> {
         write_row(&self.row, out)

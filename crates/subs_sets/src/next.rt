@@ -18,6 +18,7 @@ ghost use Rattle.subs_sets.specs.Actions.{action_of, once_refreshed};
 ghost use Rattle.subs_sets.specs.Rules.{is_read, source_rules, ShowsDamage};
 
 use crate::action::Action;
+use crate::captured::FIRST_CAPTURE;
 use crate::cuts::block_end;
 use crate::gaps::find_gap;
 use crate::states::read_only_state;
@@ -29,13 +30,6 @@ use row_codec::Table0;
 use set_places::PlacedSet;
 use site_store::Sites;
 use std::alloc::Global;
-
-/// What a missing state of capture stands for.
-const FIRST_CAPTURE: CaptureState = CaptureState {
-    captured: 0,
-    restart: 1,
-    floor: 0,
-};
 
 /// A refresh is two actions: a signal, unless there was one after the last refresh, and then the
 /// refresh.

@@ -145,6 +145,8 @@ fn entry_after(step: Step, def: &SetDef, counts: Counts) -> TrailEntry
 
 /// Takes the targets of a set through a step to a point at a time in seconds, puts the set's
 /// state and the next entry of its trail, and commits all. It answers what was counted.
+///
+/// After a fault nothing is changed; but if the commit failed, it may have taken place.
 pub fn put_step<K: Keeper, T: Targets<K>>(
     sites: &mut Sites<K>,
     alloc: Global,

@@ -4,6 +4,7 @@ use Rattle.std.specs.Prelude.{Option}
 use Rattle.std.specs.List.{flat_map}
 use Rattle.keep_core.specs.Kept.{Kept}
 use Rattle.keep_core.specs.Revealed.{Takes, TakesPrefix}
+use Rattle.keep_core.specs.laws.Revealed.{takes_nothing}
 use Rattle.repl_model.specs.World.{World}
 use Rattle.run_core.specs.Runs.{Event, writes, lines_of, is_refused}
 use Rattle.run_core.specs.laws.Quiet.{IsQuiet}
@@ -12,6 +13,10 @@ use Rattle.site_store.specs.declared.sites.Sites.{Sites}
 use Rattle.world_store.specs.Stands.{Stands}
 use Rattle.run_parts.specs.Parts.{Happened, StoppedIn}
 use Rattle.run_parts.specs.laws.Parts.{happened_quiet, stopped_quietly}
+
+-- no bytes are a prefix of any line
+pub none_begun : (t : Option (List ℕ)) (line : List ℕ) → TakesPrefix t t line
+none_begun t line = record { prefix = []; rest = line; parts = refl; taken = takes_nothing t }
 
 -- some lines
 abbrev written : List (List ℕ) → List (Event World)

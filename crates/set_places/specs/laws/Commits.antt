@@ -16,20 +16,35 @@ use Rattle.site_store.specs.declared.sites.Sites.{Sites}
 use Rattle.site_store.specs.Records.{NoDamage}
 use Rattle.site_store.specs.Servers.{AllClosed}
 use Rattle.site_store.specs.Views.{names, held, work, sees, IsOpenAt}
-use Rattle.site_store.specs.Calls.{Bounds, no_access, both, Passes, Begins, Commits, AtServer, Fails, InDoubt}
+use Rattle.site_store.specs.Calls.{Bounds, no_access, both, Passes, Begins, Commits, AtServer, Blames, Fails, InDoubt}
 use Rattle.site_store.specs.Damage.{Rules, Shows, Damages}
 use Rattle.site_store.specs.laws.Counts.{at_most_itself, passes_then}
 use Rattle.site_store.specs.laws.Damage.{blames_by}
 use Rattle.site_store.specs.laws.Transactions.{took, closed_again, begun_sees}
-use Rattle.server_steps.specs.Calls.{GoesOn, Stops, Breaks}
+use Rattle.server_steps.specs.Calls.{Looks, GoesOn, Stops, Breaks}
 use Rattle.server_steps.specs.laws.Faults.{blames_after, stops_as, stops_after, put_fails, write_fails_on}
 use Rattle.world_store.specs.Stands.{Holds, Stands}
 use Rattle.load_worlds.specs.laws.Members.{In}
-use Rattle.set_places.specs.Steps.{HasBecome, HasStepped, CommitsStep, MayCommitStep}
+use Rattle.set_places.specs.Steps.{HasBecome, BlamesUnchanged, HasStepped, CommitsStep, MayCommitStep}
 use Rattle.set_places.specs.laws.Changing.{stands_with_server}
 use Rattle.set_places.specs.laws.Standing.{revealed_at_place}
 
 module _ {K : Type 0} (kept : K → Kept) where
+  -- ---- who is to blame
+
+  -- a call that failed and left what is held
+  pub stops_unchanged : (s0 s1 : Sites K) (D : ℕ → Area → DamageCause → Type 0) (e : Fault) → Stops kept s0 s1 D e → BlamesUnchanged kept s0 s1 D e
+  stops_unchanged s0 s1 D e f = blames_by kept s0 s1 D (λ s a cause. D s a cause × (held kept s1 ≡ held kept s0)) e f.blames (λ s a cause h. (h, f.held))
+
+  -- somebody is to blame in any case
+  pub blamed : (s0 s1 : Sites K) (D : ℕ → Area → DamageCause → Type 0) (e : Fault) → BlamesUnchanged kept s0 s1 D e → Blames kept s0 s1 D e
+  blamed s0 s1 D e h = blames_by kept s0 s1 (λ s a cause. D s a cause × (held kept s1 ≡ held kept s0)) D e h (λ s a cause both. both.0)
+
+  -- the same after reads, by what shows damage before them
+  pub unchanged_after : (s0 s1 s2 : Sites K) (D E : ℕ → Area → DamageCause → Type 0) (e : Fault) → Looks kept s0 s1 → ((s : ℕ) (a : Area) (cause : DamageCause) → D s a cause → E s a cause) → BlamesUnchanged kept s1 s2 D e → BlamesUnchanged kept s0 s2 E e
+  unchanged_after s0 s1 s2 D E e looks weaker h = blames_after kept s0 s1 s2 looks.most (λ s a cause. E s a cause × (held kept s2 ≡ held kept s0)) e looks.stays.passes
+      (blames_by kept s1 s2 (λ s a cause. D s a cause × (held kept s2 ≡ held kept s1)) (λ s a cause. E s a cause × (held kept s2 ≡ held kept s0)) e h (λ s a cause both. (weaker s a cause both.0, both.1 ∙ looks.stays.held)))
+
   -- ---- the beginning
 
   module _ (s0 s1 : Sites K) (server : ℕ) (lt : server < length (names s0)) (closed : AllClosed (work kept s0)) (begin : Begins kept s0 s1 server) where
@@ -45,7 +60,7 @@ module _ {K : Type 0} (kept : K → Kept) where
 
   -- a call that left no transaction open failed, and each server holds what it held
   pub stops_step : (s0 s1 : Sites K) (server : ℕ) (step : Contents → Contents → Type 0) (D : ℕ → Area → DamageCause → Type 0) (e : Fault) → AllClosed (work kept s1) → Stops kept s0 s1 D e → MayCommitStep kept s0 s1 server step D e
-  stops_step s0 s1 server step D e closed f = record { most = f.most; passes = f.passes; stepped = inl f.held; closed = closed; blames = f.blames }
+  stops_step s0 s1 server step D e closed f = record { most = f.most; passes = f.passes; stepped = inl f.held; closed = closed; blames = stops_unchanged s0 s1 D e f }
 
   module _ (s0 s1 : Sites K) (server : ℕ) (lt : server < length (names s0)) (closed : AllClosed (work kept s0)) (step : Contents → Contents → Type 0) where
     -- the beginning failed
@@ -97,7 +112,7 @@ module _ {K : Type 0} (kept : K → Kept) where
             | inr is ↦ inr (has_stepped is.1)
           ];
           closed = doubt.closed;
-          blames = blames_by kept s0 s3 (λ s a cause. ⊥) (Damages (λ s. s ≡ server) rules kept s0) e (blames_after kept s0 s2 s3 before (λ s a cause. ⊥) e here doubt.blames) (λ s a cause h. absurd h);
+          blames = blames_by kept s0 s3 (λ s a cause. ⊥) (λ s a cause. Damages (λ q. q ≡ server) rules kept s0 s a cause × (held kept s3 ≡ held kept s0)) e (blames_after kept s0 s2 s3 before (λ s a cause. ⊥) e here doubt.blames) (λ s a cause h. absurd h);
         }
           where
             here : Passes kept s0 s2 before

@@ -15,8 +15,8 @@ use Rattle.server_steps.specs.Calls.{Looks, Breaks}
 use Rattle.server_steps.specs.laws.Reads.{looks_sees}
 use Rattle.world_store.specs.Stands.{Reveals, Stands}
 use Rattle.load_worlds.specs.laws.Entries.{at_place_in}
-use Rattle.subs_sets.specs.Rules.{state_rules}
-use Rattle.subs_sets.specs.laws.Undamaged.{states_undamaged}
+use Rattle.subs_sets.specs.Rules.{source_rules, state_rules}
+use Rattle.subs_sets.specs.laws.Undamaged.{source_undamaged, states_undamaged}
 use Rattle.set_places.specs.declared.placed_set.PlacedSet.{PlacedSet}
 use Rattle.set_places.specs.Places.{IsPlacedAs}
 use Rattle.set_places.specs.Steps.{HasStepped, MayHaveBecome}
@@ -45,7 +45,12 @@ module _ {K : Type 0} (kept : K → Kept) (set : PlacedSet) where
       pub target_after : Reveals w k.target (sees kept s1 set.target)
       target_after = subst (λ (o : Option Contents). Reveals w k.target o) (sym (looks_sees kept s0 s1 looks set.target)) (target_revealed kept s0 w k set stands (closed set.target) placed)
 
-      -- no damage is found of its state
+      -- no damage is found of what is captured
+      pub captured_undamaged : (s2 : Sites K) (e : Fault) → Breaks source_rules kept s1 s2 set.source e → IsNoDamage e
+      captured_undamaged s2 e f = no_damage kept s1 s2 (λ s. s ≡ set.source) source_rules e
+          (λ s is. subst (λ (q : ℕ). (c : Contents) × (sees kept s1 q ≡ Some c) × IsUndamaged source_rules c) (sym is) (revealed_after.0, revealed_after.1, source_undamaged w k.source revealed_after.0 stands.sound (at_place_in w set.source k.source placed.source) revealed_after.2)) f.blames
+
+      -- no damage is found of the state of the targets
       pub state_undamaged : (s2 : Sites K) (e : Fault) → Breaks state_rules kept s1 s2 set.target e → IsNoDamage e
       state_undamaged s2 e f = no_damage kept s1 s2 (λ s. s ≡ set.target) state_rules e
           (λ s is. subst (λ (q : ℕ). (c : Contents) × (sees kept s1 q ≡ Some c) × IsUndamaged state_rules c) (sym is) (target_after.0, target_after.1, states_undamaged w k.target target_after.0 stands.sound (at_place_in w set.target k.target placed.target) target_after.2)) f.blames

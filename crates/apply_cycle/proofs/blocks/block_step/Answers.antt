@@ -10,8 +10,8 @@ use Rattle.subs_sets.specs.declared.states.ReadOnlyState.{ReadOnlyState}
 use Rattle.target_steps.specs.declared.step.Step.TheVariants.{Block}
 use Rattle.target_steps.specs.Taking.{CanStep}
 use Rattle.target_steps.specs.Steps.{PutsTargets, PutsSomeTargets}
-use Rattle.target_steps.specs.laws.AtServers.{unchanged, stepped_after, revealed_after, target_after, state_undamaged}
-use Rattle.apply_cycle.proofs.BlockSteps.{time_undamaged}
+use Rattle.target_steps.specs.laws.AtServers.{unchanged, stepped_after, revealed_after, target_after, captured_undamaged, state_undamaged}
+use Rattle.apply_cycle.proofs.BlockSteps.{put_blames}
 use Rattle.apply_cycle.proofs.Blocked.{can, may_have_blocked, has_answered}
 use Rattle.apply_cycle.proofs.blocks.block_step.Goals as goal
 
@@ -37,7 +37,15 @@ returns-in_err-time-clause-fault g c =
     let f = c.in_err-time.ensures.fault in
     let first = c.in_ok-known.ensures.ok in
     let p = err_from_is_err_and c.from_residual-in_err-time.result c.from_residual-in_err-time.ensures.1 in
-    rw (p.1, p.2) (λ w k stands placed read_only next. unchanged kept set s0 s2 w (after_action w k (blocks c.args.upto)) e (f.held ∙ first.stays.held) stands (time_undamaged kept g.T.Targets.shows set s0 s1 s2 c.requires.closed w k stands placed first e f))
+    rw (p.1, p.2) (λ w k stands placed read_only next. unchanged kept set s0 s2 w (after_action w k (blocks c.args.upto)) e (f.held ∙ first.stays.held) stands (captured_undamaged kept set s0 s1 c.requires.closed w k stands placed first s2 e f))
+
+pub returns-in_err-counts-clause-blames : goal.returns-in_err-counts-clause-blames
+returns-in_err-counts-clause-blames g c =
+    let s0 = c.args.sites.now in
+    let s2 = c.unit_time.new.sites in
+    let looks = looks_then g.K.Keeper.kept s0 c.read_only_state.new.sites s2 c.in_ok-known.ensures.ok c.in_ok-time.ensures.ok in
+    let p = err_from_is_err_and c.from_residual-in_err-counts.result c.from_residual-in_err-counts.ensures.1 in
+    rw (p.1, p.2) (put_blames g.K.Keeper.kept g.T.Targets.shows c.args.set.now s0 s2 looks c.put_step.new.sites c.in_err-counts.field-0.0 c.in_err-counts.ensures.fault.blames)
 
 pub returns-in_err-counts-clause-fault : goal.returns-in_err-counts-clause-fault
 returns-in_err-counts-clause-fault g c =

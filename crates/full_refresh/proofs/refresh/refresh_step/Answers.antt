@@ -9,6 +9,7 @@ use Rattle.world_store.specs.LogRows.{head_of}
 use Rattle.target_steps.specs.declared.step.Step.TheVariants.{Refresh}
 use Rattle.target_steps.specs.Steps.{PutsTargets, PutsSomeTargets}
 use Rattle.target_steps.specs.laws.AtServers.{unchanged, stepped_after, revealed_after, target_after, state_undamaged}
+use Rattle.full_refresh.proofs.RefreshSteps.{put_blames}
 use Rattle.full_refresh.proofs.Refreshed.{may_have_refreshed, has_answered}
 use Rattle.full_refresh.proofs.SignalSteps.{seen_as, place_is}
 use Rattle.full_refresh.proofs.refresh.refresh_step.Goals as goal
@@ -68,6 +69,14 @@ returns-in_err-counts-clause-fault g c =
       ]);
       undamaged = c.in_err-counts.ensures.undamaged target.0 target.1 w k stands.sound placed r read_only (ap (λ (h : Head). h.commit) at) next.1 target.2;
     })
+
+pub returns-in_err-counts-clause-blames : goal.returns-in_err-counts-clause-blames
+returns-in_err-counts-clause-blames g c =
+    let s0 = c.args.sites.now in
+    let s2 = c.read_only_state.new.sites in
+    let looks = looks_then g.K.Keeper.kept s0 c.last_commit.new.sites s2 c.in_ok-end.ensures.ok c.in_ok-known.ensures.ok in
+    let p = err_from_is_err_and c.from_residual-in_err-counts.result c.from_residual-in_err-counts.ensures.1 in
+    rw (p.1, p.2) (put_blames g.K.Keeper.kept g.T.Targets.shows c.args.set.now s0 s2 looks c.put_step.new.sites c.in_err-counts.field-0.0 c.in_err-counts.ensures.fault.blames)
 
 pub returns-clause-ok : goal.returns-clause-ok
 returns-clause-ok g c = λ w k stands placed read_only next.

@@ -1,4 +1,4 @@
-use Rattle.std.proofs.Common.{◌≡◌, List, sym, subst}
+use Rattle.std.proofs.Common.{◌≡◌, ℕ, List, sym, subst}
 use Rattle.std.specs.Prelude.{Option, None, IfOk, OnErr}
 use Rattle.std.specs.Option.{option_map_or}
 use Rattle.repl_types.specs.declared.refusal.Refusal.TheVariants as refusals
@@ -19,10 +19,21 @@ returns g c =
     let t = g.O.Sink.taken c.args.output.now in
     let u = g.O.Sink.taken c.refuse.new.output in
     let unknown = refusals.UnknownCommand c.args.number in
-    let none : talk_of c.args.command ≡ None = not_carried_out c.args.command c.requires.bodiless c.in_default.not-Capture c.in_default.not-StatusServer c.in_default.not-ShowSource c.in_default.not-ShowCd c.in_default.not-ShowUow c.in_default.not-ShowLog in
+    let none : talk_of c.args.command ≡ None = not_carried_out c.args.command c.requires.bodiless (record {
+      capture = c.in_default.not-Capture;
+      step = c.in_default.not-Step;
+      apply = c.in_default.not-Apply;
+      status = c.in_default.not-StatusServer;
+      set_status = c.in_default.not-StatusSet;
+      source = c.in_default.not-ShowSource;
+      changes = c.in_default.not-ShowCd;
+      units = c.in_default.not-ShowUow;
+      log = c.in_default.not-ShowLog;
+      target = c.in_default.not-ShowTarget;
+    }) in
     record {
-      ok = subst (λ (talk : Option (World → List (Event World))). IfOk c.refuse.result (Happened kept sites sites t u (λ w. option_map_or (λ events. events w) talk (refused unknown)))) (sym none) (ok_also c.refuse.result (refusal_written kept sites t u unknown) c.refuse.ensures.ok);
-      stopped = subst (λ (talk : Option (World → List (Event World))). OnErr c.refuse.result (StoppedIn kept sites sites t u (λ w. option_map_or (λ events. events w) talk (refused unknown)))) (sym none) (err_also c.refuse.result (refusal_begun kept sites t u unknown) c.refuse.ensures.stopped);
+      ok = subst (λ (talk : Option (ℕ → World → List (Event World))). IfOk c.refuse.result (Happened kept sites sites t u (λ w. option_map_or (λ events. events c.args.number w) talk (refused unknown)))) (sym none) (ok_also c.refuse.result (refusal_written kept sites t u unknown) c.refuse.ensures.ok);
+      stopped = subst (λ (talk : Option (ℕ → World → List (Event World))). OnErr c.refuse.result (StoppedIn kept sites sites t u (λ w. option_map_or (λ events. events c.args.number w) talk (refused unknown)))) (sym none) (err_also c.refuse.result (refusal_begun kept sites t u unknown) c.refuse.ensures.stopped);
       servers = untouched kept sites c.requires.closed;
       cause = if_err_also c.refuse.result (output_cause kept sites sites (g.O.Sink.faults c.args.output.now) (g.O.Sink.faults c.refuse.new.output)) c.refuse.ensures.cause;
       counts = c.refuse.ensures.counts;

@@ -1,13 +1,14 @@
 use Rattle.std.proofs.Common.{◌≤◌, ◌∙◌, ◌+◌, ℕ, Ok, sym, ap, subst, arith}
+use Rattle.std.proofs.lemmas.Result.{err_from_is_err_and}
 use Rattle.script_lines.specs.Script.{lines_left, line_number}
 use Rattle.site_store.specs.Views.{names, held}
 use Rattle.world_store.specs.Stands.{Stands}
 use Rattle.run_parts.specs.laws.Exits.{on_err}
-use Rattle.run_parts.specs.laws.Parts.{untouched, keeps_both}
+use Rattle.run_parts.specs.laws.Parts.{untouched, keeps_both, later_cause}
 use Rattle.session_core.specs.Bodies.{KeepsBodies}
 use Rattle.session_core.proofs.Answered.{line_answered, line_stopped, end_answered, end_stopped}
 use Rattle.session_core.proofs.Feeding.{is_feed, keeps_later, later_number}
-use Rattle.session_core.proofs.Going.{begins, stops_here, stops_first}
+use Rattle.session_core.proofs.Going.{begins, stands_now, stops_here, stops_first}
 use Rattle.session_core.proofs.script.run_script.Goals as goal
 
 pub returns-in_err-script-clause-stopped : goal.returns-in_err-script-clause-stopped
@@ -43,6 +44,32 @@ returns-in_err-ended-clause-stopped g c = on_err c.from_residual-in_err-ended.re
     end_stopped g.K.Keeper.kept c.args.sites.now c.loop-bodies.sites c.end_bodies.new.sites c.loop-bodies.invariant.servers.names (g.I.Source.left c.args.input.now) (g.O.Sink.taken c.args.output.now) (g.O.Sink.taken c.loop-bodies.output) (g.O.Sink.taken c.end_bodies.new.output)
     c.loop-bodies.bodies c.loop-bodies.refused c.loop-bodies.script c.peek.new.self (g.I.Source.left c.loop-bodies.input) (g.I.Source.left c.peek.new.source) c.loop-bodies.invariant.going c.in_ok-kind.ensures.lines (c.peek.ensures.end (c.in_ok-kind.was ∙ ap Ok c.in_default.is))
     c.in_err-ended.ensures.stopped)
+
+pub returns-in_err-answer-clause-servers : goal.returns-in_err-answer-clause-servers
+returns-in_err-answer-clause-servers g c =
+    let kept = g.K.Keeper.kept in
+    let s0 = c.args.sites.now in
+    let s1 = c.loop-bodies.sites in
+    let t = g.O.Sink.taken c.args.output.now in
+    let u = g.O.Sink.taken c.loop-bodies.output in
+    let left = lines_left c.loop-bodies.script (g.I.Source.left c.loop-bodies.input) in
+    let p = err_from_is_err_and c.from_residual-in_err-answer.result c.from_residual-in_err-answer.ensures.1 in
+    rw (p.1, p.2) (later_cause kept s0 s1 c.answer_line.new.sites (g.O.Sink.faults c.args.output.now) (g.O.Sink.faults c.loop-bodies.output) (g.O.Sink.faults c.answer_line.new.output) c.in_err-answer.field-0.0 c.loop-bodies.invariant.servers
+    (λ w at. stands_now (Stands (names s0)) (g.I.Source.left c.args.input.now) left w (held kept s1) t u c.loop-bodies.bodies c.loop-bodies.refused (c.loop-bodies.invariant.going w at))
+    c.loop-bodies.invariant.output_counts c.in_err-answer.ensures.cause).servers
+
+pub returns-in_err-ended-clause-servers : goal.returns-in_err-ended-clause-servers
+returns-in_err-ended-clause-servers g c =
+    let kept = g.K.Keeper.kept in
+    let s0 = c.args.sites.now in
+    let s1 = c.loop-bodies.sites in
+    let t = g.O.Sink.taken c.args.output.now in
+    let u = g.O.Sink.taken c.loop-bodies.output in
+    let left = lines_left c.loop-bodies.script (g.I.Source.left c.loop-bodies.input) in
+    let p = err_from_is_err_and c.from_residual-in_err-ended.result c.from_residual-in_err-ended.ensures.1 in
+    rw (p.1, p.2) (later_cause kept s0 s1 c.end_bodies.new.sites (g.O.Sink.faults c.args.output.now) (g.O.Sink.faults c.loop-bodies.output) (g.O.Sink.faults c.end_bodies.new.output) c.in_err-ended.field-0.0 c.loop-bodies.invariant.servers
+    (λ w at. stands_now (Stands (names s0)) (g.I.Source.left c.args.input.now) left w (held kept s1) t u c.loop-bodies.bodies c.loop-bodies.refused (c.loop-bodies.invariant.going w at))
+    c.loop-bodies.invariant.output_counts c.in_err-ended.ensures.cause).servers
 
 pub answer_line-requires : goal.answer_line-requires
 answer_line-requires g c =

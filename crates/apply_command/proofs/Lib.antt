@@ -1,0 +1,9 @@
+mod Applying
+mod FoundApplying
+mod FoundSets
+mod MadeSteps
+mod MostSteps
+mod NamedSteps
+mod Outcomes
+mod StepDamage
+mod StepEnds

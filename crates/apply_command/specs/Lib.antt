@@ -1,0 +1,2 @@
+pub mod StepEvents
+pub mod Progress

@@ -1,0 +1,4 @@
+pub mod Replies
+pub mod Targets
+pub mod Rules
+pub mod Showing

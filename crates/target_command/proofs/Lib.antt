@@ -1,0 +1,2 @@
+mod AfterReads
+mod TargetEvents
