@@ -1,0 +1,3 @@
+mod Feeding
+mod Reading
+mod Refusals

@@ -1,0 +1,3 @@
+pub mod CopyEvents
+pub mod Reading
+pub mod Showing

@@ -1,0 +1,4 @@
+mod Ends
+mod Fed
+mod FirstLines
+mod Going

@@ -1,0 +1,4 @@
+pub mod FedInput
+pub mod Feeding
+pub mod Lines
+pub mod laws
