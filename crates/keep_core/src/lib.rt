@@ -15,9 +15,7 @@
 #![tactic(auto)]
 
 mod keeper;
-mod laws;
 mod streams;
 
 pub use keeper::{KeepError, Keeper};
-pub use laws::pieces_join;
 pub use streams::{ReadError, Sink, Source, write_line};

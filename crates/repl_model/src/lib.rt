@@ -7,9 +7,9 @@
 //!
 //! It stands on `repl_types`, on `repl_definitions`, which has the trees of expressions and
 //! predicates, and members and sets, and on `row_codec`, for how long a set's definition is as it
-//! is stored. `row_changes`, `copy_lists` and `world_store` stand on it. Six laws serve the proofs
-//! of `copy_lists`: those of `log.rt`, and `copy_by_change_rows`. The others are for the layers
-//! over servers, and those whose names begin with `worked_` for readers: they say what the
+//! is stored. `row_changes` and `world_store` stand on it. The laws are for the layers over
+//! servers, but two kinds are for readers: `copy_by_change_rows` and `undo`, which say what change
+//! rows and changes are good for, and those whose names begin with `worked_`, which say what the
 //! definitions make of logs and of a world that were worked by hand.
 //!
 //! For example, the log of the lines `insert 1 items 1 'pen'` and `commit 1 ann 100` has one unit,

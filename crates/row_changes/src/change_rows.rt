@@ -1,4 +1,4 @@
-//! The change rows of changes, and what change rows do to the rows of a table.
+//! The change rows of changes.
 
 ghost use Rattle.std.specs.Prelude.{◌≡◌, ◌∷◌, [], ◌++◌, if◌then◌else◌, IfOk, OnOk};
 ghost use Rattle.repl_model.specs.ChangeRows.{no_befores as no_befores_lem};
@@ -6,14 +6,10 @@ ghost use Rattle.repl_model.specs.ChangeRows.{shows_nothing as shows_nothing_lem
 ghost use Rattle.repl_model.specs.ChangeRows.{insert_row as insert_row_lem};
 ghost use Rattle.repl_model.specs.ChangeRows.{delete_row as delete_row_lem};
 ghost use Rattle.repl_model.specs.ChangeRows.{update_row as update_row_lem};
-ghost use Rattle.repl_model.specs.ChangeRows.{change_rows as change_rows_lem, rows_of_placed};
-ghost use Rattle.repl_model.specs.ChangeRows.{after_change_row, after_change_rows};
+ghost use Rattle.repl_model.specs.ChangeRows.{rows_of_placed};
 
-use crate::changes::{images, key_of, same_values, table_of};
-use crate::rows::Rows;
-use repl_types::{
-    CdRow, Change, List, Op, Placed, Registration, Row, Sequence, TableDef, Unit, Value,
-};
+use crate::changes::{images, same_values, table_of};
+use repl_types::{CdRow, Change, List, Op, Placed, Registration, Row, Sequence, Value};
 use std::alloc::{AllocError, Global};
 
 /// Before-images that are all NULL.
@@ -165,57 +161,6 @@ pub fn change_rows_of_change(
         }
         Change::Delete { row, .. } => out.push(delete_row(alloc, reg, seq, pos, row)?)?,
         Change::Start { .. } | Change::Stop { .. } => {}
-    }
-    Ok(())
-}
-
-/// Appends the change rows of a unit, those of its changes in order. If memory runs out, some may
-/// be appended.
-#[tactic(auto, unfolding(repl_model::specs::ChangeRows::change_rows))]
-pub fn change_rows_of_unit(
-    alloc: Global,
-    reg: &Registration,
-    unit: &Unit,
-    out: &mut List<CdRow>,
-) -> Result<(), AllocError>
-    ensures { OnOk result (out.new ≡ out.old ++ change_rows_lem reg.now unit.now) }
-{
-    for placed in unit.changes.as_slice() {
-        change_rows_of_change(alloc, reg, unit.head.seq, placed, out)?;
-    }
-    Ok(())
-}
-
-/// Does to the rows of a table what a change row says, whose after-images are a whole row. If
-/// memory runs out, the rows are unspecified.
-pub fn apply_change_row(
-    alloc: Global,
-    def: &TableDef,
-    change_row: CdRow,
-    rows: &mut Rows,
-) -> Result<(), AllocError>
-    ensures { OnOk result (rows.new ≡ after_change_row def.now change_row rows.old) }
-{
-    let key = key_of(alloc, def, &change_row.after)?;
-    match change_row.op {
-        Op::I | Op::U => rows.put(key, change_row.after)?,
-        Op::D => rows.remove(&key),
-    }
-    Ok(())
-}
-
-/// Does what change rows say, one after another, whose after-images are whole rows. If memory runs
-/// out, the rows are unspecified.
-pub fn apply_change_rows(
-    alloc: Global,
-    def: &TableDef,
-    change_rows: List<CdRow>,
-    rows: &mut Rows,
-) -> Result<(), AllocError>
-    ensures { OnOk result (rows.new ≡ after_change_rows def.now change_rows rows.old) }
-{
-    for change_row in change_rows.into_vec() {
-        apply_change_row(alloc, def, change_row, rows)?;
     }
     Ok(())
 }

@@ -1,21 +1,17 @@
-//! What changes do to the rows of a table: which change fits the table, which applies to its rows,
-//! what it makes of them, and the change rows that a registration gives of it.
+//! Changes of the rows of a table: which change fits the table, and the change rows that a
+//! registration gives of it.
 //!
-//! It stands on `repl_model`, whose definitions its contracts name; `copy_lists`, which keeps a log
-//! and a copy, stands on it.
+//! It stands on `repl_model`, whose definitions its contracts name. `source_log`, which takes the
+//! changes of users, `cd_tables`, which stores change rows, and `apply_copies`, which makes copies of
+//! them, stand on it.
 //!
-//! For example, `apply_change` of `insert items (1, 'pen')` to rows without the key 1 answers true
-//! and adds the row; to rows with that key it answers false and leaves them.
+//! For example, `change_rows_of_change` of `update items (1, 'pen') (1, 'ink')` and a registration
+//! that takes updates apart gives two change rows: the delete of `(1, 'pen')` and then the insert of
+//! `(1, 'ink')`.
 #![tactic(auto)]
 
 mod change_rows;
 mod changes;
-mod rows;
 
-pub use change_rows::{
-    apply_change_row, apply_change_rows, change_rows_of_change, change_rows_of_unit,
-};
-pub use changes::{
-    apply_change, apply_changes, fits, images, is_change_applicable, key_of, same_values, table_of,
-};
-pub use rows::Rows;
+pub use change_rows::change_rows_of_change;
+pub use changes::{is_change_applicable, key_of, same_values, table_of};

@@ -1,5 +1,4 @@
 pub mod Answered
-pub mod Copied
 pub mod Feeding
 pub mod Going
 pub mod Names

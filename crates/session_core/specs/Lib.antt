@@ -1,7 +1,6 @@
 pub mod Answers
 pub mod Bodies
 pub mod Commands
-pub mod Copying
 pub mod Lines
 pub mod Session
 pub mod Talk

@@ -7,9 +7,8 @@ use Rattle.run_words.specs.declared.opening.Opening.{Opening}
 use Rattle.run_words.specs.declared.opening.Opening.TheVariants.{Copy, Servers}
 use Rattle.run_words.specs.Openings.{AreWordsOf}
 use Rattle.repl_model.specs.World.{World}
-use Rattle.world_store.specs.Stands.{Stands}
 use Rattle.run_core.specs.Runs.{Event, Went, is_refused}
-use Rattle.session_core.specs.Copying.{copy_events}
+use Rattle.copy_command.specs.CopyEvents.{copy_events}
 use Rattle.run_parts.specs.ExitStatus.{status_of_done}
 use Rattle.session_core.specs.Talk.{script_events}
 
@@ -27,14 +26,8 @@ pub record Asks (given names : List (List ℕ)) (opening : Opening) : Type 0 whe
 
 -- what the run does with an input, from a world on
 abbrev pub run_events : Opening → List ℕ → World → List (Event World)
-run_events Copy input w = copy_events input
+run_events Copy input w = copy_events input w
 run_events (Servers servers) input w = script_events input w
-
--- what the servers hold, named in this order, stands for a world; `copy` needs no world, and leaves them as
--- they were before
-abbrev pub StandsFor : Opening → List (List ℕ) → List (Option Contents) → List (Option Contents) → World → Type 0
-StandsFor Copy names before held w = held ≡ before
-StandsFor (Servers servers) names before held w = Stands names held w
 
 -- ---- how a run ends
 

@@ -4,7 +4,7 @@
 //! Below it are `run_words`, which reads the words, `script_lines` and `script_text`, which read the
 //! lines of a script, the commands, each in a crate of its own (`load_command`, `feed_command`,
 //! `capture_command`, `apply_command`, `show_command`, `status_command`, `target_command`),
-//! `run_parts`, which has the contract that they share, and `copy_lists`, which carries out `copy`. `world_store` and `run_core` have the definitions
+//! `run_parts`, which has the contract that they share, and `copy_command`, which carries out `copy`. `world_store` and `run_core` have the definitions
 //! that say what a run does to the servers. Above it, `sqlrep` calls `session` with the standard
 //! streams. The contract of `session` is what the program promises; `docs/MODEL.md` says its
 //! definitions in words.
@@ -24,12 +24,12 @@ ghost use Rattle.run_words.specs.declared.opening.Opening.{Opening};
 ghost use Rattle.site_store.specs.Servers.{AllClosed};
 ghost use Rattle.site_store.specs.Views.{names, held, work};
 ghost use Rattle.run_parts.specs.Causes.{HasCause};
-ghost use Rattle.session_core.specs.Session.{Asks, run_events, StandsFor, is_done, Ran};
+ghost use Rattle.world_store.specs.Stands.{Stands};
+ghost use Rattle.session_core.specs.Session.{Asks, run_events, is_done, Ran};
 
 mod bodies;
 mod body_lines;
 mod commands;
-mod copying;
 mod laws;
 mod opening;
 mod script;
@@ -90,17 +90,13 @@ pub fn session<K: Keeper, I: Source, O: Sink>(
         → (sites.new ≡ sites.old) × (input.new ≡ input.old) × (output.new ≡ output.old) }
     ensures done { IsTrue (is_done result) → (opening : Opening) (w : World)
         → Asks (map string_bytes words.now) (names sites.old) opening
-        → StandsFor opening (names sites.old) (held K.kept sites.old) (held K.kept sites.old) w
-        → IfSome (I.left input.old) (λ bytes.
-        Ran (StandsFor opening (names sites.old) (held K.kept sites.old))
-        (run_events opening bytes w) w (held K.kept sites.new)
+        → Stands (names sites.old) (held K.kept sites.old) w → IfSome (I.left input.old) (λ bytes.
+        Ran (Stands (names sites.old)) (run_events opening bytes w) w (held K.kept sites.new)
         (O.taken output.old) (O.taken output.new) result) }
     ensures stopped { is_done result ≡ false → (opening : Opening) (w : World)
         → Asks (map string_bytes words.now) (names sites.old) opening
-        → StandsFor opening (names sites.old) (held K.kept sites.old) (held K.kept sites.old) w
-        → IfSome (I.left input.old) (λ bytes.
-        Stopped (StandsFor opening (names sites.old) (held K.kept sites.old))
-        (run_events opening bytes w) w (held K.kept sites.new)
+        → Stands (names sites.old) (held K.kept sites.old) w → IfSome (I.left input.old) (λ bytes.
+        Stopped (Stands (names sites.old)) (run_events opening bytes w) w (held K.kept sites.new)
         (O.taken output.old) (O.taken output.new)) }
     ensures end { IsTrue (is_done result) → IfSome (I.left input.old) (λ bytes.
         (I.left input.new ≡ Some []) × (length bytes ≤ input_limit)) }

@@ -7,10 +7,11 @@ ghost use Rattle.site_store.specs.Servers.{AllClosed};
 ghost use Rattle.site_store.specs.Views.{names, held, work};
 ghost use Rattle.run_parts.specs.Causes.{BlamesServers, HasEnded};
 ghost use Rattle.run_parts.specs.ExitStatus.{status_of_error};
-ghost use Rattle.session_core.specs.Session.{run_events, StandsFor};
+ghost use Rattle.world_store.specs.Stands.{Stands};
+ghost use Rattle.session_core.specs.Session.{run_events};
 
-use crate::copying::copy;
 use crate::script::run_script;
+use copy_command::copy_items;
 use keep_core::{Keeper, Sink, Source};
 use run_parts::RunError;
 use run_words::Opening;
@@ -27,17 +28,13 @@ pub fn run_opening<K: Keeper, I: Source, O: Sink>(
 ) -> Result<bool, RunError>
     requires { AllClosed (work K.kept sites.old) }
     ensures ok { IfOk result (λ refused. (w : World)
-        → StandsFor opening.now (names sites.old) (held K.kept sites.old) (held K.kept sites.old) w
-        → IfSome (I.left input.old) (λ bytes.
-        Went (StandsFor opening.now (names sites.old) (held K.kept sites.old))
-        (run_events opening.now bytes w) w (held K.kept sites.new)
+        → Stands (names sites.old) (held K.kept sites.old) w → IfSome (I.left input.old) (λ bytes.
+        Went (Stands (names sites.old)) (run_events opening.now bytes w) w (held K.kept sites.new)
         (O.taken output.old) (O.taken output.new)
         × (refused ≡ is_refused (run_events opening.now bytes w)))) }
     ensures stopped { OnErr result ((w : World)
-        → StandsFor opening.now (names sites.old) (held K.kept sites.old) (held K.kept sites.old) w
-        → IfSome (I.left input.old) (λ bytes.
-        Stopped (StandsFor opening.now (names sites.old) (held K.kept sites.old))
-        (run_events opening.now bytes w) w (held K.kept sites.new)
+        → Stands (names sites.old) (held K.kept sites.old) w → IfSome (I.left input.old) (λ bytes.
+        Stopped (Stands (names sites.old)) (run_events opening.now bytes w) w (held K.kept sites.new)
         (O.taken output.old) (O.taken output.new))) }
     ensures ended { HasEnded (I.left input.old) (I.left input.new) (I.faults input.old)
         (I.faults input.new) (O.faults output.old) (O.faults output.new) result }
@@ -46,7 +43,7 @@ pub fn run_opening<K: Keeper, I: Source, O: Sink>(
     ensures closed { AllClosed (work K.kept sites.new) }
 {
     match opening {
-        Opening::Copy => copy(alloc, input, output),
+        Opening::Copy => copy_items(alloc, sites, input, output),
         Opening::Servers { .. } => run_script(alloc, sites, input, output),
     }
 }

@@ -5,8 +5,7 @@
 //! abort drops them.
 //!
 //! It stands on `repl_types`, whose placed changes it keeps. Above it, `capture_core` keeps in a
-//! buffer what is in flight in the log that it captures, and `copy_lists` what is in flight in its
-//! own.
+//! buffer what is in flight in the log that it captures.
 //!
 //! For example, after `push` of a change at position 1 for transaction 7, of one at position 2 for
 //! transaction 8, and of one at position 3 for transaction 7, `first` answers 1, `take` of 7 gives
