@@ -44,7 +44,8 @@ fn most_of<K: Keeper>(alloc: Global, sites: &mut Sites<K>, set: &PlacedSet) -> R
     }
 }
 
-/// Makes the steps of the set of a name, which is placed at a source and makes at most so many steps.
+/// Makes the steps of the set of a name, which is placed at a source and makes at most so many
+/// steps.
 fn make_steps<K: Keeper, O: Sink>(
     alloc: Global,
     sites: &mut Sites<K>,
@@ -109,8 +110,8 @@ fn apply_found<K: Keeper, O: Sink>(
     make_steps(alloc, sites, output, number, id, set.source, most)
 }
 
-/// Makes the steps of the set of a name until there is nothing to do, and writes the line of each as
-/// it is made, and then how many there were. Says whether one was refused, which ends it.
+/// Makes the steps of the set of a name until there is nothing to do, and writes the line of each
+/// as it is made, and then how many there were. Says whether one was refused, which ends it.
 pub fn apply_set<K: Keeper, O: Sink>(
     alloc: Global,
     sites: &mut Sites<K>,

@@ -2,15 +2,15 @@
 //!
 //! `load_rows` makes a target the copy of its source at the source's last commit, whatever rows it
 //! had: it removes them, reads the committed rows of the source, and puts the target columns of
-//! each row for which the member's predicate is true, under the row's key. `specs/Loading.antt` says
-//! what it makes of contents, and `specs/Rules.antt` what shows that a server is damaged.
+//! each row for which the member's predicate is true, under the row's key. `specs/Loading.antt`
+//! says what it makes of contents, and `specs/Rules.antt` what shows that a server is damaged.
 //!
 //! `apply_rows` takes a target from the copy at one point to the copy at a later one, by the stored
 //! change rows between them alone. It reads these one after another. An insert or an update puts
 //! what the member selects of the row that the after-images show, and an update or a delete removes
 //! the row from before. `specs/Taking.antt` says what it makes of contents, if the interval is
-//! captured whole, and `specs/ChangeRules.antt` what shows that a server is damaged. That the target
-//! is then the later copy is the law of `copy_changes`.
+//! captured whole, and `specs/ChangeRules.antt` what shows that a server is damaged. That the
+//! target is then the later copy is the law of `copy_changes`.
 //!
 //! Both work inside the transaction that the caller has open at the target. `copies_are_undamaged`
 //! and `changes_are_undamaged` say that no source of a sound world shows damage, and no target that
@@ -21,8 +21,8 @@
 //! on `site_store`.
 //!
 //! For example, a member copies `id` and `qty` of the rows of `orders` whose `qty` is at least 10.
-//! Of the rows `(1, 'pen', 20)` and `(2, 'ink', 5)` of the source, its target gets the row
-//! `(1, 20)` under the key `(1)`, and no other. The change row of an update from `(1, 'pen', 20)` to
+//! Of the rows `(1, 'pen', 20)` and `(2, 'ink', 5)` of the source, its target gets the row `(1,
+//! 20)` under the key `(1)`, and no other. The change row of an update from `(1, 'pen', 20)` to
 //! `(1, 'pen', 5)` then removes it.
 #![tactic(auto)]
 

@@ -23,12 +23,12 @@ use subs_sets::{read_only_state, unit_time};
 use target_steps::{Step, Targets, put_step};
 
 /// Takes the targets of a read-only set by stored change rows from the point that they have reached
-/// to a later one, and puts the set's state and the next entry of its trail, all in one commit at its
-/// target. It answers both points, and how many change rows of each operation there were.
+/// to a later one, and puts the set's state and the next entry of its trail, all in one commit at
+/// its target. It answers both points, and how many change rows of each operation there were.
 ///
-/// After a fault nothing is changed; but if the commit failed, it may have taken place. What is said
-/// of a world holds if the servers stand for one in which a block up to this point is what the set
-/// does next, and the kinds of all members are taken.
+/// After a fault nothing is changed; but if the commit failed, it may have taken place. What is
+/// said of a world holds if the servers stand for one in which a block up to this point is what the
+/// set does next, and the kinds of all members are taken.
 pub fn block_step<K: Keeper, T: Targets<K>>(
     sites: &mut Sites<K>,
     alloc: Global,

@@ -24,8 +24,8 @@ use std::alloc::Global;
 use subs_sets::{Action, next_action, read_only_state};
 use target_steps::Targets;
 
-/// Makes the signal of a set, which is what it does next. It is refused if the log of the source has
-/// no room for it.
+/// Makes the signal of a set, which is what it does next. It is refused if the log of the source
+/// has no room for it.
 fn signal<K: Keeper>(sites: &mut Sites<K>, alloc: Global, set: &PlacedSet) -> Result<Stepped, Fault>
     requires placed { IsPlaced K.kept sites.old set.now }
     requires closed { AllClosed (work K.kept sites.old) }
@@ -78,8 +78,8 @@ fn report<K: Keeper>(sites: &mut Sites<K>, alloc: Global, set: &PlacedSet) -> Re
 ///
 /// It is refused if a refresh is called for by a gap and forbidden, or if the log of the source has
 /// no room for a signal; then nothing is changed. After a fault nothing is changed; but if the
-/// commit failed, it may have taken place. What is said of a world holds if the kinds of all members
-/// are taken.
+/// commit failed, it may have taken place. What is said of a world holds if the kinds of all
+/// members are taken.
 pub fn step<K: Keeper, T: Targets<K>>(
     sites: &mut Sites<K>,
     alloc: Global,

@@ -2,7 +2,8 @@
 //! is answered and kept of them.
 //!
 //! It has no code but tests, of `step` of `apply_cycle` with the targets of `copy_targets`, over
-//! definitions that `load_defs` loads, and logs that `session` of `session_core` feeds and captures.
+//! definitions that `load_defs` loads, and logs that `session` of `session_core` feeds and
+//! captures.
 #![tactic(auto)]
 
 #[cfg(test)]

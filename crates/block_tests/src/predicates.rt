@@ -52,8 +52,8 @@ const REFRESH: [Stepped; 2] = [
 ];
 
 /// Updates, in the units 10 and 15. The first member takes them into, within, out of, within and
-/// outside its predicate, the second within, within, into, out of and outside its own. Then an order
-/// of the shop 7 comes, which isn't great.
+/// outside its predicate, the second within, within, into, out of and outside its own. Then an
+/// order of the shop 7 comes, which isn't great.
 const UPDATES: &[u8] = b"feed hq
 |update 1 orders 2 7 5 -> 2 7 15
 |update 1 orders 1 7 20 -> 1 7 25

@@ -2,9 +2,9 @@
 //!
 //! A unit puts a row into the unit-of-work table. Each of its changes puts change rows into the
 //! change-data table of its registration, if that is active; a start makes a registration active,
-//! and a stop makes it inactive and removes its change rows. `specs/StoredChanges.antt` says each of
-//! these in puts and removals of stored tables, and `specs/StoredCaptures.antt` what the tables are
-//! before a unit, on the way, and after it. So code over stored rows can carry out what
+//! and a stop makes it inactive and removes its change rows. `specs/StoredChanges.antt` says each
+//! of these in puts and removals of stored tables, and `specs/StoredCaptures.antt` what the tables
+//! are before a unit, on the way, and after it. So code over stored rows can carry out what
 //! `capture_worlds` says of a capture. The crate has no code. It stands on `world_store`, which
 //! says which rows a server stores, on `rows_in_order`, on `capture_worlds`, and on `stored_defs`,
 //! which shows that stored registrations have spellings. `cd_tables`, `capture_store` and

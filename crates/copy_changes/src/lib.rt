@@ -2,8 +2,8 @@
 //!
 //! A copy holds, for each row of its source that its member selects, the target columns under the
 //! row's key. The change rows of an interval take a stored copy from the interval's start to its
-//! end: `specs/ChangedCopies.antt` says what each of them puts and removes, by its images alone, and
-//! the law shows that the copy is then the one at the end. The rules on definitions make this
+//! end: `specs/ChangedCopies.antt` says what each of them puts and removes, by its images alone,
+//! and the law shows that the copy is then the one at the end. The rules on definitions make this
 //! possible: each column of the key is fixed, or has a before-image, or updates are taken apart. So
 //! a change row shows under which key the row from before stands. The crate has no code. It stands
 //! on `repl_model` and on `log_rows`, which says how rows stand in stored tables. `apply_copies`

@@ -96,8 +96,8 @@ fn refuse_long_line<K: Keeper, O: Sink>(
     )
 }
 
-/// Feeds what was read of an input, of which these bytes are kept, and answers the feed after it, or
-/// `None` if something was refused. At the end of the input nothing is done.
+/// Feeds what was read of an input, of which these bytes are kept, and answers the feed after it,
+/// or `None` if something was refused. At the end of the input nothing is done.
 fn feed_read<K: Keeper, O: Sink>(
     alloc: Global,
     sites: &mut Sites<K>,

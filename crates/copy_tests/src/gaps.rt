@@ -108,8 +108,8 @@ const REFRESHED_TWICE: SetState = SetState::ReadOnly {
     entries: 2,
 };
 
-/// A set that was refreshed at 9, after which three units up to 15 were captured, and one at 18 that
-/// stops the registration of the parts and starts it again.
+/// A set that was refreshed at 9, after which three units up to 15 were captured, and one at 18
+/// that stops the registration of the parts and starts it again.
 fn set_with_gap(
     rt: &impl Abort,
     alloc: Global,

@@ -26,9 +26,9 @@ use target_steps::{Step, Targets, put_step};
 /// commit of its source, and its state and its trail say so, all in one commit at its target. It
 /// answers the point and how many rows were put.
 ///
-/// After a fault nothing is changed; but if the commit failed, it may have taken place. What is said
-/// of a world holds if the servers stand for one in which a refresh is what the set does next, and
-/// the kinds of all members are taken.
+/// After a fault nothing is changed; but if the commit failed, it may have taken place. What is
+/// said of a world holds if the servers stand for one in which a refresh is what the set does next,
+/// and the kinds of all members are taken.
 pub fn refresh_step<K: Keeper, T: Targets<K>>(
     sites: &mut Sites<K>,
     alloc: Global,

@@ -53,8 +53,8 @@ fn append<K: Keeper>(
     }
 }
 
-/// Appends the unit of a set's signal, stores its seq, and commits both. If the log is full, nothing
-/// is changed.
+/// Appends the unit of a set's signal, stores its seq, and commits both. If the log is full,
+/// nothing is changed.
 fn put_signal<K: Keeper>(
     sites: &mut Sites<K>,
     alloc: Global,
@@ -85,12 +85,12 @@ fn put_signal<K: Keeper>(
     Ok(Some(seq))
 }
 
-/// Appends a unit at the source of a read-only set that starts the registrations of its members, and
-/// stores its seq as the set's last signal, in one commit. It answers the seq, or `None` if the log
-/// has no room for the unit, and then nothing is changed.
+/// Appends a unit at the source of a read-only set that starts the registrations of its members,
+/// and stores its seq as the set's last signal, in one commit. It answers the seq, or `None` if the
+/// log has no room for the unit, and then nothing is changed.
 ///
-/// After a fault nothing is changed; but if the commit failed, it may have taken place. What is said
-/// of a world holds if the servers stand for one in which a signal is what the set does next.
+/// After a fault nothing is changed; but if the commit failed, it may have taken place. What is
+/// said of a world holds if the servers stand for one in which a signal is what the set does next.
 pub fn signal_step<K: Keeper>(
     sites: &mut Sites<K>,
     alloc: Global,

@@ -1,6 +1,7 @@
 //! Tests of keepers, streams and servers over them, with failures at each call.
 //!
-//! It has no code but tests, of the calls of `keep_core`, `keep_map`, `line_input` and `site_store`.
+//! It has no code but tests, of the calls of `keep_core`, `keep_map`, `line_input` and
+//! `site_store`.
 #![tactic(auto)]
 
 #[cfg(test)]

@@ -25,8 +25,8 @@ use std::alloc::Global;
 ///
 /// The text is refused, and nothing is changed, if a rule is broken together with what is known, if
 /// it names a server that isn't there, if a limit is passed, or if a definition stands already with
-/// other contents; the first of these is answered. After a keeper's fault, or if memory ran out, the
-/// first of the commits may have taken place, one at each server that got something new; after
+/// other contents; the first of these is answered. After a keeper's fault, or if memory ran out,
+/// the first of the commits may have taken place, one at each server that got something new; after
 /// damage was found, nothing is changed. What is said of a world holds if the servers stand for one
 /// and reveal what they hold.
 pub fn load<K: Keeper>(sites: &mut Sites<K>, alloc: Global, raw: &RawDefs) -> Result<Loaded, Fault>

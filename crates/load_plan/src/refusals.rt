@@ -98,8 +98,9 @@ fn has_long_registration(
 }
 
 /// Why a load of these definitions is refused for what they are, if their counts are within the
-/// limits: a set or a registration is too long to be stored, or a definition stands already with other contents.
-/// None, if neither is so; the sets are then made of names and of values in their ranges.
+/// limits: a set or a registration is too long to be stored, or a definition stands already with
+/// other contents. None, if neither is so; the sets are then made of names and of values in their
+/// ranges.
 pub fn content_refusal(
     alloc: Global,
     defs: &Defs,

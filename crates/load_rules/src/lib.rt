@@ -1,10 +1,10 @@
 //! A world's definitions stay sound when definitions that were accepted are loaded.
 //!
 //! `specs/Accepted.antt` says what is known of definitions that a text spells and that were not
-//! refused. All of `DefinitionsAreSound` then holds of a sound world once they are loaded. The crate
-//! has no other code. It stands on `checked_defs`, whose rules the text keeps, on `repl_defs`, which
-//! says that the trees of texts have operands of their kinds, on `load_model`, which says what is
-//! known in a world, and on `load_worlds`, which says what a load makes of it.
+//! refused. All of `DefinitionsAreSound` then holds of a sound world once they are loaded. The
+//! crate has no other code. It stands on `checked_defs`, whose rules the text keeps, on
+//! `repl_defs`, which says that the trees of texts have operands of their kinds, on `load_model`,
+//! which says what is known in a world, and on `load_worlds`, which says what a load makes of it.
 //!
 //! For example, a set that stood at its source alone, and that an accepted text repeats, keeps the
 //! row that it had there, which says nothing yet, and gets one at its target.

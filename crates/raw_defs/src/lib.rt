@@ -2,10 +2,10 @@
 //! written.
 //!
 //! It stands on `repl_commands`, whose `RawDefs` it gives, and on `toml`, which reads the document.
-//! Tests of `checked_defs` use it. `specs/Shape.antt` lists the keys of each kind of item and says which
-//! documents have the shape of definitions; `specs/Raw.antt` says which definitions a document
-//! states. A document that hasn't this shape breaks rule 1; all other rules are checked later, on
-//! `RawDefs`.
+//! Tests of `checked_defs` use it. `specs/Shape.antt` lists the keys of each kind of item and says
+//! which documents have the shape of definitions; `specs/Raw.antt` says which definitions a
+//! document states. A document that hasn't this shape breaks rule 1; all other rules are checked
+//! later, on `RawDefs`.
 //!
 //! For example, the document `table = [{ server = "hq", name = "pens", columns = [], key = [] }]`
 //! states one table and nothing else, and without `name` it is refused.

@@ -1,8 +1,8 @@
 //! The reader of tokens: a method for each production of the grammar.
 //!
-//! If no tokens in front are of a production, its method refuses, and the reader stands at the token
-//! at which reading failed. Operands whose kinds don't fit are refused once they have been read: a
-//! comparison's at once, an expression's at its end.
+//! If no tokens in front are of a production, its method refuses, and the reader stands at the
+//! token at which reading failed. Operands whose kinds don't fit are refused once they have been
+//! read: a comparison's at once, an expression's at its end.
 
 ghost use Rattle.std.specs.Prelude.{◌≡◌, ◌^◌, ◌≤◌, false, ◌∷◌, length, MatchBool, IfOk, IfErr};
 ghost use Rattle.repl_model.specs.Rules.{column_kind};

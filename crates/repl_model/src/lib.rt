@@ -1,9 +1,9 @@
 //! What a source log means, what targets are, and what a group of servers is to a reader.
 //!
 //! Definitions stand in `specs/`: the units of a log, the rows of a table at each point, change
-//! rows, which records are applicable, the rows of each kind of target, worlds, what a set does next
-//! in one, and when a world is sound. The functions here have no code: their contracts are laws
-//! about the definitions.
+//! rows, which records are applicable, the rows of each kind of target, worlds, what a set does
+//! next in one, and when a world is sound. The functions here have no code: their contracts are
+//! laws about the definitions.
 //!
 //! It stands on `repl_types`, on `repl_definitions`, which has the trees of expressions and
 //! predicates, and members and sets, and on `row_codec`, for how long a set's definition is as it

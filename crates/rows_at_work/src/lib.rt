@@ -11,7 +11,8 @@
 //! in them.
 //!
 //! No program uses this crate. It stands on `site_store`, on `rows_in_order`, on records of
-//! `repl_records` and on the copied numbers of `two_areas`, and shows that the laws of `rows_in_order` suffice for such functions.
+//! `repl_records` and on the copied numbers of `two_areas`, and shows that the laws of
+//! `rows_in_order` suffice for such functions.
 #![tactic(auto)]
 
 mod history;

@@ -3,11 +3,11 @@
 //! Below it is `keep_core`. Above it, `two_areas` and `session_core` state their runs with these
 //! definitions. What a world is, and when contents represent it, is a parameter.
 //!
-//! A run commits worlds and writes lines, of replies and of refusals (`Event`). Its contract says at `Ok` that all its events
-//! happened (`Went`), and at an error that the first of them did, and at most a part of the line
-//! that comes next (`Stopped`). A loop over parts of a run keeps `Going`, and the laws of
-//! `specs/laws` put parts together: `goes_on` after a part that ended, `stops_in` in a part that
-//! stopped, `going_end` when no part is left.
+//! A run commits worlds and writes lines, of replies and of refusals (`Event`). Its contract says
+//! at `Ok` that all its events happened (`Went`), and at an error that the first of them did, and
+//! at most a part of the line that comes next (`Stopped`). A loop over parts of a run keeps
+//! `Going`, and the laws of `specs/laws` put parts together: `goes_on` after a part that ended,
+//! `stops_in` in a part that stopped, `going_end` when no part is left.
 //!
 //! For example, a call that commits `next w` and then writes `line` has the events
 //! `commits (next w) ∷ writes line ∷ []`. If the write fails, the call stopped after the commit

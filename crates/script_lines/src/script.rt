@@ -78,8 +78,8 @@ impl Script {
         self.kind = kind;
     }
 
-    /// What the next line is, `None` at the end of the script. The line isn't taken, so what is left
-    /// stays. Once a read has met the end, the source isn't asked again.
+    /// What the next line is, `None` at the end of the script. The line isn't taken, so what is
+    /// left stays. Once a read has met the end, the source isn't asked again.
     pub fn peek<I: Source>(&mut self, source: &mut I) -> Result<Option<LineKind>, InputError>
         requires same_source { HasOneSource self.old (I.left source.old) }
         ensures lines { OnOk result (lines_left self.new (I.left source.new)

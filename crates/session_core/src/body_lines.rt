@@ -94,7 +94,8 @@ pub fn answer_body<K: Keeper, O: Sink>(
     }
 }
 
-/// Refuses a body line over the limit, unless it is skipped, and says whether something was refused.
+/// Refuses a body line over the limit, unless it is skipped, and says whether something was
+/// refused.
 fn refuse_long_body<K: Keeper, O: Sink>(
     alloc: Global,
     sites: &mut Sites<K>,

@@ -1,13 +1,13 @@
 //! The run of the program: it takes the words of the command line, the servers, the input and the
 //! output, and answers the status of the run.
 //!
-//! Below it are `run_words`, which reads the words, `script_lines` and `script_text`, which read the
-//! lines of a script, the commands, each in a crate of its own (`load_command`, `feed_command`,
+//! Below it are `run_words`, which reads the words, `script_lines` and `script_text`, which read
+//! the lines of a script, the commands, each in a crate of its own (`load_command`, `feed_command`,
 //! `capture_command`, `apply_command`, `show_command`, `status_command`, `target_command`),
-//! `run_parts`, which has the contract that they share, and `copy_command`, which carries out `copy`. `world_store` and `run_core` have the definitions
-//! that say what a run does to the servers. Above it, `sqlrep` calls `session` with the standard
-//! streams. The contract of `session` is what the program promises; `docs/MODEL.md` says its
-//! definitions in words.
+//! `run_parts`, which has the contract that they share, and `copy_command`, which carries out
+//! `copy`. `world_store` and `run_core` have the definitions that say what a run does to the
+//! servers. Above it, `sqlrep` calls `session` with the standard streams. The contract of `session`
+//! is what the program promises; `docs/MODEL.md` says its definitions in words.
 //!
 //! For example, at the word `copy` the input lines `insert 1 items 7 'pen'` and `commit 1 ann 100`
 //! give the output lines `row 7 'pen'` and `ok rows 1`, and the status `Ok`. At the word `hq=:map:`
@@ -49,10 +49,11 @@ use std::alloc::Global;
 /// Does what the words of the command line ask for, at these servers: `copy`, or the script that it
 /// reads.
 ///
-/// `copy` reads log records, one on each line, up to the end of the input. It takes no line after
-/// the first refused one. It writes a line for each row of the copy of `items` at the last commit
-/// of that log, a line with the count of rows, and then a line that reports the refused line, if
-/// there is one.
+/// `copy` loads a table `items` of the server `src`, and a set that copies it to the server `dst`,
+/// and applies the set. It feeds the lines of the input at `src`, up to the first at which
+/// something is refused, and reads the others. What was fed is captured and applied. It writes a
+/// line for each row of the copy at `dst`, a line with the count of rows, and then a line that
+/// reports what the feed refused, if there is something.
 ///
 /// A script is read to its end, line by line. At `load` the definitions of its body are loaded when
 /// the body ends, at the next line of a command or at the end of the input, and a line says how
@@ -72,8 +73,8 @@ use std::alloc::Global;
 /// At `Ok` and `Refused` the whole input was read, and all that the run does happened. At `Usage`
 /// nothing was read or written. At any other status some of it happened, from its beginning on, and
 /// of the next line at most a part was written. `Memory` may be answered whenever the machine runs
-/// out of memory. All this is said of an input that reveals its bytes and an output that reveals
-/// what it took; of a script, if servers that stand for a world reveal what they hold.
+/// out of memory. What is said of events holds for an input that reveals its bytes, an output that
+/// reveals what it took, and servers that reveal what they hold and stand for a world.
 pub fn session<K: Keeper, I: Source, O: Sink>(
     alloc: Global,
     words: &[String],

@@ -1,5 +1,5 @@
-//! Scripts that capture the log of a server in several cuts, and what is left there if a call of its
-//! keeper fails.
+//! Scripts that capture the log of a server in several cuts, and what is left there if a call of
+//! its keeper fails.
 
 ghost use Rattle.std.specs.Prelude.{OnOk};
 ghost use Rattle.repl_types.specs.Sizes.{IsKeySize, IsValueSize};
@@ -66,8 +66,8 @@ const COMMIT_OF_STARTS: &[u8] = b"\x14\0\0\0\0\0\0\0\0\0\0\0\0\x06sqlrep\0";
 /// The end of that log: the last position and the last commit are 4, at the time 0.
 const HEAD: &[u8] = b"\0\0\0\0\0\0\0\x04\0\0\0\0\0\0\0\x04\0\0\0\0\0\0\0\0";
 
-/// The rest of the log, from 5 on. The first unit changes all three tables. The transactions 2 and 5
-/// cross, 3 and 4 end while 2 is in flight, 6 is aborted, and the last unit has no change.
+/// The rest of the log, from 5 on. The first unit changes all three tables. The transactions 2 and
+/// 5 cross, 3 and 4 end while 2 is in flight, 6 is aborted, and the last unit has no change.
 const FEED: &[u8] = b"feed hq
 |insert 1 orders 1 'pen' 20
 |insert 1 parts 'a' 1

@@ -26,8 +26,8 @@ fn source_of(alloc: Global, bytes: &[u8]) -> Result<BytesSource, AllocError> {
 /// More calls than a run makes at one server.
 pub const CALLS: u64 = 1_000;
 
-/// A call of the keeper of a server that fails, counted from 1; if it is a commit, it may take place
-/// nevertheless. 0 is the number of none.
+/// A call of the keeper of a server that fails, counted from 1; if it is a commit, it may take
+/// place nevertheless. 0 is the number of none.
 #[derive(Clone, Copy, Debug)]
 pub struct Failure {
     pub server: u32,
@@ -49,7 +49,8 @@ fn server_with(alloc: Global, name: &str, mut keeper: MapKeeper) -> Result<Site<
     Ok(Site::open_site(name, keeper))
 }
 
-/// The keeper at a place among the servers, of which only the call fails that is one of that server.
+/// The keeper at a place among the servers, of which only the call fails that is one of that
+/// server.
 fn failing_keeper(
     alloc: Global,
     mut keeper: MapKeeper,

@@ -1,8 +1,8 @@
 //! The commands `show S source T`, `show S log`, `show S cd T` and `show S uow`, as parts of a run.
 //!
-//! `specs/ShowEvents.antt` says which lines they write in a world. It stands on `show_source`, which
-//! writes them, and on `run_parts`, which has the words of its contracts. `session_core` carries out
-//! these commands by it.
+//! `specs/ShowEvents.antt` says which lines they write in a world. It stands on `show_source`,
+//! which writes them, and on `run_parts`, which has the words of its contracts. `session_core`
+//! carries out these commands by it.
 //!
 //! For example, at a table that isn't defined the line `refused 7 NoSuchTable hq.nope` is written.
 #![tactic(auto)]

@@ -10,8 +10,8 @@
 //!
 //! The crate stands on `site_store`, by which it reads, on `world_store`, which says what a server
 //! of a world keeps, on `log_rows`, `stored_defs` and `cd_tables`, which say what holds of these
-//! rows, and on `reply_text`, which writes the lines. `show_command` carries out the commands by it.
-//! `show_records` writes the records of any table of a kind whose lines `ShownRecord` says;
+//! rows, and on `reply_text`, which writes the lines. `show_command` carries out the commands by
+//! it. `show_records` writes the records of any table of a kind whose lines `ShownRecord` says;
 //! `show_sets` shows user copies by it.
 //!
 //! For example, of a table with the rows (1, 'pen') and (2, 'red ink') it writes `row 1 'pen'`,

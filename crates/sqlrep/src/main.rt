@@ -1,5 +1,5 @@
-//! `sqlrep` runs a script at the servers that its words name, and `sqlrep copy` reads log records on
-//! standard input and prints the copy of the items.
+//! `sqlrep` runs a script at the servers that its words name, and `sqlrep copy` reads log records
+//! on standard input and prints the copy of the items.
 //!
 //! The program stands on `session_core`, whose `session` does the work and says what a run
 //! promises. What is here opens the servers in memory, gives `session` the words of the command

@@ -130,8 +130,8 @@ fn failing_calls(
     Ok((CALLS, made))
 }
 
-/// Lets each call of a server fail, whether a commit that fails takes place or not. The step is made
-/// if and only if the call is one of the commits there, and takes place.
+/// Lets each call of a server fail, whether a commit that fails takes place or not. The step is
+/// made if and only if the call is one of the commits there, and takes place.
 fn check_failures(
     rt: &impl Abort,
     alloc: Global,

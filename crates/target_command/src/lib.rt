@@ -1,8 +1,8 @@
 //! The commands `status Q N` and `show S target T`, as parts of a run.
 //!
-//! `specs/TargetEvents.antt` says which lines they write in a world. It stands on `show_sets`, which
-//! writes them, on `set_places`, which finds the set of a name, and on `run_parts`, which has the
-//! words of its contracts. `session_core` carries out these commands by it.
+//! `specs/TargetEvents.antt` says which lines they write in a world. It stands on `show_sets`,
+//! which writes them, on `set_places`, which finds the set of a name, and on `run_parts`, which has
+//! the words of its contracts. `session_core` carries out these commands by it.
 //!
 //! For example, at the name of no set the line `refused 8 NoSuchSet q/z` is written.
 #![tactic(auto)]

@@ -2,10 +2,10 @@
 //!
 //! `put_step` takes the targets of a set's members through a step, and puts the set's state and the
 //! next entry of its trail, all in one commit at the target. It knows no kind of target: what
-//! implements `Targets` takes one member through a step. At a refresh a target becomes what it is at
-//! the last commit of the source; in a block it takes the captured changes of an interval, and no
-//! log, source or spilled change is read. `specs/Taking.antt` says what the step of a member makes of
-//! contents, and `specs/Steps.antt` what the whole step does.
+//! implements `Targets` takes one member through a step. At a refresh a target becomes what it is
+//! at the last commit of the source; in a block it takes the captured changes of an interval, and
+//! no log, source or spilled change is read. `specs/Taking.antt` says what the step of a member
+//! makes of contents, and `specs/Steps.antt` what the whole step does.
 //!
 //! It stands on `set_places`, which finds the set, on `subs_sets`, which reads its state, and on
 //! `action_store`, which says how a step is stored. `full_refresh` and `apply_cycle` stand on it.

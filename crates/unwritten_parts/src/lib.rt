@@ -1,9 +1,10 @@
-//! Parts of a run whose lines aren't written where they happen: they are kept for later, or dropped.
+//! Parts of a run whose lines aren't written where they happen: they are kept for later, or
+//! dropped.
 //!
 //! A part of a run writes its lines to a `Sink`. `Unwritten` is one that keeps none of them, and
-//! `KeptLines` one that keeps them in memory. `specs/Unwritten.antt` says what such a part does, and
-//! the laws in `specs/laws` say so of each part whose contract is in the words of `run_parts`, below
-//! it. Above it, `copy_command` carries out `copy` by the parts of other commands.
+//! `KeptLines` one that keeps them in memory. `specs/Unwritten.antt` says what such a part does,
+//! and the laws in `specs/laws` say so of each part whose contract is in the words of `run_parts`,
+//! below it. Above it, `copy_command` carries out `copy` by the parts of other commands.
 //!
 //! For example, a part that commits a world and then writes a line only commits that world if its
 //! sink is `Unwritten`.

@@ -1,8 +1,8 @@
 //! Tests of values, rows and records: their spellings, and what expressions over them give.
 //!
-//! It has no code but tests. They are apart from the crates whose calls they make, so that a proof of
-//! its tests proves no library again: `repl_types`, `row_codec`, `repl_definitions`, `repl_records` and
-//! `row_expr`.
+//! It has no code but tests. They are apart from the crates whose calls they make, so that a proof
+//! of its tests proves no library again: `repl_types`, `row_codec`, `repl_definitions`,
+//! `repl_records` and `row_expr`.
 #![tactic(auto)]
 
 #[cfg(test)]
