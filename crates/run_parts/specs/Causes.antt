@@ -49,12 +49,6 @@ HasEnded input left in_before in_now out_before out_now (Err e) = BlamesStreams 
 abbrev pub PartHasCause : {K : Type 0} → (K → Kept) → Sites K → Sites K → ℕ → ℕ → RunError → Type 0
 PartHasCause kept old new out_before out_now e = HasCause kept old new (Some []) 0 0 out_before out_now (status_of_error e)
 
--- no server is to blame
-abbrev pub IsNoServers : RunError → Type 0
-IsNoServers (errors.KeeperFailed server) = ⊥
-IsNoServers (errors.Damaged server area cause) = ⊥
-IsNoServers e = Unit {0}
-
 -- why a call that writes failed: memory ran out, or the output failed
 abbrev pub IsOfOutput : ℕ → ℕ → RunError → Type 0
 IsOfOutput before now errors.Memory = Unit {0}
