@@ -25,19 +25,28 @@ copy_set = record { qual = codes "copy"; name = codes "copy" }
 abbrev pub silent : (World → List (Event World)) → World → List (Event World)
 silent events w = unwritten (events w)
 
--- after the feed, of which these are the events: what was fed is captured and applied, the copy is shown, and then what
--- was refused
-abbrev pub shown_events : List (Event World) → World → List (Event World)
-shown_events fed =
-    then_events (silent (capture_events (codes "src") None None))
-    (then_events (silent (apply_events 0 copy_set))
-    (then_events (target_events 0 (codes "dst") (codes "items_copy"))
-    (λ w. refusals_in fed)))
+-- ---- what a run does, from each of its parts on; of a feed these are the events
 
--- from the feed on
+-- the copy is shown, and then what was refused
+abbrev pub written_events : List (Event World) → World → List (Event World)
+written_events fed = then_events (target_events 0 (codes "dst") (codes "items_copy")) (λ w. refusals_in fed)
+
+-- before that the set is applied
+abbrev pub applied_events : List (Event World) → World → List (Event World)
+applied_events fed = then_events (silent (apply_events 0 copy_set)) (written_events fed)
+
+-- before that what was fed is captured
+abbrev pub shown_events : List (Event World) → World → List (Event World)
+shown_events fed = then_events (silent (capture_events (codes "src") None None)) (applied_events fed)
+
+-- before that the lines of the input are fed
 abbrev pub fed_events : List ℕ → World → List (Event World)
 fed_events input w = let fed = input_events (codes "src") input w in then_events (λ v. unwritten fed) (shown_events fed) w
 
--- what a run does with an input
+-- before that the set is applied for the first time
+abbrev pub brought_events : List ℕ → World → List (Event World)
+brought_events input = then_events (silent (apply_events 0 copy_set)) (fed_events input)
+
+-- what a run does with an input: before that the definitions are loaded
 abbrev pub copy_events : List ℕ → World → List (Event World)
-copy_events input = then_events (silent (load_text_events (Some copy_text))) (then_events (silent (apply_events 0 copy_set)) (fed_events input))
+copy_events input = then_events (silent (load_text_events (Some copy_text))) (brought_events input)

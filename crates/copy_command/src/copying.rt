@@ -9,8 +9,7 @@ ghost use Rattle.site_store.specs.Calls.{KeepsServers};
 ghost use Rattle.world_store.specs.Stands.{Stands};
 ghost use Rattle.run_parts.specs.Causes.{BlamesServers, HasEnded};
 ghost use Rattle.run_parts.specs.ExitStatus.{status_of_error};
-ghost use Rattle.copy_command.specs.CopyEvents.{fed_events, copy_events};
-ghost use Rattle.copy_command.specs.Showing.{brought_events};
+ghost use Rattle.copy_command.specs.CopyEvents.{fed_events, brought_events, copy_events};
 ghost use Rattle.copy_command.specs.Reading.{ReadsAll, StopsReading};
 
 use crate::given::source_name;

@@ -11,9 +11,8 @@ ghost use Rattle.site_store.specs.Calls.{KeepsServers};
 ghost use Rattle.run_parts.specs.Causes.{IsOfOutput, PartHasCause};
 ghost use Rattle.run_parts.specs.Parts.{Happened, StoppedIn};
 ghost use Rattle.target_command.specs.TargetEvents.{target_events};
-ghost use Rattle.copy_command.specs.CopyEvents.{shown_events};
+ghost use Rattle.copy_command.specs.CopyEvents.{written_events, applied_events, shown_events};
 ghost use Rattle.copy_command.specs.Showing.{lines_if, KeepsRefusals};
-ghost use Rattle.copy_command.specs.Showing.{written_events, applied_events};
 
 use crate::given::{copy_name, target_name};
 use crate::silent::{apply_items, capture_items};

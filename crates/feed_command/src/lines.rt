@@ -1,6 +1,7 @@
 //! The lines of a feed, one after another.
 
-ghost use Rattle.std.specs.Prelude.{◌≡◌, ◌<◌, ◌≤◌, ◌+◌, length, IfOk, IfErr, IfSome, OnOk, OnErr, true};
+ghost use Rattle.std.specs.Prelude.{◌≡◌, ◌<◌, ◌≤◌, ◌+◌, length};
+ghost use Rattle.std.specs.Prelude.{IfOk, IfErr, IfSome, OnOk, OnErr, true};
 ghost use Rattle.std.specs.Prelude.{is_none};
 ghost use Rattle.line_input.specs.Limits.{input_limit};
 ghost use Rattle.repl_types.specs.declared.refusal.Refusal.TheVariants.{BadLog};

@@ -2,7 +2,8 @@
 
 ghost use Rattle.std.specs.Prelude.{◌≡◌, ◌∷◌, List, ℕ, length, ◌≤◌, drop};
 ghost use Rattle.std.specs.Option.{option_map};
-ghost use Rattle.script_lines.specs.Lines.{begins_with as begins_with_lem, is_blank as is_blank_lem};
+ghost use Rattle.script_lines.specs.Lines.{begins_with as begins_with_lem};
+ghost use Rattle.script_lines.specs.Lines.{is_blank as is_blank_lem};
 ghost use Rattle.script_lines.specs.Lines.{short_line, long_line};
 ghost use Rattle.script_lines.specs.Script.{line_of};
 

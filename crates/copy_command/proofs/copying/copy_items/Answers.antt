@@ -5,8 +5,7 @@ use Rattle.run_parts.specs.laws.Exits.{on_err}
 use Rattle.run_parts.specs.laws.Parts.{stands_after}
 use Rattle.load_command.specs.LoadEvents.{load_text_events}
 use Rattle.unwritten_parts.specs.laws.Causes.{part_blamed, servers_later}
-use Rattle.copy_command.specs.CopyEvents.{copy_text, silent}
-use Rattle.copy_command.specs.Showing.{brought_events}
+use Rattle.copy_command.specs.CopyEvents.{copy_text, silent, brought_events}
 use Rattle.copy_command.proofs.Reading.{reads_after, stops_after, stops_first}
 use Rattle.copy_command.proofs.copying.copy_items.Goals as goal
 

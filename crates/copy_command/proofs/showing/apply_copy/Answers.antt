@@ -3,8 +3,7 @@ use Rattle.std.proofs.lemmas.Result.{err_from_is_err_and}
 use Rattle.run_parts.specs.laws.Exits.{on_err}
 use Rattle.run_parts.specs.laws.Parts.{keeps_both, happened_both, stopped_first, stopped_second, stands_after, later_cause}
 use Rattle.apply_command.specs.StepEvents.{apply_events}
-use Rattle.copy_command.specs.CopyEvents.{copy_set, silent}
-use Rattle.copy_command.specs.Showing.{written_events}
+use Rattle.copy_command.specs.CopyEvents.{copy_set, silent, written_events}
 use Rattle.copy_command.proofs.showing.apply_copy.Goals as goal
 
 pub apply_items-requires : goal.apply_items-requires

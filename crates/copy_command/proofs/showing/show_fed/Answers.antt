@@ -4,8 +4,7 @@ use Rattle.std.proofs.lemmas.Result.{err_from_is_err_and}
 use Rattle.run_parts.specs.laws.Exits.{on_err}
 use Rattle.run_parts.specs.laws.Parts.{keeps_both, happened_both, stopped_first, stopped_second, stands_after, later_cause}
 use Rattle.capture_command.specs.CaptureEvents.{capture_events}
-use Rattle.copy_command.specs.CopyEvents.{silent}
-use Rattle.copy_command.specs.Showing.{applied_events}
+use Rattle.copy_command.specs.CopyEvents.{silent, applied_events}
 use Rattle.copy_command.proofs.showing.show_fed.Goals as goal
 
 pub capture_items-requires : goal.capture_items-requires
