@@ -1,4 +1,3 @@
-pub mod Causes
 pub mod Damage
 pub mod Exits
 pub mod Lines
