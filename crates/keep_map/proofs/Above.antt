@@ -20,7 +20,8 @@ use Rattle.keep_map.specs.declared.slot.Slot.{Slot}
 use Rattle.keep_map.specs.declared.stored_row.StoredRow.{StoredRow}
 use Rattle.keep_map.specs.declared.stored_row.StoredValue.{StoredValue}
 use Rattle.keep_core.specs.Contents.{IsNextKey, IsLastKey}
-use Rattle.keep_map.specs.Stored.{Place, place_cmp, same_place, place_of, slot_cmp, row_at, seen_in, bytes_of, table_seen, entries_above, stops}
+use Rattle.keep_map.specs.Places.{Place, place_cmp, same_place}
+use Rattle.keep_map.specs.Scattered.{place_of, slot_cmp, row_at, seen_in, bytes_of, table_seen, entries_above, stops}
 use Rattle.keep_map.proofs.Places.{places_total, place_is}
 
 -- the entries of a map

@@ -1,5 +1,12 @@
 pub mod Above
+pub mod AllRuns
+pub mod Disjoint
 pub mod Failures
+pub mod KeptFrom
+pub mod Merging
+pub mod NextKey
 pub mod Places
+pub mod RunChanges
 pub mod Seen
 pub mod Sound
+pub mod Updates

@@ -1,16 +1,18 @@
 -- The order of places, and the rows at places after a change of a map.
 use Rattle.std.proofs.Common.{◌≡◌, ℕ, Bool, true, false, cond, List, refl, sym, ap, subst, ◌∙◌}
 use Rattle.std.specs.Prelude.{Option, Some, IsSome}
-use Rattle.std.specs.BTreeMap.{BTreeMap, UpdatesBy, is_at}
-use Rattle.std.specs.Map.{lookup, IsKeyTest, AreApart, KeepsOthers}
-use Rattle.std.specs.Ordering.{nat_cmp, ordering_then, eq_by_cmp}
-use Rattle.std.specs.Cmp.{IsTotalOrder, nat_cmp_total, on_total, then_total, eq_by_cmp_equiv, Equal-is}
+use Rattle.std.specs.BTreeMap.{BTreeMap, UpdatesBy}
+use Rattle.std.specs.Map.{lookup}
+use Rattle.std.specs.Ordering.{nat_cmp, ordering_then}
+use Rattle.std.specs.Cmp.{IsTotalOrder, nat_cmp_total, on_total, then_total, Equal-is}
 use Rattle.std.specs.Cmp.Lexicographic.{nat_list_cmp_total}
 use Rattle.std.proofs.lemmas.Map.Lookups.{exact_unsigned, exact_bytes, exact_pairs}
 use Rattle.repl_types.specs.Bytes.{bytes_cmp}
 use Rattle.keep_map.specs.declared.slot.Slot.{Slot}
 use Rattle.keep_map.specs.declared.stored_row.StoredRow.{StoredRow}
-use Rattle.keep_map.specs.Stored.{Place, place_cmp, same_place, place_of, slot_cmp, row_at, SetsRow}
+use Rattle.keep_map.specs.Places.{Place, place_cmp, same_place}
+use Rattle.keep_map.specs.Scattered.{place_of, slot_cmp, row_at, SetsRow}
+use Rattle.keep_map.proofs.Updates.{is_set}
 
 -- places have a total order
 pub places_total : IsTotalOrder place_cmp
@@ -20,25 +22,9 @@ places_total = then_total (on_total (λ (x : Place). x.0) nat_cmp_total) (then_t
 pub place_is : (x y : Place) → same_place x y ≡ true → x ≡ y
 place_is x y e = let turned : ℕ × (ℕ × List ℕ) → Place = λ p. (p.0, p.1.0, p.1.1) in ap turned (exact_pairs nat_cmp (λ (p q : ℕ × List ℕ). ordering_then (nat_cmp p.0 q.0) (bytes_cmp p.1 q.1)) exact_unsigned (exact_pairs nat_cmp bytes_cmp exact_unsigned exact_bytes) (x.0, (x.1, x.2)) (y.0, (y.1, y.2)) ((Equal-is (place_cmp x y)).0 e))
 
--- a change of the map leaves the rows at other places as they were
-other_rows : (test : Slot → Bool) (m n : BTreeMap Slot StoredRow) → KeepsOthers (eq_by_cmp slot_cmp) test m.entries n.entries → (other : Slot → Bool) → IsKeyTest (eq_by_cmp slot_cmp) other → AreApart test other → lookup other n.entries ≡ lookup other m.entries
-unfolding KeepsOthers
-other_rows test m n h = h
-
-module _ (m n : BTreeMap Slot StoredRow) (s : Slot) (w : Option StoredRow) (h : UpdatesBy slot_cmp (slot_cmp s) m n w) where
-  -- a row at another place stays as it was
-  at_other : (p : Place) → same_place (place_of s) p ≡ false → row_at n p ≡ row_at m p
-  at_other p apart =
-      let eq = eq_by_cmp_equiv places_total in
-      other_rows (is_at (slot_cmp s)) m n h.3 (λ k. same_place p (place_of k)) (λ k q. eq.congr p (place_of k) (place_of q)) (λ k yes. eq.symm p (place_of k) ∙ sym (eq.congr (place_of s) (place_of k) p yes) ∙ apart)
-
-  -- a change of the map at a slot sets the row at its place
-  pub row_is_set : SetsRow (place_of s) w m n
-  row_is_set p = at (same_place (place_of s) p) refl
-    where
-      at : (b : Bool) → same_place (place_of s) p ≡ b → row_at n p ≡ cond b w (row_at m p)
-      at false e = at_other p e
-      at true e = ap (λ (q : Place). row_at n q) (sym (place_is (place_of s) p e)) ∙ h.1
+-- a change of the map at a slot sets the row at its place
+pub row_is_set : (m n : BTreeMap Slot StoredRow) (s : Slot) (w : Option StoredRow) → UpdatesBy slot_cmp (slot_cmp s) m n w → SetsRow (place_of s) w m n
+row_is_set m n s w h = is_set place_cmp places_total place_is place_of m n s w h
 
 -- setting a row as it is changes nothing
 row_kept : (m : BTreeMap Slot StoredRow) (at : Place) (w : Option StoredRow) → w ≡ row_at m at → (p : Place) → cond (same_place at p) w (row_at m p) ≡ row_at m p

@@ -8,7 +8,8 @@ use Rattle.repl_types.specs.Sizes.{IsKeySize}
 use Rattle.keep_map.specs.declared.slot.Slot.{Slot}
 use Rattle.keep_map.specs.declared.stored_row.StoredRow.{StoredRow}
 use Rattle.keep_map.specs.declared.stored_row.StoredValue.{StoredValue}
-use Rattle.keep_map.specs.Stored.{Place, same_place, place_of, row_at, seen_in, held_in, kept_in, is_settled, is_named, AreRows, SetsRow, row_holding, settled, bytes_of}
+use Rattle.keep_map.specs.Places.{Place, same_place}
+use Rattle.keep_map.specs.Scattered.{place_of, row_at, seen_in, held_in, kept_in, is_settled, is_named, AreRows, SetsRow, row_holding, settled, bytes_of}
 use Rattle.keep_map.proofs.Places.{place_is}
 
 -- a list with one more slot names the places of the list and that of the slot
@@ -20,7 +21,7 @@ is_named-push xs s p = list_any-append (λ (x : Slot). same_place (place_of x) p
     or_false true = refl
 
 -- if not either of two tests passes, neither does
-neither : (a b : Bool) → (a || b) ≡ false → (a ≡ false) × (b ≡ false)
+pub neither : (a b : Bool) → (a || b) ≡ false → (a ≡ false) × (b ≡ false)
 neither false false e = (refl, refl)
 neither false true e = absurd cc
 neither true b e = absurd cc

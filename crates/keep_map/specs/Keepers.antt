@@ -7,7 +7,8 @@ use Rattle.keep_core.specs.Kept.{Kept}
 use Rattle.keep_map.specs.declared.area_counts.AreaCounts.{AreaCounts}
 use Rattle.keep_map.specs.declared.map_keeper.MapKeeper.{MapKeeper}
 use Rattle.keep_map.specs.Planned.{after_call}
-use Rattle.keep_map.specs.Stored.{contents_seen, contents_held}
+use Rattle.keep_map.specs.Merged.{values_seen, values_held}
+use Rattle.keep_map.specs.Places.{contents_of}
 
 -- the count of an area
 abbrev pub count_of : AreaCounts → Area → ℕ
@@ -16,8 +17,8 @@ count_of c a = slice_index c.each (area_number a)
 -- a keeper in memory reveals what it holds and what its open transaction sees
 abbrev pub kept_of : MapKeeper → Kept
 kept_of m = record {
-  held = Some (contents_held m.rows.map);
-  open_work = if m.is_open then Some (Some (contents_seen m.rows.map)) else None;
+  held = Some (contents_of (values_held m.rows));
+  open_work = if m.is_open then Some (Some (contents_of (values_seen m.rows))) else None;
   faults = m.plan.faults;
   reads = count_of m.reads;
   writes = count_of m.writes;

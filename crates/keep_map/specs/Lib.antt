@@ -1,4 +1,10 @@
+pub mod Apart
 pub mod Keepers
+pub mod Merged
+pub mod Next
+pub mod Places
 pub mod Planned
-pub mod Stored
+pub mod Put
+pub mod Scattered
 pub mod Streams
+pub mod Tables

@@ -1,6 +1,7 @@
 //! A keeper that holds its contents in memory.
 
 ghost use Rattle.std.specs.Prelude.{◌≡◌, ◌≤◌, false, []};
+ghost use Rattle.keep_map.specs.Merged.{values_seen, values_held};
 ghost use Rattle.keep_map.specs.Planned.{fails_next, after_call};
 
 use crate::area_counts::AreaCounts;
@@ -24,7 +25,7 @@ pub struct MapKeeper {
     doubt_takes: bool,
     reads: AreaCounts,
     writes: AreaCounts,
-    ghost idle: { is_open ≡ false → rows.touched.items ≡ [] },
+    ghost idle: { is_open ≡ false → values_held rows ≡ values_seen rows },
 }
 
 impl MapKeeper {
@@ -40,14 +41,18 @@ impl MapKeeper {
         ensures plan { result.plan ≡ nothing_planned }
         ensures doubt { result.doubt_takes ≡ false }
     {
+        let rows = StoredRows::new(alloc);
+        let plan = Plan::new(alloc);
+        let reads = AreaCounts::new();
+        let writes = AreaCounts::new();
         MapKeeper {
             alloc,
-            rows: StoredRows::new(alloc),
+            rows,
             is_open: false,
-            plan: Plan::new(alloc),
+            plan,
             doubt_takes: false,
-            reads: AreaCounts::new(),
-            writes: AreaCounts::new(),
+            reads,
+            writes,
         }
     }
 

@@ -2,7 +2,7 @@
 
 ghost use Rattle.std.specs.Prelude.{◌≡◌, IfOk};
 ghost use Rattle.repl_types.specs.Area.{area_number};
-ghost use Rattle.keep_map.specs.Stored.{place_of};
+ghost use Rattle.keep_map.specs.Scattered.{place_of};
 
 use repl_types::Area;
 use std::alloc::{AllocError, Global};

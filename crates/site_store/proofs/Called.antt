@@ -11,6 +11,7 @@ use Rattle.faults.specs.declared.fault.Fault.TheVariants as faults
 use Rattle.keep_core.specs.Contents.{Contents, put_at}
 use Rattle.keep_core.specs.Kept.{Kept, Closes, seen_of, seen, opened, committed, after_read, after_write, changed}
 use Rattle.keep_core.specs.Revealed.{Rises}
+use Rattle.site_store.specs.declared.buffers.Buffers.{Buffers}
 use Rattle.site_store.specs.declared.site.Site.{Site}
 use Rattle.site_store.specs.declared.sites.Sites.{Sites}
 use Rattle.site_store.specs.Records.{NoDamage, BlamesOne, Halts, MayHalt}
@@ -23,8 +24,8 @@ use Rattle.site_store.proofs.Replaced.{swapped, names_stay, stays, becomes, had,
 use Rattle.site_store.proofs.Counting.{Counts, rises_later, counted_rises, counts_none, counts_read, counts_written, counts_halted}
 
 -- the servers with a new keeper at one
-abbrev pub with_keeper : {K : Type 0} → (sites : Sites K) (s : ℕ) (site : Site K) (new : K) → AreServers (names_of (swapped sites.list.items s site new)) → Sites K
-with_keeper sites s site new servers = record { list = with_item sites.list s (record { name = site.name; keeper = new }); servers = servers }
+abbrev pub with_keeper : {K : Type 0} → (sites : Sites K) (s : ℕ) (site : Site K) (new : K) → Buffers → AreServers (names_of (swapped sites.list.items s site new)) → Sites K
+with_keeper sites s site new buffers servers = record { list = with_item sites.list s (record { name = site.name; keeper = new }); buffers = buffers; servers = servers }
 
 module _ {K : Type 0} (kept : K → Kept) (sites : Sites K) (s : ℕ) (site : Site K) (below : s < length (names sites)) (is : site ≡ get_or sites.list.items s site) (new : K) where
   -- the server is one of the list
@@ -43,10 +44,10 @@ module _ {K : Type 0} (kept : K → Kept) (sites : Sites K) (s : ℕ) (site : Si
   pub work_was : get_or (work kept sites) s None ≡ (kept site.keeper).open_work
   work_was = had kept sites.list.items s site lt is new (λ k. k.open_work) None
 
-  module _ (servers : AreServers (names_of (swapped sites.list.items s site new))) where
+  module _ (buffers : Buffers) (servers : AreServers (names_of (swapped sites.list.items s site new))) where
     -- the servers after the call
     abbrev next : Sites K
-    next = with_keeper sites s site new servers
+    next = with_keeper sites s site new buffers servers
 
     -- what every call keeps
     passes : (most : Bounds) → Counts s (kept site.keeper) (kept new) most → Passes kept sites next most

@@ -18,6 +18,7 @@
 //! `rows_at_work` show its use.
 #![tactic(auto)]
 
+mod buffers;
 mod records;
 mod site;
 mod sites;

@@ -2,7 +2,7 @@
 //!
 //! These calls leave a transaction open at a fault: who calls them rolls it back.
 
-ghost use Rattle.std.specs.Prelude.{◌≡◌, OnOk, IfOk, IfErr, IfSome};
+ghost use Rattle.std.specs.Prelude.{◌≡◌, [], Some, OnOk, IfOk, IfErr, IfSome};
 ghost use Rattle.std.specs.Option.{option_copied};
 ghost use Rattle.repl_types.specs.Sizes.{IsKeySize, IsValueSize};
 ghost use Rattle.repl_types.specs.declared.area.Area.TheVariants.{Spill};
@@ -11,16 +11,14 @@ ghost use Rattle.keep_core.specs.Kept.{after_write, after_put, after_remove, see
 ghost use Rattle.keep_core.specs.Kept.{NextIs, GivesNext};
 ghost use Rattle.site_store.specs.Records.{RowIs, IsRecord, after_key, NextRowIs, Follows};
 ghost use Rattle.site_store.specs.Records.{NoDamage, Misread, Misspelt, MisspeltNext, fault_from};
-ghost use Rattle.site_store.specs.Records.{Halts, MayHalt};
+ghost use Rattle.site_store.specs.Records.{Halts, MayHalt, MissesOrMisreads, IsMissing};
 
+use crate::buffers::Buffers;
 use faults::Fault;
 use keep_core::{KeepError, Keeper};
 use repl_types::{Area, DamageCause, List};
 use row_codec::{Stored, TableNumber, TakeError};
 use std::alloc::{AllocError, Global};
-
-/// How many bytes there is room for at once, which most keys and records of numbers need at most.
-const ROOM: usize = 64;
 
 fn fault_of(server: u32, e: KeepError) -> Fault
     ensures { result ≡ fault_from server e }
@@ -31,22 +29,30 @@ fn fault_of(server: u32, e: KeepError) -> Fault
     }
 }
 
+/// Takes the bytes out of a buffer, for a fault, which keeps them. It takes no memory.
+fn take_bytes(alloc: Global, buffer: &mut Vec<u8>) -> List<u8>
+    ensures { result ≡ buffer.old.items }
+{
+    List::from_vec(std::mem::replace(buffer, Vec::new(alloc)))
+}
+
 /// Bytes of a server that are no spelling.
-fn misspelt(server: u32, area: Area, bytes: Vec<u8>) -> Fault
-    ensures { result ≡ Fault.Damaged server area (DamageCause.Spelling bytes.items) }
+fn misspelt(alloc: Global, server: u32, area: Area, bytes: &mut Vec<u8>) -> Fault
+    ensures { result ≡ Fault.Damaged server area (DamageCause.Spelling bytes.old.items) }
 {
     Fault::Damaged {
         server,
         area,
-        cause: DamageCause::Spelling(List::from_vec(bytes)),
+        cause: DamageCause::Spelling(take_bytes(alloc, bytes)),
     }
 }
 
-/// The record at the key, if there is one.
+/// The record at the key, if there is one. The spelled key stays in its buffer.
 pub(crate) fn get_record<K: Keeper, R: Stored>(
     alloc: Global,
     server: u32,
     keeper: &mut K,
+    buffers: &mut Buffers,
     table: R::Table,
     key: &R::Key,
 ) -> Result<Option<R>, Fault>
@@ -54,35 +60,66 @@ pub(crate) fn get_record<K: Keeper, R: Stored>(
     ensures row { IfOk result (λ row. IfSome (seen (K.kept keeper.old))
         (RowIs R.spelling R.AREA (R.Table.number table) (R.Key.spelling key.now) row)) }
     ensures fits { IfOk result (λ row. IfSome row (IsRecord R.fits R.spelling)) }
+    ensures spelled { OnOk result (buffers.new.key.items ≡ R.Key.spelling key.now) }
     ensures fault { let damaged = Misspelt R.fits R.spelling R.AREA (R.Table.number table)
         (R.Key.spelling key.now) (seen (K.kept keeper.old)) in
         IfErr result (Halts server (K.kept keeper.old) (after_read (K.kept keeper.old) R.AREA)
         (K.kept keeper.new) (Misread R.AREA damaged)) }
 {
-    let mut spelled = Vec::with_capacity(alloc, ROOM)?;
-    R::put_key(key, &mut spelled)?;
-    let mut out = Vec::new(alloc);
-    match keeper.get(R::AREA, table.table_number(), &spelled, &mut out) {
-        Ok(true) => match R::take(alloc, &out) {
+    buffers.clear();
+    R::put_key(key, &mut buffers.key)?;
+    let number = table.table_number();
+    match keeper.get(R::AREA, number, &buffers.key, &mut buffers.value) {
+        Ok(true) => match R::take(alloc, &buffers.value) {
             Ok(row) => Ok(Some(row)),
             Err(TakeError::Memory) => Err(Fault::Memory),
-            Err(TakeError::Spelling) => Err(misspelt(server, R::AREA, out)),
+            Err(TakeError::Spelling) => Err(misspelt(alloc, server, R::AREA, &mut buffers.value)),
         },
         Ok(false) => Ok(None),
         Err(e) => Err(fault_of(server, e)),
     }
 }
 
-/// Where the search for the next key begins.
-fn spell_after<R: Stored>(alloc: Global, after: Option<&R::Key>) -> Result<Vec<u8>, AllocError>
-    ensures { IfOk result (λ spelled. spelled.items
+/// The record at the key, which must be there: it is damage if there is none.
+pub(crate) fn get_needed_record<K: Keeper, R: Stored>(
+    alloc: Global,
+    server: u32,
+    keeper: &mut K,
+    buffers: &mut Buffers,
+    table: R::Table,
+    key: &R::Key,
+) -> Result<R, Fault>
+    ensures ok { OnOk result (K.kept keeper.new ≡ after_read (K.kept keeper.old) R.AREA) }
+    ensures row { IfOk result (λ row. IfSome (seen (K.kept keeper.old))
+        (RowIs R.spelling R.AREA (R.Table.number table) (R.Key.spelling key.now) (Some row))) }
+    ensures fits { IfOk result (λ row. IsRecord R.fits R.spelling row) }
+    ensures fault { let damaged = Misspelt R.fits R.spelling R.AREA (R.Table.number table)
+        (R.Key.spelling key.now) (seen (K.kept keeper.old)) in
+        let missing = IsMissing R.AREA (R.Table.number table) (R.Key.spelling key.now)
+        (seen (K.kept keeper.old)) in
+        IfErr result (Halts server (K.kept keeper.old) (after_read (K.kept keeper.old) R.AREA)
+        (K.kept keeper.new) (MissesOrMisreads R.AREA missing damaged)) }
+{
+    match get_record::<K, R>(alloc, server, keeper, buffers, table, key)? {
+        None => Err(Fault::Damaged {
+            server,
+            area: R::AREA,
+            cause: DamageCause::Absent(take_bytes(alloc, &mut buffers.key)),
+        }),
+        Some(row) => Ok(row),
+    }
+}
+
+/// Spells where the search for the next key begins.
+fn spell_after<R: Stored>(after: Option<&R::Key>, spelled: &mut Vec<u8>) -> Result<(), AllocError>
+    requires { spelled.old.items ≡ [] }
+    ensures { OnOk result (spelled.new.items
         ≡ after_key R.Key.spelling (option_copied after.entry)) }
 {
-    let mut spelled = Vec::new(alloc);
     if let Some(key) = after {
-        R::put_key(key, &mut spelled)?;
+        R::put_key(key, spelled)?;
     }
-    Ok(spelled)
+    Ok(())
 }
 
 /// The first record whose key is above `after`, or of all if `after` is `None`.
@@ -90,6 +127,7 @@ pub(crate) fn next_record<K: Keeper, R: Stored>(
     alloc: Global,
     server: u32,
     keeper: &mut K,
+    buffers: &mut Buffers,
     table: R::Table,
     after: Option<&R::Key>,
 ) -> Result<Option<(R::Key, R)>, Fault>
@@ -106,18 +144,33 @@ pub(crate) fn next_record<K: Keeper, R: Stored>(
         IfErr result (Halts server (K.kept keeper.old) (after_read (K.kept keeper.old) R.AREA)
         (K.kept keeper.new) (Misread R.AREA damaged)) }
 {
-    let spelled = spell_after::<R>(alloc, after)?;
-    let mut key = Vec::new(alloc);
-    let mut out = Vec::new(alloc);
-    match keeper.next(R::AREA, table.table_number(), &spelled, &mut key, &mut out) {
-        Ok(true) => match R::take_key(alloc, &key) {
-            Ok(next) => match R::take(alloc, &out) {
+    buffers.clear();
+    spell_after::<R>(after, &mut buffers.key)?;
+    match keeper.next(
+        R::AREA,
+        table.table_number(),
+        &buffers.key,
+        &mut buffers.next_key,
+        &mut buffers.value,
+    ) {
+        Ok(true) => match R::take_key(alloc, &buffers.next_key) {
+            Ok(next) => match R::take(alloc, &buffers.value) {
                 Ok(row) => Ok(Some((next, row))),
                 Err(TakeError::Memory) => Err(Fault::Memory),
-                Err(TakeError::Spelling) => Err(misspelt(server, R::AREA, out)),
+                Err(TakeError::Spelling) => Err(misspelt(
+                    alloc,
+                    server,
+                    R::AREA,
+                    &mut buffers.value,
+                )),
             },
             Err(TakeError::Memory) => Err(Fault::Memory),
-            Err(TakeError::Spelling) => Err(misspelt(server, R::AREA, key)),
+            Err(TakeError::Spelling) => Err(misspelt(
+                alloc,
+                server,
+                R::AREA,
+                &mut buffers.next_key,
+            )),
         },
         Ok(false) => Ok(None),
         Err(e) => Err(fault_of(server, e)),
@@ -126,9 +179,9 @@ pub(crate) fn next_record<K: Keeper, R: Stored>(
 
 /// The open transaction sees this record at the key.
 pub(crate) fn put_record<K: Keeper, R: Stored>(
-    alloc: Global,
     server: u32,
     keeper: &mut K,
+    buffers: &mut Buffers,
     table: R::Table,
     key: &R::Key,
     value: &R,
@@ -142,11 +195,10 @@ pub(crate) fn put_record<K: Keeper, R: Stored>(
     ensures fault { IfErr result (Halts server (K.kept keeper.old)
         (after_write (K.kept keeper.old) R.AREA) (K.kept keeper.new) NoDamage) }
 {
-    let mut spelled = Vec::with_capacity(alloc, ROOM)?;
-    R::put_key(key, &mut spelled)?;
-    let mut out = Vec::with_capacity(alloc, ROOM)?;
-    value.put(&mut out)?;
-    match keeper.put(R::AREA, table.table_number(), &spelled, &out) {
+    buffers.clear();
+    R::put_key(key, &mut buffers.key)?;
+    value.put(&mut buffers.value)?;
+    match keeper.put(R::AREA, table.table_number(), &buffers.key, &buffers.value) {
         Ok(()) => Ok(()),
         Err(e) => Err(fault_of(server, e)),
     }
@@ -154,9 +206,9 @@ pub(crate) fn put_record<K: Keeper, R: Stored>(
 
 /// The open transaction sees no record at the key. Tells whether there was one.
 pub(crate) fn remove_record<K: Keeper, R: Stored>(
-    alloc: Global,
     server: u32,
     keeper: &mut K,
+    buffers: &mut Buffers,
     table: R::Table,
     key: &R::Key,
 ) -> Result<bool, Fault>
@@ -168,9 +220,9 @@ pub(crate) fn remove_record<K: Keeper, R: Stored>(
     ensures fault { IfErr result (Halts server (K.kept keeper.old)
         (after_write (K.kept keeper.old) R.AREA) (K.kept keeper.new) NoDamage) }
 {
-    let mut spelled = Vec::with_capacity(alloc, ROOM)?;
-    R::put_key(key, &mut spelled)?;
-    match keeper.remove(R::AREA, table.table_number(), &spelled) {
+    buffers.clear();
+    R::put_key(key, &mut buffers.key)?;
+    match keeper.remove(R::AREA, table.table_number(), &buffers.key) {
         Ok(found) => Ok(found),
         Err(e) => Err(fault_of(server, e)),
     }

@@ -6,6 +6,7 @@ ghost use Rattle.keep_core.specs.Kept.{IsOpen, IsClosed, opened, committed, afte
 ghost use Rattle.keep_core.specs.Kept.{after_write, after_put, after_remove, seen, WasThere};
 ghost use Rattle.keep_core.specs.Kept.{Closes};
 
+use crate::buffers::Buffers;
 use crate::records::{begin_at, commit_at, get_record, next_record, put_record, remove_record};
 use faults::Fault;
 use keep_core::Keeper;
@@ -99,7 +100,8 @@ impl<K: Keeper> Site<K> {
         ensures closed { OnErr result (IsClosed (state K.kept self.new)) }
         ensures name { site_name self.new ≡ site_name self.old }
     {
-        match get_record(alloc, 0, &mut self.keeper, table, key) {
+        let mut buffers = Buffers::new(alloc);
+        match get_record(alloc, 0, &mut self.keeper, &mut buffers, table, key) {
             Ok(row) => Ok(row),
             Err(e) => {
                 self.keeper.rollback();
@@ -133,7 +135,8 @@ impl<K: Keeper> Site<K> {
         ensures closed { OnErr result (IsClosed (state K.kept self.new)) }
         ensures name { site_name self.new ≡ site_name self.old }
     {
-        match next_record(alloc, 0, &mut self.keeper, table, after) {
+        let mut buffers = Buffers::new(alloc);
+        match next_record(alloc, 0, &mut self.keeper, &mut buffers, table, after) {
             Ok(row) => Ok(row),
             Err(e) => {
                 self.keeper.rollback();
@@ -161,7 +164,8 @@ impl<K: Keeper> Site<K> {
         ensures closed { OnErr result (IsClosed (state K.kept self.new)) }
         ensures name { site_name self.new ≡ site_name self.old }
     {
-        match put_record(alloc, 0, &mut self.keeper, table, key, value) {
+        let mut buffers = Buffers::new(alloc);
+        match put_record(0, &mut self.keeper, &mut buffers, table, key, value) {
             Ok(()) => Ok(()),
             Err(e) => {
                 self.keeper.rollback();
@@ -189,7 +193,8 @@ impl<K: Keeper> Site<K> {
         ensures closed { OnErr result (IsClosed (state K.kept self.new)) }
         ensures name { site_name self.new ≡ site_name self.old }
     {
-        match remove_record::<K, R>(alloc, 0, &mut self.keeper, table, key) {
+        let mut buffers = Buffers::new(alloc);
+        match remove_record::<K, R>(0, &mut self.keeper, &mut buffers, table, key) {
             Ok(found) => Ok(found),
             Err(e) => {
                 self.keeper.rollback();

@@ -7,6 +7,7 @@ ghost use Rattle.site_store.specs.Servers.{names_of, held_of, work_of, faults_of
 ghost use Rattle.site_store.specs.Servers.{writes_of, AllClosed, AreApart, AreServers, IsPlace};
 ghost use Rattle.site_store.specs.Servers.{HasNone};
 
+use crate::buffers::Buffers;
 use crate::site::Site;
 use keep_core::Keeper;
 use repl_types::{List, Name};
@@ -32,6 +33,7 @@ pub enum SitesError {
 #[derive(Drop)]
 pub struct Sites<K> {
     list: Vec<Site<K>>,
+    buffers: Buffers,
     pub ghost servers: { AreServers (names_of list.items) },
 }
 
@@ -94,7 +96,8 @@ impl<K: Keeper> Sites<K> {
         if list.is_empty() || list.len() > SITE_LIMIT || !are_apart(&list) {
             return Err(SitesError::BadSites);
         }
-        Ok(Sites { list })
+        let buffers = Buffers::new(*list.allocator());
+        Ok(Sites { list, buffers })
     }
 
     /// How many servers there are.
@@ -125,7 +128,7 @@ impl<K: Keeper> Sites<K> {
     pub fn into_list(self) -> List<Site<K>>
         ensures { result ≡ list_of self }
     {
-        let Sites { list } = self;
+        let Sites { list, buffers: _ } = self;
         List::from_vec(list)
     }
 

@@ -75,7 +75,8 @@ impl<K: Keeper> Sites<K> {
             (AtServer server (Misread R.AREA damaged))) }
     {
         let site = &mut self.list[server as usize];
-        match get_record(alloc, server, &mut site.keeper, table, key) {
+        let buffers = &mut self.buffers;
+        match get_record(alloc, server, &mut site.keeper, buffers, table, key) {
             Ok(row) => Ok(row),
             Err(e) => {
                 self.rollback_all();
@@ -112,7 +113,8 @@ impl<K: Keeper> Sites<K> {
             (AtServer server (Misread R.AREA damaged))) }
     {
         let site = &mut self.list[server as usize];
-        match next_record(alloc, server, &mut site.keeper, table, after) {
+        let buffers = &mut self.buffers;
+        match next_record(alloc, server, &mut site.keeper, buffers, table, after) {
             Ok(row) => Ok(row),
             Err(e) => {
                 self.rollback_all();
@@ -124,7 +126,7 @@ impl<K: Keeper> Sites<K> {
     /// The server's open transaction sees this record at the key.
     pub fn put<R: Stored>(
         &mut self,
-        alloc: Global,
+        _alloc: Global,
         server: u32,
         table: R::Table,
         key: &R::Key,
@@ -140,7 +142,8 @@ impl<K: Keeper> Sites<K> {
             (AtServer server NoDamage)) }
     {
         let site = &mut self.list[server as usize];
-        match put_record(alloc, server, &mut site.keeper, table, key, value) {
+        let buffers = &mut self.buffers;
+        match put_record(server, &mut site.keeper, buffers, table, key, value) {
             Ok(()) => Ok(()),
             Err(e) => {
                 self.rollback_all();
@@ -152,7 +155,7 @@ impl<K: Keeper> Sites<K> {
     /// The server's open transaction sees no record at the key. Answers whether there was one.
     pub fn remove<R: Stored>(
         &mut self,
-        alloc: Global,
+        _alloc: Global,
         server: u32,
         table: R::Table,
         key: &R::Key,
@@ -167,7 +170,8 @@ impl<K: Keeper> Sites<K> {
             (AtServer server NoDamage)) }
     {
         let site = &mut self.list[server as usize];
-        match remove_record::<K, R>(alloc, server, &mut site.keeper, table, key) {
+        let buffers = &mut self.buffers;
+        match remove_record::<K, R>(server, &mut site.keeper, buffers, table, key) {
             Ok(found) => Ok(found),
             Err(e) => {
                 self.rollback_all();

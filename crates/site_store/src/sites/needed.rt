@@ -2,6 +2,7 @@
 
 ghost use Rattle.std.specs.Prelude.{◌≡◌, ◌<◌, Some, length, OnOk, IfOk, IfErr, IfSome};
 
+use crate::records::get_needed_record;
 use crate::sites::Sites;
 use faults::Fault;
 use keep_core::Keeper;
@@ -9,6 +10,7 @@ use repl_types::{DamageCause, List};
 use row_codec::Stored;
 use std::alloc::{AllocError, Global};
 
+/// The spelled key in a list of its own, since a fault keeps it.
 fn spell_key<R: Stored>(alloc: Global, key: &R::Key) -> Result<List<u8>, AllocError>
     ensures { IfOk result (λ bytes. bytes ≡ R.Key.spelling key.now) }
 {
@@ -17,6 +19,7 @@ fn spell_key<R: Stored>(alloc: Global, key: &R::Key) -> Result<List<u8>, AllocEr
     Ok(List::from_vec(spelled))
 }
 
+/// The spelled record in a list of its own, since a fault keeps it.
 fn spell_row<R: Stored>(alloc: Global, row: &R) -> Result<List<u8>, AllocError>
     requires { R.has_spelling row.now }
     ensures { IfOk result (λ bytes. bytes ≡ R.spelling row.now) }
@@ -81,9 +84,14 @@ impl<K: Keeper> Sites<K> {
             IfErr result (Fails K.kept self.old self.new (reads_of_one 1 server R.AREA)
             (AtServer server (MissesOrMisreads R.AREA missing damaged))) }
     {
-        match self.get::<R>(alloc, server, table, key)? {
-            None => Err(self.missing::<R>(alloc, server, key)),
-            Some(row) => Ok(row),
+        let site = &mut self.list[server as usize];
+        let buffers = &mut self.buffers;
+        match get_needed_record(alloc, server, &mut site.keeper, buffers, table, key) {
+            Ok(row) => Ok(row),
+            Err(e) => {
+                self.rollback_all();
+                Err(e)
+            }
         }
     }
 

@@ -1,10 +1,7 @@
-use Rattle.std.proofs.Common.{◌∙◌}
-use Rattle.keep_map.proofs.Sound.{sound_settled, kept_settled}
+use Rattle.keep_map.specs.Tables.{tables_of}
+use Rattle.keep_map.proofs.Disjoint.{apart_settled}
 use Rattle.keep_map.proofs.stored_rows.StoredRows.settle.Goals as goal
 
 pub invariant_of-self : goal.invariant_of-self
 invariant_of-self c =
-    record { sound = sound_settled c.loop-slot.self.map c.settle_row.new.map c.in-Some.slot c.args.keep c.loop-slot.self.touched.items c.pop.new.self.items c.in-Some.ensures.items c.settle_row.ensures c.loop-slot.self.sound }
-
-pub loop-slot-preserved : goal.loop-slot-preserved
-loop-slot-preserved c = λ p. kept_settled c.loop-slot.self.map c.settle_row.new.map c.in-Some.slot c.args.keep c.settle_row.ensures p ∙ c.loop-slot.invariant p
+    record { disjoint = apart_settled (tables_of c.args.self.now.runs.map) (tables_of c.settle.new.self.map) c.args.self.now.others.map c.settle-2.new.self.map c.args.keep c.settle.ensures c.settle-2.ensures.seen c.settle-2.ensures.held c.args.self.now.disjoint }

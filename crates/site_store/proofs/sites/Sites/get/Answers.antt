@@ -6,7 +6,7 @@ pub invariant_of-self : goal.invariant_of-self
 invariant_of-self g c = record { servers = servers_stay g.K.Keeper.kept c.args.self.now c.args.server c.index_mut-site.result.now c.requires c.index_mut-site.ensures.value c.get_record.new.keeper }
 
 pub returns-in-Ok-clause-ok : goal.returns-in-Ok-clause-ok
-returns-in-Ok-clause-ok g c = reads g.K.Keeper.kept c.args.self.now c.args.server c.index_mut-site.result.now c.requires c.index_mut-site.ensures.value c.get_record.new.keeper _ g.R.Stored.AREA c.in-Ok.ensures.ok
+returns-in-Ok-clause-ok g c = reads g.K.Keeper.kept c.args.self.now c.args.server c.index_mut-site.result.now c.requires c.index_mut-site.ensures.value c.get_record.new.keeper c.get_record.new.buffers _ g.R.Stored.AREA c.in-Ok.ensures.ok
 
 pub returns-in-Err-clause-fault : goal.returns-in-Err-clause-fault
-returns-in-Err-clause-fault g c = read_fails g.K.Keeper.kept c.args.self.now c.args.server c.index_mut-site.result.now c.requires c.index_mut-site.ensures.value c.get_record.new.keeper _ c.rollback_all.new.self c.rollback_all.ensures g.R.Stored.AREA (λ saw. Misread g.R.Stored.AREA (Misspelt g.R.Part.fits g.R.Part.spelling g.R.Stored.AREA (g.R.Table.TableNumber.number c.args.table) (g.R.Key.Key.spelling c.args.key.now) saw)) c.in-Err.e c.in-Err.ensures.fault
+returns-in-Err-clause-fault g c = read_fails g.K.Keeper.kept c.args.self.now c.args.server c.index_mut-site.result.now c.requires c.index_mut-site.ensures.value c.get_record.new.keeper c.get_record.new.buffers _ c.rollback_all.new.self c.rollback_all.ensures g.R.Stored.AREA (λ saw. Misread g.R.Stored.AREA (Misspelt g.R.Part.fits g.R.Part.spelling g.R.Stored.AREA (g.R.Table.TableNumber.number c.args.table) (g.R.Key.Key.spelling c.args.key.now) saw)) c.in-Err.e c.in-Err.ensures.fault
