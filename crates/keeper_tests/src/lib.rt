@@ -11,6 +11,8 @@ mod memory;
 #[cfg(test)]
 mod order_of_keys;
 #[cfg(test)]
+mod random_calls;
+#[cfg(test)]
 mod sinks;
 #[cfg(test)]
 mod sites;
