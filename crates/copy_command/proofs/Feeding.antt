@@ -8,13 +8,13 @@ use Rattle.run_core.specs.laws.Runs.{refused_append, went_both, stopped_in_first
 use Rattle.site_store.specs.Views.{names, held}
 use Rattle.site_store.specs.declared.sites.Sites.{Sites}
 use Rattle.world_store.specs.Stands.{Stands}
-use Rattle.run_parts.specs.Parts.{Happened, StoppedIn}
-use Rattle.run_parts.specs.laws.Parts.{happened_since, stopped_since}
-use Rattle.unwritten_parts.specs.Unwritten.{unwritten}
-use Rattle.unwritten_parts.specs.laws.Sinks.{kept_lines}
-use Rattle.unwritten_parts.specs.laws.Unwritten.{unwritten_refused, went_unwritten, stopped_unwritten}
-use Rattle.copy_feed.specs.FedInput.{input_events}
-use Rattle.copy_feed.specs.laws.Refusals.{input_silent}
+use Rattle.run_commands.specs.parts.Parts.{Happened, StoppedIn}
+use Rattle.run_commands.specs.parts.laws.Parts.{happened_since, stopped_since}
+use Rattle.copy_command.specs.unwritten.Unwritten.{unwritten}
+use Rattle.copy_command.specs.unwritten.laws.Sinks.{kept_lines}
+use Rattle.copy_command.specs.unwritten.laws.Unwritten.{unwritten_refused, went_unwritten, stopped_unwritten}
+use Rattle.copy_command.specs.fed.FedInput.{input_events}
+use Rattle.copy_command.specs.fed.laws.Refusals.{input_silent}
 use Rattle.copy_command.specs.CopyEvents.{shown_events, fed_events}
 use Rattle.copy_command.specs.Reading.{ReadsAll, StopsReading}
 use Rattle.copy_command.specs.Showing.{KeepsRefusals}

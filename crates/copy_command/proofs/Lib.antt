@@ -1,3 +1,7 @@
+mod Ends
+mod FedLines
 mod Feeding
+mod FirstLines
+mod Going
 mod Reading
 mod Refusals

@@ -6,8 +6,8 @@ use Rattle.repl_model.specs.World.{World}
 use Rattle.run_core.specs.Runs.{Event}
 use Rattle.site_store.specs.Views.{names}
 use Rattle.site_store.specs.declared.sites.Sites.{Sites}
-use Rattle.run_parts.specs.Parts.{then_events, Happened, StoppedIn}
-use Rattle.run_parts.specs.laws.Parts.{happened_both, stopped_first, stopped_second}
+use Rattle.run_commands.specs.parts.Parts.{then_events, Happened, StoppedIn}
+use Rattle.run_commands.specs.parts.laws.Parts.{happened_both, stopped_first, stopped_second}
 use Rattle.copy_command.specs.Reading.{ReadsAll, StopsReading}
 
 module _ {K : Type 0} (kept : K → Kept) (s0 s1 s2 : Sites K) (same : names s1 ≡ names s0) (t u : Option (List ℕ)) (first : World → List (Event World)) (rest : List ℕ → World → List (Event World)) where

@@ -6,10 +6,10 @@ use Rattle.keep_core.specs.Revealed.{Takes, TakesPrefix}
 use Rattle.repl_model.specs.World.{World}
 use Rattle.run_core.specs.Runs.{Event, is_refused, lines_of}
 use Rattle.site_store.specs.declared.sites.Sites.{Sites}
-use Rattle.run_parts.specs.Parts.{Happened, StoppedIn}
-use Rattle.run_parts.specs.laws.Parts.{happened_quiet, stopped_quietly}
-use Rattle.unwritten_parts.specs.Unwritten.{refusals_in}
-use Rattle.unwritten_parts.specs.laws.Refusals.{HasNoReplies, refusal_lines, refusals_refused, refusals_quiet, no_refusals}
+use Rattle.run_commands.specs.parts.Parts.{Happened, StoppedIn}
+use Rattle.run_commands.specs.parts.laws.Parts.{happened_quiet, stopped_quietly}
+use Rattle.copy_command.specs.unwritten.Unwritten.{refusals_in}
+use Rattle.copy_command.specs.unwritten.laws.Refusals.{HasNoReplies, refusal_lines, refusals_refused, refusals_quiet, no_refusals}
 use Rattle.copy_command.specs.Showing.{lines_if, KeepsRefusals}
 
 -- a feed whose lines were kept keeps those of its refusals, if it wrote no others once it refused something

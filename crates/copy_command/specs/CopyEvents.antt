@@ -5,13 +5,13 @@ use Rattle.std.specs.Prelude.{ℕ, codes, List, Some, None}
 use Rattle.repl_types.specs.declared.record.SetId.{SetId}
 use Rattle.repl_model.specs.World.{World}
 use Rattle.run_core.specs.Runs.{Event}
-use Rattle.run_parts.specs.Parts.{then_events}
-use Rattle.load_command.specs.LoadEvents.{load_text_events}
-use Rattle.capture_command.specs.CaptureEvents.{capture_events}
-use Rattle.apply_command.specs.StepEvents.{apply_events}
-use Rattle.target_command.specs.TargetEvents.{target_events}
-use Rattle.unwritten_parts.specs.Unwritten.{unwritten, refusals_in}
-use Rattle.copy_feed.specs.FedInput.{input_events}
+use Rattle.run_commands.specs.parts.Parts.{then_events}
+use Rattle.run_commands.specs.load.LoadEvents.{load_text_events}
+use Rattle.run_commands.specs.capture.CaptureEvents.{capture_events}
+use Rattle.run_commands.specs.apply.StepEvents.{apply_events}
+use Rattle.run_commands.specs.target.TargetEvents.{target_events}
+use Rattle.copy_command.specs.unwritten.Unwritten.{unwritten, refusals_in}
+use Rattle.copy_command.specs.fed.FedInput.{input_events}
 
 -- the definitions of the copy: a table of items at the source, and a set of one user copy of it at the target
 abbrev pub copy_text : List ℕ

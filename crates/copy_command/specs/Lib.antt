@@ -1,3 +1,5 @@
 pub mod CopyEvents
 pub mod Reading
 pub mod Showing
+pub mod unwritten
+pub mod fed

@@ -2,7 +2,7 @@
 use Rattle.std.specs.Prelude.{◌≡◌, ℕ, Bool, if◌then◌else◌, List, []}
 use Rattle.repl_model.specs.World.{World}
 use Rattle.run_core.specs.Runs.{Event, is_refused, lines_of}
-use Rattle.unwritten_parts.specs.Unwritten.{refusals_in}
+use Rattle.copy_command.specs.unwritten.Unwritten.{refusals_in}
 
 -- these lines, if they are of a refusal
 abbrev pub lines_if : Bool → List ℕ → List ℕ

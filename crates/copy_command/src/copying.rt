@@ -7,20 +7,20 @@ ghost use Rattle.site_store.specs.Servers.{AllClosed};
 ghost use Rattle.site_store.specs.Views.{names, held, work};
 ghost use Rattle.site_store.specs.Calls.{KeepsServers};
 ghost use Rattle.world_store.specs.Stands.{Stands};
-ghost use Rattle.run_parts.specs.Causes.{BlamesServers, HasEnded};
-ghost use Rattle.run_parts.specs.ExitStatus.{status_of_error};
+ghost use Rattle.run_commands.specs.parts.Causes.{BlamesServers, HasEnded};
+ghost use Rattle.run_commands.specs.parts.ExitStatus.{status_of_error};
 ghost use Rattle.copy_command.specs.CopyEvents.{fed_events, brought_events, copy_events};
 ghost use Rattle.copy_command.specs.Reading.{ReadsAll, StopsReading};
 
+use crate::fed::feed_input;
 use crate::given::source_name;
 use crate::showing::show_fed;
 use crate::silent::{apply_items, load_items};
-use copy_feed::feed_input;
+use crate::unwritten::KeptLines;
 use keep_core::{Keeper, Sink, Source};
-use run_parts::RunError;
+use run_commands::parts::RunError;
 use site_store::Sites;
 use std::alloc::Global;
-use unwritten_parts::KeptLines;
 
 /// Feeds the lines of the input, and brings what was fed to the copy and writes it. Says whether
 /// something was refused.

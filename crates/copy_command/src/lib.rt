@@ -4,16 +4,18 @@
 //! script: definitions are loaded at the servers `src` and `dst` and applied, each line of the
 //! input is fed at `src`, captured and applied, and the copy at `dst` is shown. Of the lines of
 //! these commands only those of the copy are written, and then the one of a refused line. It stands
-//! on the crates of the commands, on `copy_feed`, which feeds the lines, and on `unwritten_parts`,
-//! by whose sinks the other lines are left out. `session_core` carries out `copy` by it.
+//! on `run_commands`; `fed` feeds the lines, and by the sinks of `unwritten` the other lines are left
+//! out. `session_core` carries out `copy` by it.
 //!
 //! For example, at the lines `insert 1 items 7 'pen'` and `commit 1 ann 100` it writes the lines
 //! `row 7 'pen'` and `ok rows 1`, and nothing is refused.
 #![tactic(auto)]
 
 mod copying;
+mod fed;
 mod given;
 mod showing;
 mod silent;
+mod unwritten;
 
 pub use copying::copy_items;

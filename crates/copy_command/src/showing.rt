@@ -8,19 +8,19 @@ ghost use Rattle.run_core.specs.Runs.{Event};
 ghost use Rattle.site_store.specs.Servers.{AllClosed};
 ghost use Rattle.site_store.specs.Views.{work};
 ghost use Rattle.site_store.specs.Calls.{KeepsServers};
-ghost use Rattle.run_parts.specs.Causes.{IsOfOutput, PartHasCause};
-ghost use Rattle.run_parts.specs.Parts.{Happened, StoppedIn};
-ghost use Rattle.target_command.specs.TargetEvents.{target_events};
+ghost use Rattle.run_commands.specs.parts.Causes.{IsOfOutput, PartHasCause};
+ghost use Rattle.run_commands.specs.parts.Parts.{Happened, StoppedIn};
+ghost use Rattle.run_commands.specs.target.TargetEvents.{target_events};
 ghost use Rattle.copy_command.specs.CopyEvents.{written_events, applied_events, shown_events};
 ghost use Rattle.copy_command.specs.Showing.{lines_if, KeepsRefusals};
 
 use crate::given::{copy_name, target_name};
 use crate::silent::{apply_items, capture_items};
 use keep_core::{Keeper, Sink, write_line};
-use run_parts::RunError;
+use run_commands::parts::RunError;
+use run_commands::target::show_target_rows;
 use site_store::Sites;
 use std::alloc::Global;
-use target_command::show_target_rows;
 
 /// Writes the rows of the copy, and says whether it was refused.
 fn show_items<K: Keeper, O: Sink>(

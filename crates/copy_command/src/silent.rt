@@ -5,23 +5,23 @@ ghost use Rattle.std.specs.Prelude.{IfErr, OnOk, OnErr};
 ghost use Rattle.site_store.specs.Servers.{AllClosed};
 ghost use Rattle.site_store.specs.Views.{work};
 ghost use Rattle.site_store.specs.Calls.{KeepsServers};
-ghost use Rattle.run_parts.specs.Causes.{PartHasCause};
-ghost use Rattle.run_parts.specs.Parts.{Happened, StoppedIn};
-ghost use Rattle.load_command.specs.LoadEvents.{load_text_events};
-ghost use Rattle.capture_command.specs.CaptureEvents.{capture_events};
-ghost use Rattle.apply_command.specs.StepEvents.{apply_events};
+ghost use Rattle.run_commands.specs.parts.Causes.{PartHasCause};
+ghost use Rattle.run_commands.specs.parts.Parts.{Happened, StoppedIn};
+ghost use Rattle.run_commands.specs.load.LoadEvents.{load_text_events};
+ghost use Rattle.run_commands.specs.capture.CaptureEvents.{capture_events};
+ghost use Rattle.run_commands.specs.apply.StepEvents.{apply_events};
 ghost use Rattle.copy_command.specs.CopyEvents.{copy_text as copy_text_lem};
 ghost use Rattle.copy_command.specs.CopyEvents.{copy_set as copy_set_lem, silent};
 
 use crate::given::{copy_set, copy_text, source_name};
-use apply_command::apply_set;
-use capture_command::capture_server;
+use crate::unwritten::Unwritten;
 use keep_core::Keeper;
-use load_command::load_text;
-use run_parts::RunError;
+use run_commands::apply::apply_set;
+use run_commands::capture::capture_server;
+use run_commands::load::load_text;
+use run_commands::parts::RunError;
 use site_store::Sites;
 use std::alloc::Global;
-use unwritten_parts::Unwritten;
 
 /// Loads the definitions of the copy.
 pub fn load_items<K: Keeper>(alloc: Global, sites: &mut Sites<K>) -> Result<(), RunError>

@@ -1,6 +1,6 @@
 //! Log records as lines of text: each record has one line, which is written and read.
 //!
-//! It stands on `repl_types`, whose records and texts of values it uses; `feed_command` reads the
+//! It stands on `repl_types`, whose records and texts of values it uses; `run_commands` reads the
 //! lines of a feed by it, and `reply_text` writes those of a log. The reader takes only the records
 //! that a user may give. Its contract compares it with definitions over a whole line
 //! (`specs/Records.antt`), the writer's with the words of a record (`specs/RecordText.antt`), and a

@@ -13,8 +13,8 @@ use Rattle.script_lines.specs.declared.script.Script.{Script}
 use Rattle.site_store.specs.Views.{names, held}
 use Rattle.site_store.specs.declared.sites.Sites.{Sites}
 use Rattle.world_store.specs.Stands.{Stands}
-use Rattle.run_parts.specs.Parts.{Happened, StoppedIn}
-use Rattle.run_parts.specs.laws.Parts.{happened_since, stopped_since}
+use Rattle.run_commands.specs.parts.Parts.{Happened, StoppedIn}
+use Rattle.run_commands.specs.parts.laws.Parts.{happened_since, stopped_since}
 use Rattle.session_core.specs.Answers.{Answers}
 use Rattle.session_core.specs.Lines.{GoesOn}
 use Rattle.session_core.specs.Talk.{line_events, bodies_after, end_events, script_events}

@@ -8,14 +8,14 @@ use Rattle.run_core.specs.Runs.{Event}
 use Rattle.site_store.specs.Views.{names, held}
 use Rattle.site_store.specs.declared.sites.Sites.{Sites}
 use Rattle.world_store.specs.Stands.{Stands}
-use Rattle.run_parts.specs.Parts.{Happened}
+use Rattle.run_commands.specs.parts.Parts.{Happened}
 use Rattle.session_core.specs.Answers.{Answers}
 use Rattle.script_lines.specs.Script.{next_kind, line_number, waiting}
 use Rattle.script_lines.specs.declared.kind.LineKind.{LineKind}
 use Rattle.script_lines.specs.declared.script.Script.{Script}
 use Rattle.script_text.specs.Asked.{takes_body}
-use Rattle.feed_command.specs.Feeds.{IsFeed}
-use Rattle.feed_command.specs.declared.feed.Feed.{Feed}
+use Rattle.run_commands.specs.feed.Feeds.{IsFeed}
+use Rattle.run_commands.specs.declared.feed.feed.Feed.{Feed}
 use Rattle.session_core.specs.Bodies.{IfFeed, KeepsBodies, unfed, after_long_body}
 use Rattle.session_core.specs.declared.bodies.Bodies.{Bodies}
 use Rattle.session_core.specs.declared.bodies.Bodies.TheVariants.{Refused, Skipped, Gathered, Fed}

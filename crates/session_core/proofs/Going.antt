@@ -13,7 +13,7 @@ use Rattle.script_lines.specs.Lines.{ScriptLine, script_of}
 use Rattle.script_lines.specs.Script.{next_kind, line_number, line_text, next_line, line_of, lines_left}
 use Rattle.script_lines.specs.declared.kind.LineKind.{LineKind}
 use Rattle.script_lines.specs.declared.script.Script.{Script}
-use Rattle.run_parts.specs.Parts.{then_events}
+use Rattle.run_commands.specs.parts.Parts.{then_events}
 use Rattle.session_core.specs.Talk.{line_events, bodies_after, end_events, talk, script_events}
 use Rattle.session_core.specs.Lines.{IsGoing, GoesOn}
 use Rattle.session_core.specs.declared.bodies.Bodies.{Bodies}

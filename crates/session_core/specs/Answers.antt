@@ -6,7 +6,7 @@ use Rattle.run_core.specs.Runs.{Event}
 use Rattle.site_store.specs.Views.{names, held}
 use Rattle.site_store.specs.declared.sites.Sites.{Sites}
 use Rattle.world_store.specs.Stands.{Stands}
-use Rattle.run_parts.specs.Parts.{Happened}
+use Rattle.run_commands.specs.parts.Parts.{Happened}
 use Rattle.session_core.specs.Bodies.{KeepsBodies}
 use Rattle.session_core.specs.declared.bodies.Answer.{Answer}
 use Rattle.session_core.specs.declared.bodies.Bodies.{Bodies}

@@ -4,9 +4,9 @@ use Rattle.std.specs.Option.{option_map_or}
 use Rattle.repl_commands.specs.declared.command.Command.TheVariants as commands
 use Rattle.repl_model.specs.World.{World}
 use Rattle.script_text.specs.Asked.{Asked, asks, unknown, bad, takes_body}
-use Rattle.feed_command.specs.Feeds.{IsFeed}
-use Rattle.feed_command.specs.FeedEvents.{begun, feed_after}
-use Rattle.feed_command.specs.declared.feed.Feed.{Feed}
+use Rattle.run_commands.specs.feed.Feeds.{IsFeed}
+use Rattle.run_commands.specs.feed.FeedEvents.{begun, feed_after}
+use Rattle.run_commands.specs.declared.feed.feed.Feed.{Feed}
 use Rattle.session_core.specs.declared.bodies.Bodies.{Bodies}
 use Rattle.session_core.specs.declared.bodies.Bodies.TheVariants.{Refused, Skipped, Gathered, Fed}
 

@@ -11,13 +11,13 @@ use Rattle.repl_model.specs.World.{World}
 use Rattle.run_core.specs.Runs.{Event}
 use Rattle.script_text.specs.Words.{first_word}
 use Rattle.script_text.specs.Asked.{Asked, asks, unknown, bad, asked_by}
-use Rattle.run_parts.specs.Refusing.{refused}
-use Rattle.apply_command.specs.StepEvents.{step_events, apply_events}
-use Rattle.capture_command.specs.CaptureEvents.{capture_events}
-use Rattle.feed_command.specs.FeedEvents.{begin_events}
-use Rattle.show_command.specs.ShowEvents.{source_events, log_events, changes_events, units_events}
-use Rattle.status_command.specs.StatusEvents.{status_events}
-use Rattle.target_command.specs.TargetEvents.{set_events, target_events}
+use Rattle.run_commands.specs.parts.Refusing.{refused}
+use Rattle.run_commands.specs.apply.StepEvents.{step_events, apply_events}
+use Rattle.run_commands.specs.capture.CaptureEvents.{capture_events}
+use Rattle.run_commands.specs.feed.FeedEvents.{begin_events}
+use Rattle.run_commands.specs.show.ShowEvents.{source_events, log_events, changes_events, units_events}
+use Rattle.run_commands.specs.status.StatusEvents.{status_events}
+use Rattle.run_commands.specs.target.TargetEvents.{set_events, target_events}
 
 -- ---- which commands are carried out
 

@@ -9,7 +9,7 @@ use Rattle.run_words.specs.Openings.{AreWordsOf}
 use Rattle.repl_model.specs.World.{World}
 use Rattle.run_core.specs.Runs.{Event, Went, is_refused}
 use Rattle.copy_command.specs.CopyEvents.{copy_events}
-use Rattle.run_parts.specs.ExitStatus.{status_of_done}
+use Rattle.run_commands.specs.parts.ExitStatus.{status_of_done}
 use Rattle.session_core.specs.Talk.{script_events}
 
 -- ---- what the words ask for

@@ -6,11 +6,11 @@ use Rattle.run_core.specs.Runs.{Event, last_world}
 use Rattle.script_lines.specs.Lines.{ScriptLine, command, body, long_command, long_body, script_of}
 use Rattle.script_text.specs.Asked.{asked_by}
 use Rattle.session_core.specs.Bodies.{after_asked, after_body, after_long_body}
-use Rattle.run_parts.specs.Parts.{then_events}
-use Rattle.run_parts.specs.Refusing.{refused}
+use Rattle.run_commands.specs.parts.Parts.{then_events}
+use Rattle.run_commands.specs.parts.Refusing.{refused}
 use Rattle.session_core.specs.Commands.{command_line_events}
-use Rattle.load_command.specs.LoadEvents.{load_text_events}
-use Rattle.feed_command.specs.FeedEvents.{feed_line_events, feed_end_events, refused_events}
+use Rattle.run_commands.specs.load.LoadEvents.{load_text_events}
+use Rattle.run_commands.specs.feed.FeedEvents.{feed_line_events, feed_end_events, refused_events}
 use Rattle.session_core.specs.declared.bodies.Bodies.{Bodies}
 use Rattle.session_core.specs.declared.bodies.Bodies.TheVariants.{Refused, Skipped, Gathered, Fed}
 

@@ -6,8 +6,8 @@ ghost use Rattle.session_core.specs.Bodies.{gather as gather_lem, unfed as unfed
 ghost use Rattle.session_core.specs.Bodies.{after_long_body as after_long_body_lem};
 ghost use Rattle.session_core.specs.declared.bodies.Bodies.TheVariants.{Fed as FedBody, Skipped};
 
-use feed_command::Feed;
 use repl_types::List;
+use run_commands::feed::Feed;
 use script_text::takes_body;
 use std::alloc::AllocError;
 

@@ -5,20 +5,20 @@ ghost use Rattle.line_input.specs.Limits.{input_limit};
 ghost use Rattle.site_store.specs.Servers.{AllClosed};
 ghost use Rattle.site_store.specs.Views.{work};
 ghost use Rattle.site_store.specs.Calls.{KeepsServers};
-ghost use Rattle.run_parts.specs.Causes.{PartHasCause};
-ghost use Rattle.run_parts.specs.Parts.{Happened, StoppedIn};
+ghost use Rattle.run_commands.specs.parts.Causes.{PartHasCause};
+ghost use Rattle.run_commands.specs.parts.Parts.{Happened, StoppedIn};
 ghost use Rattle.session_core.specs.Answers.{Answers};
-ghost use Rattle.feed_command.specs.Feeds.{IsFeed};
+ghost use Rattle.run_commands.specs.feed.Feeds.{IsFeed};
 ghost use Rattle.session_core.specs.Bodies.{IfFeed, KeepsBodies, after_body};
 ghost use Rattle.session_core.specs.Bodies.{after_long_body as after_long_body_lem};
 ghost use Rattle.session_core.specs.Talk.{end_events, body_events, long_body_events};
 
 use crate::bodies::{Answer, Bodies, after_long_body, fed, gather, without_mark};
-use feed_command::{end_feed, feed_line, refuse_line};
 use keep_core::{Keeper, Sink};
-use load_command::load_text;
 use repl_types::Refusal;
-use run_parts::{RunError, refuse};
+use run_commands::feed::{end_feed, feed_line, refuse_line};
+use run_commands::load::load_text;
+use run_commands::parts::{RunError, refuse};
 use site_store::Sites;
 use std::alloc::Global;
 

@@ -6,7 +6,7 @@ ghost use Rattle.script_text.specs.Asked.{asked_by};
 ghost use Rattle.site_store.specs.Servers.{AllClosed};
 ghost use Rattle.site_store.specs.Views.{work};
 ghost use Rattle.site_store.specs.Calls.{KeepsServers};
-ghost use Rattle.run_parts.specs.Causes.{PartHasCause};
+ghost use Rattle.run_commands.specs.parts.Causes.{PartHasCause};
 ghost use Rattle.session_core.specs.Commands.{begins_with_carried_out_verb as begins_with_lem};
 ghost use Rattle.session_core.specs.Commands.{bad_line_refusal as bad_line_refusal_lem};
 ghost use Rattle.session_core.specs.Commands.{command_events, command_line_events};
@@ -14,25 +14,25 @@ ghost use Rattle.session_core.specs.Commands.{takes_no_body};
 ghost use Rattle.session_core.specs.Answers.{Answers};
 ghost use Rattle.session_core.specs.Bodies.{after_asked, unfed as unfed_lem};
 ghost use Rattle.session_core.specs.declared.bodies.Bodies.TheVariants.{Fed as FedBody, Skipped};
-ghost use Rattle.run_parts.specs.Parts.{Happened, StoppedIn};
-ghost use Rattle.run_parts.specs.Refusing.{refused as refused_lem};
-ghost use Rattle.feed_command.specs.FeedEvents.{begin_events, begun};
+ghost use Rattle.run_commands.specs.parts.Parts.{Happened, StoppedIn};
+ghost use Rattle.run_commands.specs.parts.Refusing.{refused as refused_lem};
+ghost use Rattle.run_commands.specs.feed.FeedEvents.{begin_events, begun};
 
 use crate::bodies::{Answer, Bodies, fed, unfed};
-use apply_command::{apply_set, step_set};
-use capture_command::capture_server;
-use feed_command::begin_feed;
 use keep_core::{Keeper, Sink};
 use repl_commands::{Command, LineError};
 use repl_types::{List, Name, Refusal};
-use run_parts::{RunError, refuse};
+use run_commands::apply::{apply_set, step_set};
+use run_commands::capture::capture_server;
+use run_commands::feed::begin_feed;
+use run_commands::parts::{RunError, refuse};
+use run_commands::show::{show_change_rows, show_log_records, show_source_rows, show_unit_rows};
+use run_commands::status::show_status;
+use run_commands::target::{show_set_status, show_target_rows};
 use script_text::{first_word, read_line};
-use show_command::{show_change_rows, show_log_records, show_source_rows, show_unit_rows};
 use site_store::Sites;
-use status_command::show_status;
 use std::alloc::Global;
 use std::str;
-use target_command::{show_set_status, show_target_rows};
 
 /// Whether the first word of a line is that of a command of which some form is carried out.
 fn begins_with_carried_out_verb(line: &[u8]) -> bool

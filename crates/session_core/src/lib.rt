@@ -2,12 +2,11 @@
 //! output, and answers the status of the run.
 //!
 //! Below it are `run_words`, which reads the words, `script_lines` and `script_text`, which read
-//! the lines of a script, the commands, each in a crate of its own (`load_command`, `feed_command`,
-//! `capture_command`, `apply_command`, `show_command`, `status_command`, `target_command`),
-//! `run_parts`, which has the contract that they share, and `copy_command`, which carries out
-//! `copy`. `world_store` and `run_core` have the definitions that say what a run does to the
-//! servers. Above it, `sqlrep` calls `session` with the standard streams. The contract of `session`
-//! is what the program promises; `docs/MODEL.md` says its definitions in words.
+//! the lines of a script, `run_commands`, which has the commands and the contract that they share,
+//! and `copy_command`, which carries out `copy`. `world_store` and `run_core` have the definitions
+//! that say what a run does to the servers. Above it, `sqlrep` calls `session` with the standard
+//! streams. The contract of `session` is what the program promises; `docs/MODEL.md` says its
+//! definitions in words.
 //!
 //! For example, at the word `copy` the input lines `insert 1 items 7 'pen'` and `commit 1 ann 100`
 //! give the output lines `row 7 'pen'` and `ok rows 1`, and the status `Ok`. At the word `hq=:map:`
@@ -23,7 +22,7 @@ ghost use Rattle.run_core.specs.Runs.{Stopped};
 ghost use Rattle.run_words.specs.declared.opening.Opening.{Opening};
 ghost use Rattle.site_store.specs.Servers.{AllClosed};
 ghost use Rattle.site_store.specs.Views.{names, held, work};
-ghost use Rattle.run_parts.specs.Causes.{HasCause};
+ghost use Rattle.run_commands.specs.parts.Causes.{HasCause};
 ghost use Rattle.world_store.specs.Stands.{Stands};
 ghost use Rattle.session_core.specs.Session.{Asks, run_events, is_done, Ran};
 
@@ -41,7 +40,7 @@ use keep_core::{Keeper, Sink, Source};
 pub use laws::first_words_of_commands;
 use repl_commands::WordsError;
 use repl_types::Status;
-use run_parts::{done_status, error_status};
+use run_commands::parts::{done_status, error_status};
 use run_words::one_opening_of_words;
 use site_store::Sites;
 use std::alloc::Global;

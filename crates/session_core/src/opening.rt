@@ -5,15 +5,15 @@ ghost use Rattle.repl_model.specs.World.{World};
 ghost use Rattle.run_core.specs.Runs.{Went, Stopped, is_refused};
 ghost use Rattle.site_store.specs.Servers.{AllClosed};
 ghost use Rattle.site_store.specs.Views.{names, held, work};
-ghost use Rattle.run_parts.specs.Causes.{BlamesServers, HasEnded};
-ghost use Rattle.run_parts.specs.ExitStatus.{status_of_error};
+ghost use Rattle.run_commands.specs.parts.Causes.{BlamesServers, HasEnded};
+ghost use Rattle.run_commands.specs.parts.ExitStatus.{status_of_error};
 ghost use Rattle.world_store.specs.Stands.{Stands};
 ghost use Rattle.session_core.specs.Session.{run_events};
 
 use crate::script::run_script;
 use copy_command::copy_items;
 use keep_core::{Keeper, Sink, Source};
-use run_parts::RunError;
+use run_commands::parts::RunError;
 use run_words::Opening;
 use site_store::Sites;
 use std::alloc::Global;

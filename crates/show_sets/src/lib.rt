@@ -10,7 +10,7 @@
 //! The crate stands on `site_store`, by which it reads, on `set_places`, which finds a set, on
 //! `subs_sets` and `prune_control`, which read how far it is, on `show_source`, which writes the
 //! records of a table, on `apply_copies`, which says what holds of the rows of a copy, and on
-//! `reply_text`, which writes the lines. `target_command` carries out commands by it.
+//! `reply_text`, which writes the lines. `run_commands` carries out commands by it.
 //!
 //! For example, the set `q/s` was refreshed at 3, and a block took its targets to 8, of which its
 //! source doesn't know yet. The line that `show_set` writes of it begins with

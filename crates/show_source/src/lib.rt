@@ -10,7 +10,7 @@
 //!
 //! The crate stands on `site_store`, by which it reads, on `world_store`, which says what a server
 //! of a world keeps, on `log_rows`, `stored_defs` and `cd_tables`, which say what holds of these
-//! rows, and on `reply_text`, which writes the lines. `show_command` carries out the commands by
+//! rows, and on `reply_text`, which writes the lines. `run_commands` carries out the commands by
 //! it. `show_records` writes the records of any table of a kind whose lines `ShownRecord` says;
 //! `show_sets` shows user copies by it.
 //!

@@ -7,7 +7,7 @@
 //! `set_state` the stored state of any set, `trail_entry` an entry of its trail, `unit_time` the
 //! time of a captured unit, and `captured_point` how far the source is captured. Nothing is
 //! changed. It stands on `set_places`, which finds a set, on `prune_control`, which reads its mark,
-//! and on `site_store`. `apply_command` uses it, and the crates that make the actions.
+//! and on `site_store`. `run_commands` uses it, and the crates that make the actions.
 //!
 //! For example, the targets of a set have reached 3, and its source has captured up to 12. If no
 //! change row above 3 was pruned, and the set has no limit on a block, its next action is a block

@@ -5,7 +5,7 @@ use Rattle.run_words.specs.declared.opening.Opening.{Opening}
 use Rattle.site_store.specs.Views.{names, held}
 use Rattle.world_store.specs.Stands.{Stands}
 use Rattle.session_core.specs.Session.{run_events}
-use Rattle.run_parts.specs.laws.Exits.{nothing_yet}
+use Rattle.run_commands.specs.parts.laws.Exits.{nothing_yet}
 use Rattle.session_core.proofs.session.Goals as goal
 
 pub returns-in-Err-Memory-clause-stopped : goal.returns-in-Err-Memory-clause-stopped

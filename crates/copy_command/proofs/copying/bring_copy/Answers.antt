@@ -1,9 +1,9 @@
 use Rattle.std.proofs.Common.{false}
 use Rattle.std.proofs.lemmas.Result.{err_from_is_err_and}
-use Rattle.run_parts.specs.laws.Exits.{on_err}
-use Rattle.run_parts.specs.laws.Parts.{keeps_both, stands_after}
-use Rattle.apply_command.specs.StepEvents.{apply_events}
-use Rattle.unwritten_parts.specs.laws.Causes.{part_blamed, servers_later}
+use Rattle.run_commands.specs.parts.laws.Exits.{on_err}
+use Rattle.run_commands.specs.parts.laws.Parts.{keeps_both, stands_after}
+use Rattle.run_commands.specs.apply.StepEvents.{apply_events}
+use Rattle.copy_command.specs.unwritten.laws.Causes.{part_blamed, servers_later}
 use Rattle.copy_command.specs.CopyEvents.{copy_set, silent, fed_events}
 use Rattle.copy_command.proofs.Reading.{reads_after, stops_after, stops_first}
 use Rattle.copy_command.proofs.copying.bring_copy.Goals as goal

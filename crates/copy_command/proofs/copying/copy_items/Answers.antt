@@ -1,10 +1,10 @@
 use Rattle.std.proofs.Common.{false}
 use Rattle.std.specs.Prelude.{Some}
 use Rattle.std.proofs.lemmas.Result.{err_from_is_err_and}
-use Rattle.run_parts.specs.laws.Exits.{on_err}
-use Rattle.run_parts.specs.laws.Parts.{stands_after}
-use Rattle.load_command.specs.LoadEvents.{load_text_events}
-use Rattle.unwritten_parts.specs.laws.Causes.{part_blamed, servers_later}
+use Rattle.run_commands.specs.parts.laws.Exits.{on_err}
+use Rattle.run_commands.specs.parts.laws.Parts.{stands_after}
+use Rattle.run_commands.specs.load.LoadEvents.{load_text_events}
+use Rattle.copy_command.specs.unwritten.laws.Causes.{part_blamed, servers_later}
 use Rattle.copy_command.specs.CopyEvents.{copy_text, silent, brought_events}
 use Rattle.copy_command.proofs.Reading.{reads_after, stops_after, stops_first}
 use Rattle.copy_command.proofs.copying.copy_items.Goals as goal

@@ -5,11 +5,11 @@ use Rattle.repl_model.specs.World.{World}
 use Rattle.run_core.specs.Runs.{Event}
 use Rattle.site_store.specs.Views.{names, held}
 use Rattle.world_store.specs.Stands.{Stands}
-use Rattle.run_parts.specs.Parts.{Happened, StoppedIn}
-use Rattle.run_parts.specs.laws.Exits.{on_err, nothing_yet}
-use Rattle.run_parts.specs.laws.Parts.{untouched, keeps_both}
-use Rattle.unwritten_parts.specs.laws.Causes.{part_blamed, streams_unwritten, servers_later}
-use Rattle.copy_feed.specs.FedInput.{input_events}
+use Rattle.run_commands.specs.parts.Parts.{Happened, StoppedIn}
+use Rattle.run_commands.specs.parts.laws.Exits.{on_err, nothing_yet}
+use Rattle.run_commands.specs.parts.laws.Parts.{untouched, keeps_both}
+use Rattle.copy_command.specs.unwritten.laws.Causes.{part_blamed, streams_unwritten, servers_later}
+use Rattle.copy_command.specs.fed.FedInput.{input_events}
 use Rattle.copy_command.specs.CopyEvents.{shown_events, fed_events}
 use Rattle.copy_command.specs.Reading.{ReadsAll, StopsReading}
 use Rattle.copy_command.specs.Showing.{KeepsRefusals}

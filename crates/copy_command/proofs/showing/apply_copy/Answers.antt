@@ -1,8 +1,8 @@
 use Rattle.std.proofs.Common.{◌≤◌, false, arith}
 use Rattle.std.proofs.lemmas.Result.{err_from_is_err_and}
-use Rattle.run_parts.specs.laws.Exits.{on_err}
-use Rattle.run_parts.specs.laws.Parts.{keeps_both, happened_both, stopped_first, stopped_second, stands_after, later_cause}
-use Rattle.apply_command.specs.StepEvents.{apply_events}
+use Rattle.run_commands.specs.parts.laws.Exits.{on_err}
+use Rattle.run_commands.specs.parts.laws.Parts.{keeps_both, happened_both, stopped_first, stopped_second, stands_after, later_cause}
+use Rattle.run_commands.specs.apply.StepEvents.{apply_events}
 use Rattle.copy_command.specs.CopyEvents.{copy_set, silent, written_events}
 use Rattle.copy_command.proofs.showing.apply_copy.Goals as goal
 

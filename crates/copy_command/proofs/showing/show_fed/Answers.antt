@@ -1,9 +1,9 @@
 use Rattle.std.proofs.Common.{◌≤◌, false, arith}
 use Rattle.std.specs.Prelude.{None, codes}
 use Rattle.std.proofs.lemmas.Result.{err_from_is_err_and}
-use Rattle.run_parts.specs.laws.Exits.{on_err}
-use Rattle.run_parts.specs.laws.Parts.{keeps_both, happened_both, stopped_first, stopped_second, stands_after, later_cause}
-use Rattle.capture_command.specs.CaptureEvents.{capture_events}
+use Rattle.run_commands.specs.parts.laws.Exits.{on_err}
+use Rattle.run_commands.specs.parts.laws.Parts.{keeps_both, happened_both, stopped_first, stopped_second, stands_after, later_cause}
+use Rattle.run_commands.specs.capture.CaptureEvents.{capture_events}
 use Rattle.copy_command.specs.CopyEvents.{silent, applied_events}
 use Rattle.copy_command.proofs.showing.show_fed.Goals as goal
 

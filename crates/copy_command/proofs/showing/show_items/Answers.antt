@@ -1,10 +1,10 @@
 use Rattle.std.proofs.Common.{List, ℕ, subst, arith}
 use Rattle.std.specs.Prelude.{IfOk, OnErr, codes}
 use Rattle.std.proofs.lemmas.Result.{err_from_is_err_and}
-use Rattle.run_parts.specs.Parts.{Happened, StoppedIn}
-use Rattle.run_parts.specs.laws.Exits.{on_err}
-use Rattle.run_parts.specs.laws.Parts.{nothing_done, untouched}
-use Rattle.target_command.specs.TargetEvents.{target_events}
+use Rattle.run_commands.specs.parts.Parts.{Happened, StoppedIn}
+use Rattle.run_commands.specs.parts.laws.Exits.{on_err}
+use Rattle.run_commands.specs.parts.laws.Parts.{nothing_done, untouched}
+use Rattle.run_commands.specs.target.TargetEvents.{target_events}
 use Rattle.copy_command.proofs.showing.show_items.Goals as goal
 
 pub returns-in_err-target : goal.returns-in_err-target

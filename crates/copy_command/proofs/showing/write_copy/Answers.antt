@@ -1,10 +1,10 @@
 use Rattle.std.proofs.Common.{arith}
 use Rattle.std.specs.Prelude.{codes}
 use Rattle.std.proofs.lemmas.Result.{err_from_is_err_and}
-use Rattle.run_parts.specs.laws.Exits.{on_err}
-use Rattle.run_parts.specs.laws.Parts.{happened_both, stopped_first, stopped_second, stands_after, later_cause, output_cause}
-use Rattle.target_command.specs.TargetEvents.{target_events}
-use Rattle.unwritten_parts.specs.Unwritten.{refusals_in}
+use Rattle.run_commands.specs.parts.laws.Exits.{on_err}
+use Rattle.run_commands.specs.parts.laws.Parts.{happened_both, stopped_first, stopped_second, stands_after, later_cause, output_cause}
+use Rattle.run_commands.specs.target.TargetEvents.{target_events}
+use Rattle.copy_command.specs.unwritten.Unwritten.{refusals_in}
 use Rattle.copy_command.proofs.Refusals.{refusals_written, refusals_begun}
 use Rattle.copy_command.proofs.showing.write_copy.Goals as goal
 

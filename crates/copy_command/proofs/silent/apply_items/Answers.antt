@@ -2,12 +2,12 @@ use Rattle.std.proofs.Common.{subst}
 use Rattle.std.specs.Prelude.{None}
 use Rattle.std.proofs.lemmas.Result.{err_from_is_err_and}
 use Rattle.repl_types.specs.declared.record.SetId.{SetId}
-use Rattle.run_parts.specs.Parts.{Happened, StoppedIn}
-use Rattle.run_parts.specs.laws.Exits.{on_err}
-use Rattle.run_parts.specs.laws.Parts.{nothing_done, untouched}
-use Rattle.unwritten_parts.specs.laws.Causes.{cause_unwritten}
-use Rattle.unwritten_parts.specs.laws.Unwritten.{happened_unwritten, stopped_in_unwritten}
-use Rattle.apply_command.specs.StepEvents.{apply_events}
+use Rattle.run_commands.specs.parts.Parts.{Happened, StoppedIn}
+use Rattle.run_commands.specs.parts.laws.Exits.{on_err}
+use Rattle.run_commands.specs.parts.laws.Parts.{nothing_done, untouched}
+use Rattle.copy_command.specs.unwritten.laws.Causes.{cause_unwritten}
+use Rattle.copy_command.specs.unwritten.laws.Unwritten.{happened_unwritten, stopped_in_unwritten}
+use Rattle.run_commands.specs.apply.StepEvents.{apply_events}
 use Rattle.copy_command.specs.CopyEvents.{copy_set, silent}
 use Rattle.copy_command.proofs.silent.apply_items.Goals as goal
 

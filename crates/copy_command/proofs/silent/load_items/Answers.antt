@@ -1,12 +1,12 @@
 use Rattle.std.proofs.Common.{ℕ, List, subst}
 use Rattle.std.specs.Prelude.{Option, Some, None}
 use Rattle.std.proofs.lemmas.Result.{err_from_is_err_and}
-use Rattle.run_parts.specs.Parts.{Happened, StoppedIn}
-use Rattle.run_parts.specs.laws.Exits.{on_err}
-use Rattle.run_parts.specs.laws.Parts.{nothing_done, untouched}
-use Rattle.unwritten_parts.specs.laws.Causes.{cause_unwritten}
-use Rattle.unwritten_parts.specs.laws.Unwritten.{happened_unwritten, stopped_in_unwritten}
-use Rattle.load_command.specs.LoadEvents.{load_text_events}
+use Rattle.run_commands.specs.parts.Parts.{Happened, StoppedIn}
+use Rattle.run_commands.specs.parts.laws.Exits.{on_err}
+use Rattle.run_commands.specs.parts.laws.Parts.{nothing_done, untouched}
+use Rattle.copy_command.specs.unwritten.laws.Causes.{cause_unwritten}
+use Rattle.copy_command.specs.unwritten.laws.Unwritten.{happened_unwritten, stopped_in_unwritten}
+use Rattle.run_commands.specs.load.LoadEvents.{load_text_events}
 use Rattle.copy_command.specs.CopyEvents.{copy_text, silent}
 use Rattle.copy_command.proofs.silent.load_items.Goals as goal
 

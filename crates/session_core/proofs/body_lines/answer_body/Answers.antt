@@ -1,8 +1,8 @@
 use Rattle.std.proofs.Common.{◌+◌, drop, refl, sym, subst}
 use Rattle.repl_types.specs.declared.refusal.Refusal.TheVariants as refusals
-use Rattle.run_parts.specs.Parts.{StoppedIn}
-use Rattle.run_parts.specs.laws.Exits.{on_err}
-use Rattle.run_parts.specs.laws.Parts.{refusal_written, refusal_begun, nothing_done}
+use Rattle.run_commands.specs.parts.Parts.{StoppedIn}
+use Rattle.run_commands.specs.parts.laws.Exits.{on_err}
+use Rattle.run_commands.specs.parts.laws.Parts.{refusal_written, refusal_begun, nothing_done}
 use Rattle.session_core.specs.Answers.{Answers}
 use Rattle.session_core.specs.Bodies.{after_body}
 use Rattle.session_core.specs.Talk.{body_events}

@@ -1,6 +1,6 @@
 use Rattle.std.proofs.Common.{◌+◌, subst, sym}
 use Rattle.std.proofs.lemmas.Result.{err_from_is_err_and}
-use Rattle.run_parts.specs.laws.Exits.{on_err}
+use Rattle.run_commands.specs.parts.laws.Exits.{on_err}
 use Rattle.session_core.specs.Bodies.{KeepsBodies}
 use Rattle.session_core.proofs.Feeding.{is_feed, keeps_long}
 use Rattle.session_core.proofs.body_lines.answer_long_body.Goals as goal

@@ -3,10 +3,10 @@ use Rattle.std.specs.Prelude.{Option, IfOk, OnErr}
 use Rattle.repl_types.specs.declared.refusal.Refusal.TheVariants as refusals
 use Rattle.repl_model.specs.World.{World}
 use Rattle.run_core.specs.Runs.{Event}
-use Rattle.run_parts.specs.Parts.{Happened, StoppedIn}
-use Rattle.run_parts.specs.Refusing.{refused}
-use Rattle.run_parts.specs.laws.Exits.{err_also, ok_also, if_err_also}
-use Rattle.run_parts.specs.laws.Parts.{refusal_written, refusal_begun, output_cause}
+use Rattle.run_commands.specs.parts.Parts.{Happened, StoppedIn}
+use Rattle.run_commands.specs.parts.Refusing.{refused}
+use Rattle.run_commands.specs.parts.laws.Exits.{err_also, ok_also, if_err_also}
+use Rattle.run_commands.specs.parts.laws.Parts.{refusal_written, refusal_begun, output_cause}
 use Rattle.session_core.specs.Talk.{long_body_events}
 use Rattle.session_core.specs.declared.bodies.Bodies.{Bodies}
 use Rattle.session_core.specs.declared.bodies.Bodies.TheVariants.{Refused, Gathered}

@@ -1,5 +1,5 @@
-use Rattle.run_parts.specs.laws.Exits.{on_err}
-use Rattle.run_parts.specs.laws.Parts.{refusal_begun}
+use Rattle.run_commands.specs.parts.laws.Exits.{on_err}
+use Rattle.run_commands.specs.parts.laws.Parts.{refusal_begun}
 use Rattle.session_core.proofs.commands.refuse_unfed.Goals as goal
 
 -- of the line a part was written

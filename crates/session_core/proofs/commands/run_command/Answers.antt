@@ -4,10 +4,10 @@ use Rattle.std.specs.Option.{option_map_or}
 use Rattle.repl_types.specs.declared.refusal.Refusal.TheVariants as refusals
 use Rattle.repl_model.specs.World.{World}
 use Rattle.run_core.specs.Runs.{Event}
-use Rattle.run_parts.specs.Parts.{Happened, StoppedIn}
-use Rattle.run_parts.specs.Refusing.{refused}
-use Rattle.run_parts.specs.laws.Exits.{err_also, ok_also, if_err_also}
-use Rattle.run_parts.specs.laws.Parts.{refusal_written, refusal_begun, untouched, output_cause}
+use Rattle.run_commands.specs.parts.Parts.{Happened, StoppedIn}
+use Rattle.run_commands.specs.parts.Refusing.{refused}
+use Rattle.run_commands.specs.parts.laws.Exits.{err_also, ok_also, if_err_also}
+use Rattle.run_commands.specs.parts.laws.Parts.{refusal_written, refusal_begun, untouched, output_cause}
 use Rattle.session_core.specs.Commands.{talk_of}
 use Rattle.session_core.proofs.Verbs.{not_carried_out}
 use Rattle.session_core.proofs.commands.run_command.Goals as goal

@@ -2,9 +2,9 @@ use Rattle.std.proofs.Common.{◌≡◌, rules, sym, subst}
 use Rattle.std.specs.Prelude.{IfOk, OnErr}
 use Rattle.repl_types.specs.declared.refusal.Refusal.{Refusal}
 use Rattle.script_text.specs.Asked.{Asked, asked_by, bad}
-use Rattle.run_parts.specs.Parts.{StoppedIn}
-use Rattle.run_parts.specs.Refusing.{refused}
-use Rattle.run_parts.specs.laws.Parts.{nothing_done}
+use Rattle.run_commands.specs.parts.Parts.{StoppedIn}
+use Rattle.run_commands.specs.parts.Refusing.{refused}
+use Rattle.run_commands.specs.parts.laws.Parts.{nothing_done}
 use Rattle.session_core.specs.Answers.{Answers}
 use Rattle.session_core.specs.Bodies.{after_asked, unfed}
 use Rattle.session_core.specs.Commands.{asked_events, command_line_events}

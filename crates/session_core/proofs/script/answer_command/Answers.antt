@@ -3,8 +3,8 @@ use Rattle.std.proofs.lemmas.Result.{err_from_is_err_and}
 use Rattle.run_core.specs.Runs.{last_world}
 use Rattle.site_store.specs.Views.{held}
 use Rattle.world_store.specs.Stands.{Stands}
-use Rattle.run_parts.specs.laws.Exits.{on_err}
-use Rattle.run_parts.specs.laws.Parts.{keeps_both, later_cause, happened_both, stopped_first, stopped_second, stands_after}
+use Rattle.run_commands.specs.parts.laws.Exits.{on_err}
+use Rattle.run_commands.specs.parts.laws.Parts.{keeps_both, later_cause, happened_both, stopped_first, stopped_second, stands_after}
 use Rattle.session_core.specs.Commands.{command_line_events}
 use Rattle.session_core.specs.Talk.{end_events}
 use Rattle.session_core.proofs.Feeding.{is_feed, keeps_later}

@@ -3,7 +3,7 @@ use Rattle.std.specs.Prelude.{OnErr}
 use Rattle.script_lines.specs.Script.{line_of}
 use Rattle.script_lines.specs.declared.kind.LineKind.{LineKind}
 use Rattle.script_lines.specs.declared.kind.LineKind.TheVariants as kinds
-use Rattle.run_parts.specs.Parts.{StoppedIn}
+use Rattle.run_commands.specs.parts.Parts.{StoppedIn}
 use Rattle.session_core.specs.Talk.{line_events}
 use Rattle.session_core.proofs.script.answer_line.Goals as goal
 

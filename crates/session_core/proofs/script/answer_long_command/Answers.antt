@@ -1,9 +1,9 @@
 use Rattle.std.proofs.Common.{refl, arith}
 use Rattle.std.proofs.lemmas.Result.{err_from_is_err_and}
 use Rattle.repl_types.specs.declared.refusal.Refusal.TheVariants as refusals
-use Rattle.run_parts.specs.Refusing.{refused}
-use Rattle.run_parts.specs.laws.Exits.{on_err}
-use Rattle.run_parts.specs.laws.Parts.{later_cause, happened_both, stopped_first, stopped_second, stands_after, refusal_written, refusal_begun, output_cause}
+use Rattle.run_commands.specs.parts.Refusing.{refused}
+use Rattle.run_commands.specs.parts.laws.Exits.{on_err}
+use Rattle.run_commands.specs.parts.laws.Parts.{later_cause, happened_both, stopped_first, stopped_second, stands_after, refusal_written, refusal_begun, output_cause}
 use Rattle.session_core.specs.Talk.{end_events}
 use Rattle.session_core.proofs.Feeding.{is_feed}
 use Rattle.session_core.proofs.script.answer_long_command.Goals as goal

@@ -3,8 +3,8 @@ use Rattle.std.proofs.lemmas.Result.{err_from_is_err_and}
 use Rattle.script_lines.specs.Script.{lines_left, line_number}
 use Rattle.site_store.specs.Views.{names, held}
 use Rattle.world_store.specs.Stands.{Stands}
-use Rattle.run_parts.specs.laws.Exits.{on_err}
-use Rattle.run_parts.specs.laws.Parts.{untouched, keeps_both, later_cause}
+use Rattle.run_commands.specs.parts.laws.Exits.{on_err}
+use Rattle.run_commands.specs.parts.laws.Parts.{untouched, keeps_both, later_cause}
 use Rattle.session_core.specs.Bodies.{KeepsBodies}
 use Rattle.session_core.proofs.Answered.{line_answered, line_stopped, end_answered, end_stopped}
 use Rattle.session_core.proofs.Feeding.{is_feed, keeps_later, later_number}

@@ -1,9 +1,0 @@
-mod Applying
-mod FoundApplying
-mod FoundSets
-mod MadeSteps
-mod MostSteps
-mod NamedSteps
-mod Outcomes
-mod StepDamage
-mod StepEnds

@@ -1,2 +1,0 @@
-mod CaptureEvents
-mod Numbers

@@ -1,4 +1,0 @@
-mod Ends
-mod Fed
-mod FirstLines
-mod Going

@@ -1,4 +1,0 @@
-pub mod Batches
-pub mod BodyLines
-pub mod Feeds
-pub mod Records

@@ -1,5 +1,0 @@
-use Rattle.feed_command.proofs.Records.{may_append}
-use Rattle.feed_command.proofs.laws.records_of_lines_may_be_appended.Goals as goal
-
-pub returns : goal.returns
-returns c = λ line r is. may_append r (c.one_text_of_a_record.ensures.found line r is).1

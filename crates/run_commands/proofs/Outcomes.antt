@@ -1,0 +1,216 @@
+-- What a step of a set came to, as events of a run.
+use Rattle.std.proofs.Common.{◌≡◌, ◌≢◌, ◌∙◌, ◌⊎◌, inl, inr, ℕ, ◌<◌, ◌≤◌, List, [], ◌∷◌, cond, Bool, true, false, refl, sym, ap, subst, arith}
+use Rattle.std.specs.Prelude.{Option, nat_lt, IsTrue}
+use Rattle.std.specs.Str.{bytes_eq}
+use Rattle.std.proofs.lemmas.Bool.Decides.{nat_tests}
+use Rattle.std.proofs.lemmas.List.{length-append, append-nil}
+use Rattle.repl_types.specs.declared.refusal.Refusal.{Refusal}
+use Rattle.repl_types.specs.declared.refusal.Refusal.TheVariants as refusals
+use Rattle.faults.specs.declared.fault.Fault.{Fault}
+use Rattle.faults.specs.declared.fault.Stepped.{Stepped}
+use Rattle.faults.specs.declared.fault.Stepped.TheVariants as steps
+use Rattle.keep_core.specs.Contents.{Contents}
+use Rattle.keep_core.specs.Kept.{Kept}
+use Rattle.keep_core.specs.Revealed.{Takes, TakesPrefix}
+use Rattle.repl_model.specs.AfterActions.{signal_records, signalled, after_action}
+use Rattle.repl_model.specs.NextActions.{Action, signals, refreshes, blocks, reports, idles, refuses, next_action}
+use Rattle.repl_model.specs.Sound.{IsSound}
+use Rattle.repl_model.specs.SoundLogs.{log_limit, LogIsSound}
+use Rattle.repl_model.specs.World.{Server, World, KnownSet}
+use Rattle.reply_text.specs.Steps.{step_line}
+use Rattle.run_core.specs.Runs.{commits, writes, lines_of}
+use Rattle.run_core.specs.laws.Quiet.{went_quiet, stopped_quiet}
+use Rattle.run_core.specs.laws.Runs.{stopped_before, stopped_after, stopped_in_line}
+use Rattle.run_commands.specs.parts.Refusing.{refused}
+use Rattle.action_worlds.specs.Resting.{commits_world}
+use Rattle.load_worlds.specs.laws.KnownSets.{known_stands}
+use Rattle.load_worlds.specs.laws.Members.{In, at_one, found_in, image_in}
+use Rattle.load_worlds.specs.laws.Servers.{same_name, name_itself}
+use Rattle.site_store.specs.Views.{names, held}
+use Rattle.site_store.specs.declared.sites.Sites.{Sites}
+use Rattle.world_store.specs.Stands.{Stands}
+use Rattle.set_places.specs.Places.{IsPlacedAs}
+use Rattle.set_places.specs.Steps.{HasBecome, MayHaveBecome}
+use Rattle.set_places.specs.declared.placed_set.PlacedSet.{PlacedSet}
+use Rattle.set_places.specs.laws.Known.{placed_def}
+use Rattle.full_refresh.specs.Signals.{length_signalled}
+use Rattle.apply_cycle.specs.Stepping.{answer_of, IsAnswer, IsRefused, HasMade}
+use Rattle.run_commands.specs.apply.Progress.{progress_told, line_told, Progressed, StoppedStep}
+use Rattle.run_commands.specs.apply.StepEvents.{Outcome, declines, rests, makes, making, outcome_of}
+use Rattle.run_commands.specs.declared.apply.steps.Progress.TheVariants.{Refused, Rested, Made}
+
+-- ---- actions that commit a world
+
+-- the action does
+abbrev Commits : Action → Type 0
+Commits a = IsTrue (commits_world a)
+
+-- the world after a signal has its log
+room_after : (w : World) (k : KnownSet) → In k.source w → IsSound (after_action w k signals) → length_signalled k ≤ log_limit
+room_after w k i sound =
+    let name = k.source.name in
+    let with_one : Server → Server = λ server. cond (bytes_eq name server.name) (signalled k.at_source.def server) server in
+    let here : In (signalled k.at_source.def k.source) (after_action w k signals) = subst (λ (b : Bool). In (cond b (signalled k.at_source.def k.source) k.source) (after_action w k signals)) (name_itself name) (image_in with_one w k.source i) in
+    omega (arith, (at_one LogIsSound (after_action w k signals) (signalled k.at_source.def k.source) sound.logs here).short, length-append k.source.log (signal_records k.at_source.def k.source.log))
+
+-- a limit that is kept isn't passed
+not_above : (n m : ℕ) → m ≤ n → nat_lt n m ≡ false
+not_above n m le = grind (arith, nat_tests)
+
+-- one that is passed is
+above : (n m : ℕ) → n < m → nat_lt n m ≡ true
+above n m lt = grind (arith, nat_tests)
+
+-- an action whose world is sound is made
+made_if_sound : (w : World) (k : KnownSet) → In k.source w → (a : Action) → Commits a → IsSound (after_action w k a) → outcome_of w k a ≡ making w k a
+made_if_sound w k i signals by sound = ap (λ (b : Bool). cond b (declines (refusals.LogFull k.source.name)) (making w k signals)) (not_above log_limit (length_signalled k) (room_after w k i sound))
+made_if_sound w k i refreshes by sound = refl
+made_if_sound w k i (blocks upto) by sound = refl
+made_if_sound w k i reports by sound = refl
+made_if_sound w k i idles by sound = absurd cc
+made_if_sound w k i (refuses place) by sound = absurd cc
+
+-- a refusal is what its action comes to
+pub declined : (w : World) (k : KnownSet) (refusal : Refusal) → IsRefused k refusal → outcome_of w k (next_action k) ≡ declines refusal
+declined w k (refusals.LogFull name) is =
+    subst (λ (a : Action). outcome_of w k a ≡ declines (refusals.LogFull name)) (sym is.0)
+    (ap (λ (b : Bool). cond b (declines (refusals.LogFull k.source.name)) (making w k signals)) (above log_limit (length_signalled k) is.1) ∙ ap (λ (n : List ℕ). declines (refusals.LogFull n)) (sym is.2))
+declined w k (refusals.RefreshDisabled place) is = ap (outcome_of w k) is
+declined w k other is = absurd is
+
+-- ---- names
+
+-- the name of a set's source that its definition has is that of the source
+pub source_name : (w : World) (k : KnownSet) (set : PlacedSet) → IsSound w → IsPlacedAs w k set → set.at_source.def.source ≡ k.source.name
+source_name w k set sound placed =
+    let stands = known_stands w k placed.known in
+    let found = found_in (λ (server : Server). bytes_eq k.at_target.def.source server.name) w k.source stands.source in
+    ap (λ d. d.source) (placed_def w k set sound placed) ∙ ap (λ d. d.source) placed.target_def ∙ same_name k.at_target.def.source k.source.name found.1
+
+-- ---- events
+
+module _ {K : Type 0} (kept : K → Kept) (s0 s1 : Sites K) (w : World) (k : KnownSet) (i : In k.source w) where
+  -- for which world servers stand, by their names at the beginning
+  abbrev Means : List (Option Contents) → World → Type 0
+  Means = Stands (names s0)
+
+  -- there was nothing to do
+  rested : (source : ℕ) (t u : Option (List ℕ)) → Takes t u [] → HasMade kept s0 s1 w k source steps.Idle → Progressed kept s0 s1 t u w (outcome_of w k (next_action k)) Rested
+  rested source t u took made = by_action (next_action k) made.0 made.1
+    where
+      by_action : (a : Action) → HasBecome kept s0 s1 (after_action w k a) → IsAnswer w k source a steps.Idle → Progressed kept s0 s1 t u w (outcome_of w k a) Rested
+      by_action signals become is = absurd cc
+      by_action refreshes become is = absurd cc
+      by_action (blocks upto) become is = absurd cc
+      by_action reports become is = absurd cc
+      by_action idles become is = (record { stands = become; bytes = took }, refl)
+      by_action (refuses place) become is = absurd is
+
+  -- the line of what was answered is that of the action
+  line_is : (source : ℕ) (stepped : Stepped) (a : Action) → Commits a → IsAnswer w k source a stepped → step_line k.source.name stepped ≡ step_line k.source.name (answer_of w k 0 a)
+  line_is source stepped signals by is = ap (step_line k.source.name) is
+  line_is source stepped refreshes by is = ap (step_line k.source.name) is
+  line_is source stepped (blocks upto) by is = ap (step_line k.source.name) is
+  line_is source stepped reports by is = ap (step_line k.source.name) is
+  line_is source stepped idles by is = absurd cc
+  line_is source stepped (refuses place) by is = absurd cc
+
+  module _ (source : ℕ) (stepped : Stepped) (some : stepped ≢ steps.Idle) (t u : Option (List ℕ)) where
+    -- what was answered is that of an action that commits a world
+    committed : (a : Action) → IsAnswer w k source a stepped → Commits a
+    committed signals is = refl
+    committed refreshes is = refl
+    committed (blocks upto) is = refl
+    committed reports is = refl
+    committed idles is = absurd (some is)
+    committed (refuses place) is = absurd is
+
+    -- the world was committed, and the line written
+    wrote_step : HasMade kept s0 s1 w k source stepped → Takes t u (step_line k.source.name stepped) → Progressed kept s0 s1 t u w (outcome_of w k (next_action k)) Made
+    wrote_step made took =
+        let a = next_action k in
+        let by = committed a made.1 in
+        subst (λ (o : Outcome). Progressed kept s0 s1 t u w o Made) (sym (made_if_sound w k i a by made.0.sound))
+        (record { stands = made.0; bytes = subst (Takes t u) (line_is source stepped a by made.1 ∙ sym (append-nil (step_line k.source.name (answer_of w k 0 a)))) took }, refl)
+
+    -- or a prefix of the line
+    began_line : HasMade kept s0 s1 w k source stepped → TakesPrefix t u (step_line k.source.name stepped) → StoppedStep kept s0 s1 t u w (outcome_of w k (next_action k))
+    began_line made took =
+        let a = next_action k in
+        let by = committed a made.1 in
+        let v = after_action w k a in
+        let line = step_line k.source.name (answer_of w k 0 a) in
+        subst (λ (o : Outcome). StoppedStep kept s0 s1 t u w o) (sym (made_if_sound w k i a by made.0.sound))
+        (stopped_after Means w v (writes line ∷ []) (held kept s1) t u (stopped_in_line Means v line [] (held kept s1) t u made.0 (subst (TakesPrefix t u) (line_is source stepped a by made.1) took)))
+
+  module _ (source : ℕ) (t u : Option (List ℕ)) where
+    -- what came of it was told
+    pub told_step : (stepped : Stepped) → HasMade kept s0 s1 w k source stepped → Takes t u (line_told k.source.name stepped) → Progressed kept s0 s1 t u w (outcome_of w k (next_action k)) (progress_told stepped)
+    told_step steps.Idle made took = rested source t u took made
+    told_step (steps.Signal server seq) made took = wrote_step source (steps.Signal server seq) (λ is. absurd cc) t u made took
+    told_step (steps.Refresh point rows) made took = wrote_step source (steps.Refresh point rows) (λ is. absurd cc) t u made took
+    told_step (steps.Block from to inserts updates deletes) made took = wrote_step source (steps.Block from to inserts updates deletes) (λ is. absurd cc) t u made took
+    told_step (steps.Report point) made took = wrote_step source (steps.Report point) (λ is. absurd cc) t u made took
+    told_step (steps.Load m f rows) made took = wrote_step source (steps.Load m f rows) (λ is. absurd cc) t u made took
+    told_step (steps.Decide x d accepted rejected) made took = wrote_step source (steps.Decide x d accepted rejected) (λ is. absurd cc) t u made took
+    told_step (steps.Settle m f rejected applied) made took = wrote_step source (steps.Settle m f rejected applied) (λ is. absurd cc) t u made took
+
+    -- or a part of it
+    pub began_told : (stepped : Stepped) → HasMade kept s0 s1 w k source stepped → TakesPrefix t u (line_told k.source.name stepped) → StoppedStep kept s0 s1 t u w (outcome_of w k (next_action k))
+    began_told steps.Idle made took = none_begun (next_action k) made.0 made.1
+      where
+        none_begun : (a : Action) → HasBecome kept s0 s1 (after_action w k a) → IsAnswer w k source a steps.Idle → StoppedStep kept s0 s1 t u w (outcome_of w k a)
+        none_begun signals become is = absurd cc
+        none_begun refreshes become is = absurd cc
+        none_begun (blocks upto) become is = absurd cc
+        none_begun reports become is = absurd cc
+        none_begun idles become is = stopped_quiet Means w [] (held kept s1) t u tt become took
+        none_begun (refuses place) become is = absurd is
+    began_told (steps.Signal server seq) made took = began_line source (steps.Signal server seq) (λ is. absurd cc) t u made took
+    began_told (steps.Refresh point rows) made took = began_line source (steps.Refresh point rows) (λ is. absurd cc) t u made took
+    began_told (steps.Block from to inserts updates deletes) made took = began_line source (steps.Block from to inserts updates deletes) (λ is. absurd cc) t u made took
+    began_told (steps.Report point) made took = began_line source (steps.Report point) (λ is. absurd cc) t u made took
+    began_told (steps.Load m f rows) made took = began_line source (steps.Load m f rows) (λ is. absurd cc) t u made took
+    began_told (steps.Decide x d accepted rejected) made took = began_line source (steps.Decide x d accepted rejected) (λ is. absurd cc) t u made took
+    began_told (steps.Settle m f rejected applied) made took = began_line source (steps.Settle m f rejected applied) (λ is. absurd cc) t u made took
+
+  module _ (refusal : Refusal) (t u : Option (List ℕ)) (become : HasBecome kept s0 s1 w) (is : IsRefused k refusal) where
+    -- the step was refused, and the line of that was written
+    pub wrote_refusal : Takes t u (lines_of (refused refusal)) → Progressed kept s0 s1 t u w (outcome_of w k (next_action k)) Refused
+    wrote_refusal took = subst (λ (o : Outcome). Progressed kept s0 s1 t u w o Refused) (sym (declined w k refusal is))
+        (went_quiet Means w (refused refusal) (held kept s1) t u tt become took, refl)
+
+    -- or a prefix of it
+    pub began_refusal : TakesPrefix t u (lines_of (refused refusal)) → StoppedStep kept s0 s1 t u w (outcome_of w k (next_action k))
+    began_refusal took = subst (λ (o : Outcome). StoppedStep kept s0 s1 t u w o) (sym (declined w k refusal is))
+        (stopped_quiet Means w (refused refusal) (held kept s1) t u tt become took)
+
+  -- the step failed, before its commit or in it
+  pub failed_step : (e : Fault) (t : Option (List ℕ)) → MayHaveBecome kept s0 s1 w (after_action w k (next_action k)) e → StoppedStep kept s0 s1 t t w (outcome_of w k (next_action k))
+  failed_step e t may = by_world may.stands
+    where
+      -- nothing was committed
+      before : HasBecome kept s0 s1 w → (o : Outcome) → StoppedStep kept s0 s1 t t w o
+      before same (declines refusal) = stopped_before Means w (refused refusal) (held kept s1) t same
+      before same rests = stopped_before Means w [] (held kept s1) t same
+      before same (makes v line) = stopped_before Means w (commits v ∷ writes line ∷ []) (held kept s1) t same
+
+      -- the world was
+      after : (a : Action) → Commits a → HasBecome kept s0 s1 (after_action w k a) → StoppedStep kept s0 s1 t t w (outcome_of w k a)
+      after a by become =
+          let v = after_action w k a in
+          let line = step_line k.source.name (answer_of w k 0 a) in
+          subst (λ (o : Outcome). StoppedStep kept s0 s1 t t w o) (sym (made_if_sound w k i a by become.sound))
+          (stopped_after Means w v (writes line ∷ []) (held kept s1) t t (stopped_before Means v (writes line ∷ []) (held kept s1) t become))
+
+      by_action : (a : Action) → HasBecome kept s0 s1 (after_action w k a) → StoppedStep kept s0 s1 t t w (outcome_of w k a)
+      by_action signals become = after signals refl become
+      by_action refreshes become = after refreshes refl become
+      by_action (blocks upto) become = after (blocks upto) refl become
+      by_action reports become = after reports refl become
+      by_action idles become = before become (outcome_of w k idles)
+      by_action (refuses place) become = before become (outcome_of w k (refuses place))
+
+      by_world : HasBecome kept s0 s1 w ⊎ HasBecome kept s0 s1 (after_action w k (next_action k)) → StoppedStep kept s0 s1 t t w (outcome_of w k (next_action k))
+      by_world (inl same) = before same (outcome_of w k (next_action k))
+      by_world (inr become) = by_action (next_action k) become

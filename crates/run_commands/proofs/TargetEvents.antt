@@ -1,0 +1,147 @@
+-- How a set and a target are shown.
+use Rattle.std.proofs.Common.{◌≡◌, ◌∙◌, ℕ, ◌<◌, List, [], ◌∷◌, length, map, cond, Bool, true, false, refl, sym, ap, subst}
+use Rattle.std.specs.Prelude.{Option, Some, None, IsSome, slice_get}
+use Rattle.std.specs.Option.{option_map_or}
+use Rattle.std.proofs.lemmas.Option.{same_Some}
+use Rattle.repl_types.specs.declared.record.SetId.{SetId}
+use Rattle.repl_types.specs.declared.refusal.Refusal.TheVariants as refusals
+use Rattle.faults.specs.declared.call_errors.ShowError.{ShowError}
+use Rattle.faults.specs.declared.call_errors.ShowError.TheVariants as shows
+use Rattle.keep_core.specs.Kept.{Kept}
+use Rattle.repl_definitions.specs.declared.member.Member.{Member}
+use Rattle.repl_definitions.specs.declared.member.TargetKind.{TargetKind}
+use Rattle.repl_definitions.specs.declared.member.TargetKind.TheVariants.{UserCopy, PointInTime, BaseAggregate, ChangeAggregate, Ccd, Replica}
+use Rattle.repl_definitions.specs.declared.set.SetDef.{SetDef}
+use Rattle.repl_model.specs.Rules.{is_replica_set}
+use Rattle.repl_model.specs.World.{Server, World, KnownSet}
+use Rattle.run_core.specs.Runs.{Event, writes}
+use Rattle.site_store.specs.Servers.{AllClosed, HasNone, IsPlace}
+use Rattle.site_store.specs.Views.{names, held, work}
+use Rattle.site_store.specs.Calls.{KeepsServers}
+use Rattle.site_store.specs.declared.sites.Sites.{Sites}
+use Rattle.world_store.specs.Stands.{Stands}
+use Rattle.stored_defs.specs.Known.{server_in}
+use Rattle.stored_defs.specs.laws.Standing.{server_at_place, no_server}
+use Rattle.show_rows.specs.Showing.{IsUndamagedShow}
+use Rattle.run_commands.specs.parts.Causes.{PartHasCause}
+use Rattle.run_commands.specs.parts.Refusing.{refused}
+use Rattle.run_commands.specs.parts.RunErrors.{error_of_show}
+use Rattle.run_commands.specs.declared.parts.run_error.RunError.{RunError}
+use Rattle.run_commands.specs.declared.parts.run_error.RunError.TheVariants as errors
+use Rattle.run_commands.specs.parts.laws.Damage.{sets_shown}
+use Rattle.run_commands.specs.parts.laws.Looking.{looked_keeps, stops_keeps, stops_run, stops_cause}
+use Rattle.set_places.specs.Places.{IsPlacedAs, IsKnownAs}
+use Rattle.set_places.specs.declared.placed_set.PlacedSet.{PlacedSet}
+use Rattle.copy_targets.specs.Copies.{is_user_copy}
+use Rattle.show_sets.specs.Replies.{set_line, copy_lines, target_named}
+use Rattle.show_sets.specs.Rules.{rules, ShowsDamage}
+use Rattle.show_sets.specs.Showing.{FailsShowing}
+use Rattle.show_sets.specs.Targets.{IsCopyAt, IsTargetNamed, IsNamedAs}
+use Rattle.show_sets.specs.declared.targets.PlacedTarget.{PlacedTarget}
+use Rattle.run_commands.specs.target.TargetEvents.{known_set_events, set_events, member_events, server_target_events, target_events}
+
+-- ---- a set
+
+module _ (number : ℕ) (w : World) (k : KnownSet) (set : PlacedSet) (placed : IsPlacedAs w k set) where
+  -- what is done at a known set, by whether it is a replica set
+  at_set : (b : Bool) → is_replica_set set.at_target.def ≡ b → cond b (refused (refusals.UnknownCommand number)) (writes (set_line k) ∷ []) ≡ known_set_events number k
+  at_set b is = ap (λ (c : Bool). cond c (refused (refusals.UnknownCommand number)) (writes (set_line k) ∷ [])) (sym is ∙ ap is_replica_set placed.target_def)
+
+  -- it is a replica set
+  pub replica_refused : is_replica_set set.at_target.def ≡ true → refused (refusals.UnknownCommand number) ≡ known_set_events number k
+  replica_refused is = at_set true is
+
+  -- it isn't
+  pub set_shown : is_replica_set set.at_target.def ≡ false → writes (set_line k) ∷ [] ≡ known_set_events number k
+  set_shown is = at_set false is
+
+module _ (number : ℕ) (id : SetId) (w : World) where
+  -- what is done at what the world has of the set
+  abbrev at_known : Option KnownSet → List (Event World)
+  at_known o = option_map_or (known_set_events number) o (refused (refusals.NoSuchSet id.qual (Some id.name)))
+
+  -- no set has the name
+  pub none_known : IsKnownAs w id None → refused (refusals.NoSuchSet id.qual (Some id.name)) ≡ set_events number id w
+  none_known none = ap at_known (sym none)
+
+  -- a set has it
+  pub one_known : (set : PlacedSet) (known : IsKnownAs w id (Some set)) → known_set_events number known.0 ≡ set_events number id w
+  one_known set known = ap at_known (sym known.1)
+
+-- ---- a target
+
+-- a kind that isn't that of a user copy
+not_copy : (kind : TargetKind) → (kind ≡ UserCopy → ⊥) → is_user_copy kind ≡ false
+not_copy UserCopy other = absurd (other refl)
+not_copy PointInTime other = refl
+not_copy BaseAggregate other = refl
+not_copy ChangeAggregate other = refl
+not_copy (Ccd complete condensed) other = refl
+not_copy Replica other = refl
+
+module _ (number : ℕ) (w : World) (k : KnownSet) (member : Member) where
+  -- what is done at a member, by whether it is a user copy
+  at_member : (b : Bool) → is_user_copy member.kind ≡ b → cond b (map writes (copy_lines w k member)) (refused (refusals.UnknownCommand number)) ≡ member_events number w k member
+  at_member b is = ap (λ (c : Bool). cond c (map writes (copy_lines w k member)) (refused (refusals.UnknownCommand number))) (sym is)
+
+  module _ (target : PlacedTarget) (placed : IsPlacedAs w k target.set) (at : slice_get k.at_target.def.members target.member ≡ Some member) where
+    -- it stands where it was found
+    there : slice_get target.set.at_target.def.members target.member ≡ Some member
+    there = subst (λ (def : SetDef). slice_get def.members target.member ≡ Some member) (sym placed.target_def) at
+
+    -- it isn't a user copy
+    pub other_refused : (IsCopyAt target.set.at_target.def target.member → ⊥) → refused (refusals.UnknownCommand number) ≡ member_events number w k member
+    other_refused other = at_member false (not_copy member.kind (λ copy. other (record { member = member; there = there; copy = copy })))
+
+    -- it is
+    pub copy_shown : IsCopyAt target.set.at_target.def target.member → map writes (copy_lines w k member) ≡ member_events number w k member
+    copy_shown copy = at_member true (ap (λ (m : Member). is_user_copy m.kind) (sym (same_Some copy.member member (sym copy.there ∙ there))) ∙ ap is_user_copy copy.copy)
+
+module _ {K : Type 0} (kept : K → Kept) (s0 : Sites K) (closed : AllClosed (work kept s0)) (number : ℕ) (name table : List ℕ) where
+  -- what is done at what the world has of the server
+  abbrev at_server : World → Option Server → List (Event World)
+  at_server w o = option_map_or (server_target_events number name table w) o (refused (refusals.NoSuchServer name))
+
+  -- no server has the name
+  pub no_such_server : HasNone (names s0) name → (w : World) → Stands (names s0) (held kept s0) w → refused (refusals.NoSuchServer name) ≡ target_events number name table w
+  no_such_server none w stands = ap (at_server w) (sym (no_server kept s0 closed w stands name none))
+
+  module _ (n : ℕ) (place : IsPlace (names s0) name n) (w : World) (stands : Stands (names s0) (held kept s0) w) where
+    -- what is done at what the world's server has of the target
+    abbrev at_target : Option (KnownSet × (ℕ × Member)) → List (Event World)
+    at_target o = option_map_or (λ target. member_events number w target.0 target.1.1) o (refused (refusals.NoSuchTable name table))
+
+    -- that is what is done
+    at_named : at_target (target_named table w (server_in w n)) ≡ target_events number name table w
+    at_named = ap (at_server w) (sym (server_at_place kept s0 closed w stands name n s0.servers.apart place))
+
+    -- the server has no such target
+    pub no_such_target : IsNamedAs table w (server_in w n) None → refused (refusals.NoSuchTable name table) ≡ target_events number name table w
+    no_such_target none = ap at_target (sym none) ∙ at_named
+
+    -- it has this one
+    pub one_target : (target : PlacedTarget) (named : IsTargetNamed table w (server_in w n) target) → member_events number w named.k named.member ≡ target_events number name table w
+    one_target target named = ap at_target (sym named.named) ∙ at_named
+
+-- ---- why it ends
+
+module _ {K : Type 0} (kept : K → Kept) (s0 s1 : Sites K) (closed : AllClosed (work kept s0)) (before now : ℕ) where
+  -- a call that writes and fails leaves what is held
+  pub fails_held : (error : ShowError) → FailsShowing kept s0 s1 (ShowsDamage kept s0) before now error → held kept s1 ≡ held kept s0
+  fails_held (shows.Fault fault) fails = fails.0.held
+  fails_held shows.Output fails = fails.0.1.stays.held
+
+  -- it keeps the servers
+  pub fails_keeps : (error : ShowError) → FailsShowing kept s0 s1 (ShowsDamage kept s0) before now error → KeepsServers kept s0 s1
+  fails_keeps (shows.Fault fault) fails = stops_keeps kept s0 s1 rules sets_shown (λ n. n < length (names s0)) (λ n lt. lt) fault fails.0 fails.1
+  fails_keeps shows.Output fails = looked_keeps kept s0 s1 fails.0.1 closed
+
+  -- it is none that a refusal would be
+  pub fails_run : (error : ShowError) → FailsShowing kept s0 s1 (ShowsDamage kept s0) before now error → IsSome (error_of_show error)
+  fails_run (shows.Fault fault) fails = stops_run kept s0 s1 rules sets_shown (λ n. n < length (names s0)) (λ n lt. lt) fault fails.0
+  fails_run shows.Output fails = refl
+
+  -- why the run ends
+  pub show_cause : (error : ShowError) (e : RunError) → Some e ≡ error_of_show error → FailsShowing kept s0 s1 (ShowsDamage kept s0) before now error → ((w : World) → Stands (names s0) (held kept s0) w → IsUndamagedShow error) → PartHasCause kept s0 s1 before now e
+  show_cause (shows.Fault fault) e is fails none = stops_cause kept s0 s1 rules sets_shown (λ n. n < length (names s0)) (λ n lt. lt) fault fails.0 closed fails.1 none before now e is
+  show_cause shows.Output e is fails none = rw (same_Some e errors.OutputFailed is) (record { streams = fails.0.0; servers = tt })

@@ -1,0 +1,105 @@
+-- Parts of a run that begin with reads.
+use Rattle.std.proofs.Common.{◌≡◌, ℕ, ◌<◌, List, length, Bool, true, refl, sym, subst, arith}
+use Rattle.std.specs.Prelude.{Option, Some, IsSome}
+use Rattle.repl_types.specs.declared.refusal.Refusal.{Refusal}
+use Rattle.faults.specs.declared.fault.Fault.{Fault}
+use Rattle.faults.specs.declared.fault.Fault.TheVariants as faults
+use Rattle.keep_core.specs.Contents.{Contents}
+use Rattle.keep_core.specs.Kept.{Kept}
+use Rattle.keep_core.specs.Revealed.{Takes, TakesPrefix}
+use Rattle.repl_model.specs.World.{World}
+use Rattle.run_core.specs.Runs.{Event, Went, Stopped, lines_of, is_refused}
+use Rattle.run_core.specs.laws.Runs.{stopped_before}
+use Rattle.site_store.specs.Servers.{AllClosed}
+use Rattle.site_store.specs.Views.{names, held, work}
+use Rattle.site_store.specs.Calls.{KeepsServers, Blames}
+use Rattle.site_store.specs.Damage.{Rules, Damages, IsNoDamage}
+use Rattle.site_store.specs.declared.sites.Sites.{Sites}
+use Rattle.server_steps.specs.Calls.{Looks, Stops}
+use Rattle.world_store.specs.Stands.{Stands}
+use Rattle.run_commands.specs.parts.Causes.{PartHasCause}
+use Rattle.run_commands.specs.parts.Parts.{Happened, StoppedIn}
+use Rattle.run_commands.specs.parts.Refusing.{refused}
+use Rattle.run_commands.specs.parts.RunErrors.{error_of_fault}
+use Rattle.run_commands.specs.declared.parts.run_error.RunError.{RunError}
+use Rattle.run_commands.specs.parts.laws.Damage.{IsShown, fault_cause}
+use Rattle.run_commands.specs.parts.laws.Parts.{happened_as, stopped_as, refusal_written, refusal_begun, keeps_both, later_cause}
+
+module _ {K : Type 0} (kept : K → Kept) (s0 s1 : Sites K) where
+  -- ---- reads
+
+  module _ (looks : Looks kept s0 s1) where
+    -- they keep the servers
+    pub looked_keeps : AllClosed (work kept s0) → KeepsServers kept s0 s1
+    looked_keeps closed = record { names = looks.stays.passes.names; faults = looks.stays.passes.faults; closed = subst AllClosed (sym looks.stays.work) closed }
+
+    -- and the world for which these stand
+    pub looked_stands : (w : World) → Stands (names s0) (held kept s0) w → Stands (names s1) (held kept s1) w
+    looked_stands w stands = subst (λ (l : List (List ℕ)). Stands l (held kept s1) w) (sym looks.stays.passes.names) (subst (λ (h : List (Option Contents)). Stands (names s0) h w) (sym looks.stays.held) stands)
+
+    -- a world for which the servers stand after them is one for which they stood before
+    pub stood_before : (w : World) → Stands (names s1) (held kept s1) w → Stands (names s0) (held kept s0) w
+    stood_before w stands = subst (λ (h : List (Option Contents)). Stands (names s0) h w) looks.stays.held (subst (λ (l : List (List ℕ)). Stands l (held kept s1) w) looks.stays.passes.names stands)
+
+    -- no transaction is open after them
+    pub closed_after : AllClosed (work kept s0) → AllClosed (work kept s1)
+    closed_after closed = (looked_keeps closed).closed
+
+    -- what keeps the servers after them keeps them from the beginning
+    pub keeps_after : AllClosed (work kept s0) → (s2 : Sites K) → KeepsServers kept s1 s2 → KeepsServers kept s0 s2
+    keeps_after closed s2 keeps = keeps_both kept s0 s1 s2 (looked_keeps closed) keeps
+
+    module _ (s2 : Sites K) (t u : Option (List ℕ)) where
+      -- what went on after them went on from the beginning
+      pub went_looked : (w : World) (events : List (Event World)) → Went (Stands (names s1)) events w (held kept s2) t u → Went (Stands (names s0)) events w (held kept s2) t u
+      went_looked w events = subst (λ (l : List (List ℕ)). Went (Stands l) events w (held kept s2) t u) looks.stays.passes.names
+
+      -- and what stopped after them stopped from there
+      pub ended_looked : (w : World) (events : List (Event World)) → Stopped (Stands (names s1)) events w (held kept s2) t u → Stopped (Stands (names s0)) events w (held kept s2) t u
+      ended_looked w events = subst (λ (l : List (List ℕ)). Stopped (Stands l) events w (held kept s2) t u) looks.stays.passes.names
+
+      -- a part that happened after them happened from the beginning
+      pub happened_looked : (events : World → List (Event World)) (answer : Bool) → Happened kept s1 s2 t u events answer → Happened kept s0 s2 t u events answer
+      happened_looked events answer happened = λ w stands. let here = happened w (looked_stands w stands) in (went_looked w (events w) here.0, here.1)
+
+      -- so it is with one that stopped
+      pub stopped_looked : (events : World → List (Event World)) → StoppedIn kept s1 s2 t u events → StoppedIn kept s0 s2 t u events
+      stopped_looked events stopped = λ w stands. ended_looked w (events w) (stopped w (looked_stands w stands))
+
+    module _ (t u : Option (List ℕ)) (refusal : Refusal) (events : World → List (Event World)) (same : (w : World) → Stands (names s0) (held kept s0) w → refused refusal ≡ events w) where
+      -- the line of a refusal was written after them, which is all that was to be done
+      pub refused_after : (answer : Bool) → (answer ≡ true) × Takes t u (lines_of (refused refusal)) → Happened kept s0 s1 t u events answer
+      refused_after answer wrote = happened_as kept s0 s1 t u (λ w. refused refusal) events same answer (happened_looked s1 t u (λ w. refused refusal) answer (refusal_written kept s1 t u refusal answer wrote))
+
+      -- a prefix of it was
+      pub begun_after : TakesPrefix t u (lines_of (refused refusal)) → StoppedIn kept s0 s1 t u events
+      begun_after wrote = stopped_as kept s0 s1 t u (λ w. refused refusal) events same (stopped_looked s1 t u (λ w. refused refusal) (refusal_begun kept s1 t u refusal wrote))
+
+    -- why a part after them ended
+    pub cause_looked : AllClosed (work kept s0) → (s2 : Sites K) (before now : ℕ) (e : RunError) → PartHasCause kept s1 s2 before now e → PartHasCause kept s0 s2 before now e
+    cause_looked closed s2 before now e = later_cause kept s0 s1 s2 before before now e (looked_keeps closed) (λ w stands. (w, subst (λ (h : List (Option Contents)). Stands (names s0) h w) (sym looks.stays.held) stands)) (omega arith)
+
+  -- ---- reads that fail
+
+  module _ (layer : Rules) (all : IsShown layer) (at : ℕ → Type 0) (below : (n : ℕ) → at n → n < length (names s0)) (e : Fault) (stops : Stops kept s0 s1 (Damages at layer kept s0) e) where
+    -- they keep the servers
+    pub stops_keeps : AllClosed (work kept s1) → KeepsServers kept s0 s1
+    stops_keeps closed = record { names = stops.passes.names; faults = stops.passes.faults; closed = closed }
+
+    -- nothing was done
+    pub stops_before : (t : Option (List ℕ)) (events : World → List (Event World)) → StoppedIn kept s0 s1 t t events
+    stops_before t events = λ w stands. stopped_before (Stands (names s0)) w (events w) (held kept s1) t (subst (λ (h : List (Option Contents)). Stands (names s0) h w) (sym stops.held) stands)
+
+    -- nothing is refused by them
+    pub stops_run : IsSome (error_of_fault e)
+    stops_run = pick e stops.blames
+      where
+        pick : (e : Fault) → Blames kept s0 s1 (Damages at layer kept s0) e → IsSome (error_of_fault e)
+        pick faults.Memory blames = refl
+        pick (faults.Keeper s) blames = refl
+        pick (faults.Damaged s a cause) blames = refl
+        pick (faults.Refused refusal) blames = absurd blames
+
+    -- why the run ends
+    pub stops_cause : AllClosed (work kept s0) → AllClosed (work kept s1) → ((w : World) → Stands (names s0) (held kept s0) w → IsNoDamage e) → (before now : ℕ) (error : RunError) → Some error ≡ error_of_fault e → PartHasCause kept s0 s1 before now error
+    stops_cause closed after none before now error is = fault_cause kept s0 s1 closed (stops_keeps after) layer all at below before now e error is stops.blames (λ n a cause met. stops.held) none

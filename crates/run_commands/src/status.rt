@@ -1,0 +1,49 @@
+//! The command `status` of a server, as a part of a run.
+//!
+//! `specs/StatusEvents.antt` says which lines it writes in a world. It stands on `show_rows`, which
+//! writes them, and on `parts`, which has the words of its contract. `session_core` carries out
+//! commands by it.
+//!
+//! For example, at the name of no server the line `refused 6 NoSuchServer zz` is written.
+
+ghost use Rattle.std.specs.Prelude.{◌≤◌, IfOk, IfErr, OnErr};
+ghost use Rattle.site_store.specs.Servers.{AllClosed};
+ghost use Rattle.site_store.specs.Views.{work};
+ghost use Rattle.site_store.specs.Calls.{KeepsServers};
+ghost use Rattle.run_commands.specs.parts.Causes.{PartHasCause};
+ghost use Rattle.run_commands.specs.parts.Parts.{Happened, StoppedIn};
+ghost use Rattle.run_commands.specs.status.StatusEvents.{status_events};
+
+use crate::parts::{RunError, error_of_reply, refuse};
+use keep_core::{Keeper, Sink};
+use repl_types::{Name, Refusal};
+use show_rows::show_server;
+use site_store::Sites;
+use std::alloc::Global;
+
+/// Writes how far the server of a name is, and says whether the name was refused, as that of no
+/// server. Nothing is changed.
+pub fn show_status<K: Keeper, O: Sink>(
+    alloc: Global,
+    sites: &mut Sites<K>,
+    output: &mut O,
+    name: Name,
+) -> Result<bool, RunError>
+    requires { AllClosed (work K.kept sites.old) }
+    ensures ok { IfOk result (Happened K.kept sites.old sites.new (O.taken output.old)
+        (O.taken output.new) (status_events name)) }
+    ensures stopped { OnErr result (StoppedIn K.kept sites.old sites.new (O.taken output.old)
+        (O.taken output.new) (status_events name)) }
+    ensures servers { KeepsServers K.kept sites.old sites.new }
+    ensures cause { IfErr result (PartHasCause K.kept sites.old sites.new (O.faults output.old)
+        (O.faults output.new)) }
+    ensures counts { O.faults output.old ≤ O.faults output.new }
+{
+    let Some(server) = sites.find(&name) else {
+        return refuse(alloc, output, &Refusal::NoSuchServer(name));
+    };
+    match show_server(sites, alloc, output, server) {
+        Ok(()) => Ok(false),
+        Err(error) => Err(error_of_reply(error)),
+    }
+}

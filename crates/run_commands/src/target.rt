@@ -1,0 +1,199 @@
+//! The commands `status Q N` and `show S target T`, as parts of a run.
+//!
+//! `specs/TargetEvents.antt` says which lines they write in a world. It stands on `show_sets`,
+//! which writes them, on `set_places`, which finds the set of a name, and on `parts`, which has
+//! the words of its contracts. `session_core` carries out these commands by it.
+//!
+//! For example, at the name of no set the line `refused 8 NoSuchSet q/z` is written.
+
+ghost use Rattle.std.specs.Prelude.{◌≡◌, ◌≤◌, Some, slice_get};
+ghost use Rattle.std.specs.Prelude.{IfOk, IfErr, OnErr};
+ghost use Rattle.repl_definitions.specs.declared.member.Member.{Member};
+ghost use Rattle.repl_model.specs.World.{World, KnownSet};
+ghost use Rattle.run_core.specs.Runs.{Went, Stopped, is_refused};
+ghost use Rattle.site_store.specs.Servers.{AllClosed, IsPlace};
+ghost use Rattle.site_store.specs.Views.{names, held, work};
+ghost use Rattle.site_store.specs.Calls.{KeepsServers};
+ghost use Rattle.world_store.specs.Stands.{Stands};
+ghost use Rattle.set_places.specs.Places.{IsPlaced, IsPlacedAs};
+ghost use Rattle.show_sets.specs.Targets.{IsTargetAt};
+ghost use Rattle.run_commands.specs.parts.Causes.{PartHasCause};
+ghost use Rattle.run_commands.specs.parts.Parts.{Happened, StoppedIn};
+ghost use Rattle.run_commands.specs.target.TargetEvents.{known_set_events, set_events};
+ghost use Rattle.run_commands.specs.target.TargetEvents.{member_events, target_events};
+
+use crate::parts::{RunError, error_of_fault, error_of_reply, refuse, refuse_set};
+use keep_core::{Keeper, Sink};
+use repl_types::{Name, Refusal, SetId};
+use set_places::{PlacedSet, find_set};
+use show_sets::{PlacedTarget, find_target, is_user_copy, show_copy, show_set};
+use site_store::Sites;
+use std::alloc::Global;
+use subs_sets::is_replica_set;
+
+/// Writes how far a set is that was found, and says whether it was refused, as a replica set.
+/// Nothing is changed.
+fn show_found_set<K: Keeper, O: Sink>(
+    alloc: Global,
+    sites: &mut Sites<K>,
+    output: &mut O,
+    number: u64,
+    set: &PlacedSet,
+) -> Result<bool, RunError>
+    requires placed { IsPlaced K.kept sites.old set.now }
+    requires known { (w : World) → Stands (names sites.old) (held K.kept sites.old) w
+        → (k : KnownSet) × IsPlacedAs w k set.now }
+    requires closed { AllClosed (work K.kept sites.old) }
+    ensures ok { IfOk result (λ refused. (w : World) (k : KnownSet)
+        → Stands (names sites.old) (held K.kept sites.old) w → IsPlacedAs w k set.now
+        → Went (Stands (names sites.old)) (known_set_events number k) w (held K.kept sites.new)
+        (O.taken output.old) (O.taken output.new)
+        × (refused ≡ is_refused (known_set_events number k))) }
+    ensures stopped { OnErr result ((w : World) (k : KnownSet)
+        → Stands (names sites.old) (held K.kept sites.old) w → IsPlacedAs w k set.now
+        → Stopped (Stands (names sites.old)) (known_set_events number k) w (held K.kept sites.new)
+        (O.taken output.old) (O.taken output.new)) }
+    ensures servers { KeepsServers K.kept sites.old sites.new }
+    ensures cause { IfErr result (PartHasCause K.kept sites.old sites.new (O.faults output.old)
+        (O.faults output.new)) }
+    ensures counts { O.faults output.old ≤ O.faults output.new }
+{
+    if is_replica_set(&set.at_target.def) {
+        return refuse(alloc, output, &Refusal::UnknownCommand { line: number });
+    }
+    match show_set(sites, alloc, output, set) {
+        Ok(()) => Ok(false),
+        Err(error) => Err(error_of_reply(error)),
+    }
+}
+
+/// Writes how far the set of a name is, and says whether the name was refused, as that of no set.
+/// Nothing is changed.
+pub fn show_set_status<K: Keeper, O: Sink>(
+    alloc: Global,
+    sites: &mut Sites<K>,
+    output: &mut O,
+    number: u64,
+    id: &SetId,
+) -> Result<bool, RunError>
+    requires { AllClosed (work K.kept sites.old) }
+    ensures ok { IfOk result (Happened K.kept sites.old sites.new (O.taken output.old)
+        (O.taken output.new) (set_events number id.now)) }
+    ensures stopped { OnErr result (StoppedIn K.kept sites.old sites.new (O.taken output.old)
+        (O.taken output.new) (set_events number id.now)) }
+    ensures servers { KeepsServers K.kept sites.old sites.new }
+    ensures cause { IfErr result (PartHasCause K.kept sites.old sites.new (O.faults output.old)
+        (O.faults output.new)) }
+    ensures counts { O.faults output.old ≤ O.faults output.new }
+{
+    let found = match find_set(sites, alloc, id) {
+        Ok(found) => found,
+        Err(fault) => return Err(error_of_fault(fault)),
+    };
+    match found {
+        Some(set) => show_found_set(alloc, sites, output, number, &set),
+        None => refuse_set(alloc, output, id),
+    }
+}
+
+/// Writes the rows of a target that was found, and says whether it was refused, as one of another
+/// kind than user copies. Nothing is changed.
+fn show_found_target<K: Keeper, O: Sink>(
+    alloc: Global,
+    sites: &mut Sites<K>,
+    output: &mut O,
+    number: u64,
+    target: &PlacedTarget,
+) -> Result<bool, RunError>
+    requires there { IsTargetAt K.kept sites.old target.now.set.target target.now }
+    requires known { (w : World) → Stands (names sites.old) (held K.kept sites.old) w
+        → (k : KnownSet) × IsPlacedAs w k target.now.set }
+    requires closed { AllClosed (work K.kept sites.old) }
+    ensures ok { IfOk result (λ refused. (w : World) (k : KnownSet) (member : Member)
+        → Stands (names sites.old) (held K.kept sites.old) w → IsPlacedAs w k target.now.set
+        → slice_get k.at_target.def.members target.now.member ≡ Some member
+        → Went (Stands (names sites.old)) (member_events number w k member) w
+        (held K.kept sites.new) (O.taken output.old) (O.taken output.new)
+        × (refused ≡ is_refused (member_events number w k member))) }
+    ensures stopped { OnErr result ((w : World) (k : KnownSet) (member : Member)
+        → Stands (names sites.old) (held K.kept sites.old) w → IsPlacedAs w k target.now.set
+        → slice_get k.at_target.def.members target.now.member ≡ Some member
+        → Stopped (Stands (names sites.old)) (member_events number w k member) w
+        (held K.kept sites.new) (O.taken output.old) (O.taken output.new)) }
+    ensures servers { KeepsServers K.kept sites.old sites.new }
+    ensures cause { IfErr result (PartHasCause K.kept sites.old sites.new (O.faults output.old)
+        (O.faults output.new)) }
+    ensures counts { O.faults output.old ≤ O.faults output.new }
+{
+    if !is_user_copy(target) {
+        return refuse(alloc, output, &Refusal::UnknownCommand { line: number });
+    }
+    match show_copy(sites, alloc, output, target) {
+        Ok(()) => Ok(false),
+        Err(error) => Err(error_of_reply(error)),
+    }
+}
+
+/// Writes the rows of the target of a name at a server, which has the name `name`, and says whether
+/// the target was refused. Nothing is changed.
+fn show_rows_at<K: Keeper, O: Sink>(
+    alloc: Global,
+    sites: &mut Sites<K>,
+    output: &mut O,
+    number: u64,
+    server: u32,
+    name: Name,
+    table: Name,
+) -> Result<bool, RunError>
+    requires server { IsPlace (names sites.old) name server }
+    requires closed { AllClosed (work K.kept sites.old) }
+    ensures ok { IfOk result (Happened K.kept sites.old sites.new (O.taken output.old)
+        (O.taken output.new) (target_events number name table)) }
+    ensures stopped { OnErr result (StoppedIn K.kept sites.old sites.new (O.taken output.old)
+        (O.taken output.new) (target_events number name table)) }
+    ensures servers { KeepsServers K.kept sites.old sites.new }
+    ensures cause { IfErr result (PartHasCause K.kept sites.old sites.new (O.faults output.old)
+        (O.faults output.new)) }
+    ensures counts { O.faults output.old ≤ O.faults output.new }
+{
+    let found = match find_target(sites, alloc, server, &table) {
+        Ok(found) => found,
+        Err(fault) => return Err(error_of_fault(fault)),
+    };
+    match found {
+        Some(target) => show_found_target(alloc, sites, output, number, &target),
+        None => {
+            let refusal = Refusal::NoSuchTable {
+                server: name,
+                table,
+            };
+            refuse(alloc, output, &refusal)
+        }
+    }
+}
+
+/// Writes the rows of the target of a name at the server of a name, and says whether the one or the
+/// other was refused, as that of no server or of no target. Nothing is changed.
+pub fn show_target_rows<K: Keeper, O: Sink>(
+    alloc: Global,
+    sites: &mut Sites<K>,
+    output: &mut O,
+    number: u64,
+    name: Name,
+    table: Name,
+) -> Result<bool, RunError>
+    requires { AllClosed (work K.kept sites.old) }
+    ensures ok { IfOk result (Happened K.kept sites.old sites.new (O.taken output.old)
+        (O.taken output.new) (target_events number name table)) }
+    ensures stopped { OnErr result (StoppedIn K.kept sites.old sites.new (O.taken output.old)
+        (O.taken output.new) (target_events number name table)) }
+    ensures servers { KeepsServers K.kept sites.old sites.new }
+    ensures cause { IfErr result (PartHasCause K.kept sites.old sites.new (O.faults output.old)
+        (O.faults output.new)) }
+    ensures counts { O.faults output.old ≤ O.faults output.new }
+{
+    let Some(server) = sites.find(&name) else {
+        return refuse(alloc, output, &Refusal::NoSuchServer(name));
+    };
+    show_rows_at(alloc, sites, output, number, server, name, table)
+}

@@ -1,2 +1,0 @@
-mod AfterReads
-mod TargetEvents
