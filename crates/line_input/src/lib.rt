@@ -1,7 +1,7 @@
 //! The lines of an input, read one at a time from any source.
 //!
 //! Below it is `keep_core`, whose `Source` it reads. Above it, `script_lines` reads the lines of
-//! a script by it and `copy_command` those that `copy` feeds.
+//! a script by it, and `session_core` those that `copy` feeds.
 //!
 //! `next_line` gives a line without its line feed and one carriage return before that. For a line
 //! of more than 1,048,576 bytes it answers `LongLine`, and keeps the first `KEPT_LIMIT` bytes. So a

@@ -4,3 +4,4 @@ pub mod Commands
 pub mod Lines
 pub mod Session
 pub mod Talk
+pub mod copy

@@ -8,7 +8,7 @@ use Rattle.run_words.specs.declared.opening.Opening.TheVariants.{Copy, Servers}
 use Rattle.run_words.specs.Openings.{AreWordsOf}
 use Rattle.repl_model.specs.World.{World}
 use Rattle.run_core.specs.Runs.{Event, Went, is_refused}
-use Rattle.copy_command.specs.CopyEvents.{copy_events}
+use Rattle.session_core.specs.copy.CopyEvents.{copy_events}
 use Rattle.run_commands.specs.parts.ExitStatus.{status_of_done}
 use Rattle.session_core.specs.Talk.{script_events}
 

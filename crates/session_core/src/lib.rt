@@ -2,9 +2,9 @@
 //! output, and answers the status of the run.
 //!
 //! Below it are `run_words`, which reads the words, `script_lines` and `script_text`, which read
-//! the lines of a script, `run_commands`, which has the commands and the contract that they share,
-//! and `copy_command`, which carries out `copy`. `world_store` and `run_core` have the definitions
-//! that say what a run does to the servers. Above it, `sqlrep` calls `session` with the standard
+//! the lines of a script, and `run_commands`, which has the commands and the contract that they
+//! share; the module `copy` carries out `copy` by them. `world_store` and `run_core` have the
+//! definitions that say what a run does to the servers. Above it, `sqlrep` calls `session` with the standard
 //! streams. The contract of `session` is what the program promises; `docs/MODEL.md` says its
 //! definitions in words.
 //!
@@ -29,6 +29,7 @@ ghost use Rattle.session_core.specs.Session.{Asks, run_events, is_done, Ran};
 mod bodies;
 mod body_lines;
 mod commands;
+mod copy;
 mod laws;
 mod opening;
 mod script;

@@ -10,8 +10,8 @@ ghost use Rattle.run_commands.specs.parts.ExitStatus.{status_of_error};
 ghost use Rattle.world_store.specs.Stands.{Stands};
 ghost use Rattle.session_core.specs.Session.{run_events};
 
+use crate::copy::copy_items;
 use crate::script::run_script;
-use copy_command::copy_items;
 use keep_core::{Keeper, Sink, Source};
 use run_commands::parts::RunError;
 use run_words::Opening;

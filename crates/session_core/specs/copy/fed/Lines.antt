@@ -1,0 +1,77 @@
+-- What is done at what is read of an input: a line within the limit, one over it, or the end.
+use Rattle.std.specs.Prelude.{◌≡◌, ◌≤◌, ℕ, ◌+◌, Bool, true, false, ◌||◌, if◌then◌else◌, List, [], length, Option, Some, None, is_none}
+use Rattle.std.specs.Option.{IfSome}
+use Rattle.keep_core.specs.Kept.{Kept}
+use Rattle.line_input.specs.declared.input.Next.{Next}
+use Rattle.line_input.specs.declared.input.Next.TheVariants.{End, Line, LongLine}
+use Rattle.repl_types.specs.declared.refusal.Refusal.TheVariants as refusals
+use Rattle.repl_model.specs.World.{World}
+use Rattle.run_core.specs.Runs.{Event, Went, is_refused}
+use Rattle.site_store.specs.Views.{names, held}
+use Rattle.site_store.specs.declared.sites.Sites.{Sites}
+use Rattle.world_store.specs.Stands.{Stands}
+use Rattle.run_commands.specs.feed.Feeds.{IsFeed}
+use Rattle.run_commands.specs.feed.FeedEvents.{feed_line_events, feed_after, refused_events, feed_end_events}
+use Rattle.run_commands.specs.declared.feed.feed.Feed.{Feed}
+use Rattle.session_core.specs.copy.fed.FedInput.{is_blank}
+
+-- it is the end
+abbrev pub is_end : Next → Bool
+is_end End = true
+is_end Line = false
+is_end LongLine = false
+
+-- ---- a line within the limit
+
+-- what is done at it: a blank one is skipped
+abbrev pub short_line_events : Feed → ℕ → List ℕ → World → List (Event World)
+short_line_events feed number line w = if is_blank line then [] else feed_line_events feed number line w
+
+-- the feed after it, None if something was refused
+abbrev pub short_line_after : Feed → ℕ → List ℕ → World → Option Feed
+short_line_after feed number line w = if is_blank line then Some feed else feed_after feed number line w
+
+-- ---- what was read
+
+-- what is done at it, with the bytes that are kept of a line
+abbrev pub read_events : Feed → ℕ → Next → List ℕ → World → List (Event World)
+read_events feed number End line w = []
+read_events feed number Line line w = short_line_events feed number line w
+read_events feed number LongLine line w = refused_events feed (refusals.LineTooLong number) w
+
+-- the feed after it
+abbrev pub read_after : Feed → ℕ → Next → List ℕ → World → Option Feed
+read_after feed number End line w = Some feed
+read_after feed number Line line w = short_line_after feed number line w
+read_after feed number LongLine line w = None
+
+-- ---- the same, if something may have been refused before
+
+-- what is done at what was read: nothing after a refusal
+abbrev pub next_events : Option Feed → ℕ → Next → List ℕ → World → List (Event World)
+next_events None number next line w = []
+next_events (Some feed) number next line w = read_events feed number next line w
+
+-- the feed after it
+abbrev pub next_after : Option Feed → ℕ → Next → List ℕ → World → Option Feed
+next_after None number next line w = None
+next_after (Some feed) number next line w = read_after feed number next line w
+
+-- what is done at the end of an input
+abbrev pub end_events : Option Feed → World → List (Event World)
+end_events None w = []
+end_events (Some feed) w = feed_end_events feed w
+
+-- ---- an answer
+
+module _ {K : Type 0} (kept : K → Kept) (old new : Sites K) (before now : Option (List ℕ)) (was : Bool) (events : World → List (Event World)) where
+  -- All of this happened, and the answer says whether something was refused, in it or before.
+  abbrev pub HappenedAfter : Bool → Type 0
+  HappenedAfter refused = (w : World) → Stands (names old) (held kept old) w → Went (Stands (names old)) (events w) w (held kept new) before now × (refused ≡ (was || is_refused (events w)))
+
+  -- All of this happened at a line, and this is the feed after it, which has read no more records than there were lines: None
+  -- if something was refused.
+  pub record Feeds (after : World → Option Feed) (number : ℕ) (feed : Option Feed) : Type 0 where
+    pub happened : HappenedAfter (is_none feed)
+    pub after_it : (w : World) → Stands (names old) (held kept old) w → feed ≡ after w
+    pub fed : IfSome feed (λ f. IsFeed f × (f.fed + length f.records ≤ number))

@@ -1,0 +1,186 @@
+//! One line of an input, and its end.
+
+ghost use Rattle.std.specs.Prelude.{◌≡◌, ◌<◌, ◌≤◌, ◌+◌, length, IfOk, IfErr, IfSome, OnErr, OnOk};
+ghost use Rattle.std.specs.Prelude.{true, false, is_none};
+ghost use Rattle.line_input.specs.Limits.{input_limit};
+ghost use Rattle.repl_types.specs.declared.refusal.Refusal.TheVariants.{LineTooLong};
+ghost use Rattle.run_commands.specs.parts.Causes.{PartHasCause};
+ghost use Rattle.run_commands.specs.parts.Parts.{Happened, StoppedIn};
+ghost use Rattle.site_store.specs.Calls.{KeepsServers};
+ghost use Rattle.site_store.specs.Servers.{AllClosed};
+ghost use Rattle.site_store.specs.Views.{work};
+ghost use Rattle.run_commands.specs.feed.Feeds.{IsFeed};
+ghost use Rattle.run_commands.specs.feed.FeedEvents.{refused_events};
+ghost use Rattle.session_core.specs.copy.fed.FedInput.{is_blank as is_blank_lem};
+ghost use Rattle.session_core.specs.copy.fed.Lines.{short_line_events, short_line_after, read_events};
+ghost use Rattle.session_core.specs.copy.fed.Lines.{read_after, next_events, next_after, end_events};
+ghost use Rattle.session_core.specs.copy.fed.Lines.{HappenedAfter, Feeds, is_end as is_end_lem};
+
+use keep_core::{Keeper, Sink};
+use line_input::Next;
+use repl_types::Refusal;
+use run_commands::feed::{Feed, end_feed, feed_line, refuse_line};
+use run_commands::parts::RunError;
+use site_store::Sites;
+use std::alloc::Global;
+
+/// Whether the input has ended.
+pub fn is_end(next: Next) -> bool
+    ensures { result ≡ is_end_lem next }
+{
+    matches!(next, Next::End)
+}
+
+/// Whether a line consists of blanks, or is empty.
+fn is_blank(line: &[u8]) -> bool
+    ensures { result ≡ is_blank_lem line.now }
+{
+    line.iter().all(|byte| *byte == b' ')
+}
+
+/// Feeds a line within the limit, unless it is blank, and answers the feed after it, or `None` if
+/// something was refused.
+fn feed_short_line<K: Keeper, O: Sink>(
+    alloc: Global,
+    sites: &mut Sites<K>,
+    output: &mut O,
+    feed: Feed,
+    number: u64,
+    line: &[u8],
+) -> Result<Option<Feed>, RunError>
+    requires closed { AllClosed (work K.kept sites.old) }
+    requires feed { IsFeed feed }
+    requires later { feed.fed + length feed.records < number }
+    requires few { number ≤ input_limit }
+    ensures ok { IfOk result (Feeds K.kept sites.old sites.new (O.taken output.old)
+        (O.taken output.new) false (short_line_events feed number line.now)
+        (short_line_after feed number line.now) number) }
+    ensures stopped { OnErr result (StoppedIn K.kept sites.old sites.new (O.taken output.old)
+        (O.taken output.new) (short_line_events feed number line.now)) }
+    ensures servers { KeepsServers K.kept sites.old sites.new }
+    ensures cause { IfErr result (PartHasCause K.kept sites.old sites.new (O.faults output.old)
+        (O.faults output.new)) }
+    ensures counts { O.faults output.old ≤ O.faults output.new }
+{
+    if is_blank(line) {
+        return Ok(Some(feed));
+    }
+    feed_line(alloc, sites, output, feed, number, line)
+}
+
+/// Refuses a line over the limit, after the records before it are committed.
+fn refuse_long_line<K: Keeper, O: Sink>(
+    alloc: Global,
+    sites: &mut Sites<K>,
+    output: &mut O,
+    feed: &Feed,
+    number: u64,
+) -> Result<(), RunError>
+    requires closed { AllClosed (work K.kept sites.old) }
+    requires feed { IsFeed feed.now }
+    ensures ok { OnOk result (Happened K.kept sites.old sites.new (O.taken output.old)
+        (O.taken output.new) (refused_events feed.now (LineTooLong number)) true) }
+    ensures stopped { OnErr result (StoppedIn K.kept sites.old sites.new (O.taken output.old)
+        (O.taken output.new) (refused_events feed.now (LineTooLong number))) }
+    ensures servers { KeepsServers K.kept sites.old sites.new }
+    ensures cause { IfErr result (PartHasCause K.kept sites.old sites.new (O.faults output.old)
+        (O.faults output.new)) }
+    ensures counts { O.faults output.old ≤ O.faults output.new }
+{
+    refuse_line(
+        alloc,
+        sites,
+        output,
+        feed,
+        &Refusal::LineTooLong { line: number },
+    )
+}
+
+/// Feeds what was read of an input, of which these bytes are kept, and answers the feed after it,
+/// or `None` if something was refused. At the end of the input nothing is done.
+fn feed_read<K: Keeper, O: Sink>(
+    alloc: Global,
+    sites: &mut Sites<K>,
+    output: &mut O,
+    feed: Feed,
+    number: u64,
+    next: Next,
+    line: &[u8],
+) -> Result<Option<Feed>, RunError>
+    requires closed { AllClosed (work K.kept sites.old) }
+    requires feed { IsFeed feed }
+    requires later { feed.fed + length feed.records < number }
+    requires few { number ≤ input_limit }
+    ensures ok { IfOk result (Feeds K.kept sites.old sites.new (O.taken output.old)
+        (O.taken output.new) false (read_events feed number next line.now)
+        (read_after feed number next line.now) number) }
+    ensures stopped { OnErr result (StoppedIn K.kept sites.old sites.new (O.taken output.old)
+        (O.taken output.new) (read_events feed number next line.now)) }
+    ensures servers { KeepsServers K.kept sites.old sites.new }
+    ensures cause { IfErr result (PartHasCause K.kept sites.old sites.new (O.faults output.old)
+        (O.faults output.new)) }
+    ensures counts { O.faults output.old ≤ O.faults output.new }
+{
+    match next {
+        Next::End => Ok(Some(feed)),
+        Next::Line => feed_short_line(alloc, sites, output, feed, number, line),
+        Next::LongLine => {
+            refuse_long_line(alloc, sites, output, &feed, number)?;
+            Ok(None)
+        }
+    }
+}
+
+/// Feeds what was read of an input, unless something was refused before.
+pub fn feed_next<K: Keeper, O: Sink>(
+    alloc: Global,
+    sites: &mut Sites<K>,
+    output: &mut O,
+    feed: Option<Feed>,
+    number: u64,
+    next: Next,
+    line: &[u8],
+) -> Result<Option<Feed>, RunError>
+    requires closed { AllClosed (work K.kept sites.old) }
+    requires feed { IfSome feed (λ f. IsFeed f × (f.fed + length f.records < number)) }
+    requires few { number ≤ input_limit }
+    ensures ok { IfOk result (Feeds K.kept sites.old sites.new (O.taken output.old)
+        (O.taken output.new) (is_none feed) (next_events feed number next line.now)
+        (next_after feed number next line.now) number) }
+    ensures stopped { OnErr result (StoppedIn K.kept sites.old sites.new (O.taken output.old)
+        (O.taken output.new) (next_events feed number next line.now)) }
+    ensures servers { KeepsServers K.kept sites.old sites.new }
+    ensures cause { IfErr result (PartHasCause K.kept sites.old sites.new (O.faults output.old)
+        (O.faults output.new)) }
+    ensures counts { O.faults output.old ≤ O.faults output.new }
+{
+    match feed {
+        Some(feed) => feed_read(alloc, sites, output, feed, number, next, line),
+        None => Ok(None),
+    }
+}
+
+/// Ends the feed at the end of the input, unless something was refused before. Says whether
+/// something was refused.
+pub fn end_lines<K: Keeper, O: Sink>(
+    alloc: Global,
+    sites: &mut Sites<K>,
+    output: &mut O,
+    feed: Option<Feed>,
+) -> Result<bool, RunError>
+    requires closed { AllClosed (work K.kept sites.old) }
+    requires feed { IfSome feed IsFeed }
+    ensures ok { IfOk result (HappenedAfter K.kept sites.old sites.new (O.taken output.old)
+        (O.taken output.new) (is_none feed) (end_events feed)) }
+    ensures stopped { OnErr result (StoppedIn K.kept sites.old sites.new (O.taken output.old)
+        (O.taken output.new) (end_events feed)) }
+    ensures servers { KeepsServers K.kept sites.old sites.new }
+    ensures cause { IfErr result (PartHasCause K.kept sites.old sites.new (O.faults output.old)
+        (O.faults output.new)) }
+    ensures counts { O.faults output.old ≤ O.faults output.new }
+{
+    match feed {
+        Some(feed) => end_feed(alloc, sites, output, &feed),
+        None => Ok(true),
+    }
+}

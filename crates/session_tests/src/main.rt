@@ -1,0 +1,20 @@
+//! Tests of whole scripts, run by `session` at servers in memory, with a failure at each call.
+//!
+//! It has no code but tests. It stands on `session_core`, and nothing stands on it.
+//!
+//! It is a program that does nothing: of a library near the top `rt ci` would sum all sources below,
+//! once for each path to them.
+#![tactic(auto)]
+
+#[cfg(test)]
+mod applies;
+#[cfg(test)]
+mod captures;
+#[cfg(test)]
+mod feeds;
+#[cfg(test)]
+mod loads;
+#[cfg(test)]
+mod runs;
+
+fn main(_rt: HostRuntime) {}
