@@ -33,7 +33,7 @@ impl<'a> LeftSide<'a> {
     }
 }
 
-/// How many left sides can be pending in one call of `test`.
+/// How many left sides can be pending in one call of `test_forks`.
 pub(crate) const ROOM: usize = 256;
 
 /// The left sides that are pending, each in the right side of the one before it.

@@ -104,7 +104,7 @@ fn descend<'a>(predicate: &'a Predicate, row: &Row, pending: &mut Pending<'a>) -
             ChainEnd::Fork(left, right) => {
                 pending.push(left);
                 if pending.is_full() {
-                    return test(right, row);
+                    return test_forks(right, row);
                 }
                 current = right;
             }
@@ -112,15 +112,9 @@ fn descend<'a>(predicate: &'a Predicate, row: &Row, pending: &mut Pending<'a>) -
     }
 }
 
-/// Whether a predicate is true of a row. It takes no memory.
-///
-/// A stored predicate may be nested as deep as a stored value is long, so a call for each level
-/// could run out of stack. If a side is a leaf, that is tested first, and the other side takes the
-/// predicate's place. If neither is, the left side is pending while the right side is tested. A
-/// stored value has room for fewer than 32,768 predicates neither of whose sides is a leaf, and a
-/// call has room for 256 left sides, so at most 128 calls of `test` are at work at a time.
+/// Whether a predicate is true of a row, with a place for the left sides that are pending.
 #[cycle(truth)]
-pub fn test(predicate: &Predicate, row: &Row) -> bool
+fn test_forks(predicate: &Predicate, row: &Row) -> bool
     ensures { result ≡ is_true_of row.now predicate.now }
 {
     let mut pending = Pending::new(predicate);
@@ -131,5 +125,22 @@ pub fn test(predicate: &Predicate, row: &Row) -> bool
             Some(left) => current = left,
             None => return truth,
         }
+    }
+}
+
+/// Whether a predicate is true of a row. It takes no memory.
+///
+/// A stored predicate may be nested as deep as a stored value is long, so a call for each level
+/// could run out of stack. If a side is a leaf, that is tested first, and the other side takes the
+/// predicate's place. If neither is, the left side is pending while the right side is tested. A
+/// stored value has room for fewer than 32,768 predicates neither of whose sides is a leaf, and a
+/// call has room for 256 left sides, so at most 128 calls of `test_forks` are at work at a time.
+/// Most predicates have no such place, and for these no room is made.
+pub fn test(predicate: &Predicate, row: &Row) -> bool
+    ensures { result ≡ is_true_of row.now predicate.now }
+{
+    match chain_end(predicate, row) {
+        ChainEnd::Known(truth) => truth,
+        ChainEnd::Fork(_, _) => test_forks(predicate, row),
     }
 }

@@ -19,7 +19,7 @@ pub descend-returns-then-is_full-clause-same : goal.descend-returns-then-is_full
 descend-returns-then-is_full-clause-same t c =
     let row = c.args.row.now in
     let joined = sym (whole_truth-last row c.push.new.self c.loop-truth.pending c.in-Fork.left _ _ c.push.ensures c.in-Fork.ensures.0) in
-    ap (whole_truth row c.push.new.self) c.test.ensures ∙ joined ∙ c.loop-truth.invariant.same
+    ap (whole_truth row c.push.new.self) c.test_forks.ensures ∙ joined ∙ c.loop-truth.invariant.same
 
 pub descend-returns-then-is_full-clause-smaller : goal.descend-returns-then-is_full-clause-smaller
 descend-returns-then-is_full-clause-smaller t c =

@@ -7,8 +7,8 @@ use Rattle.row_expr.proofs.predicate.+truth.Given as goal
 abbrev pub decreases-descend : goal.decreases-descend
 decreases-descend l = 2 * predicate_size l.predicate.now
 
-abbrev pub decreases-test : goal.decreases-test
-decreases-test l = 2 * predicate_size l.predicate.now + 1
+abbrev pub decreases-test_forks : goal.decreases-test_forks
+decreases-test_forks l = 2 * predicate_size l.predicate.now + 1
 
 abbrev pub invariant-descend-loop-truth : goal.invariant-descend-loop-truth
 invariant-descend-loop-truth l = record {
@@ -21,12 +21,12 @@ invariant-descend-loop-truth l = record {
 abbrev pub decreases-descend-loop-truth : goal.decreases-descend-loop-truth
 decreases-descend-loop-truth l = predicate_size l.current
 
-abbrev pub invariant-test-loop-left : goal.invariant-test-loop-left
-invariant-test-loop-left l = record {
+abbrev pub invariant-test_forks-loop-left : goal.invariant-test_forks-loop-left
+invariant-test_forks-loop-left l = record {
   room : length l.pending < ROOM;
   same : whole_truth l.row l.pending (is_true_of l.row l.current) ≡ is_true_of l.row l.predicate;
   smaller : left_sizes l.pending + predicate_size l.current ≤ predicate_size l.predicate;
 }
 
-abbrev pub decreases-test-loop-left : goal.decreases-test-loop-left
-decreases-test-loop-left l = left_sizes l.pending + predicate_size l.current
+abbrev pub decreases-test_forks-loop-left : goal.decreases-test_forks-loop-left
+decreases-test_forks-loop-left l = left_sizes l.pending + predicate_size l.current
