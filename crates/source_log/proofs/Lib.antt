@@ -7,6 +7,7 @@ mod Turns
 mod Strays
 mod Flights
 mod Ends
+mod KnownTables
 mod OwnTables
 mod Outcomes
 mod ChangesTaken

@@ -1,5 +1,6 @@
 -- What may stand in the tables that an append reads, and what shows that a server is damaged.
-use Rattle.std.specs.Prelude.{◌≡◌, ◌⊎◌, ℕ, zero, true, List, Some}
+use Rattle.std.specs.Prelude.{◌≡◌, ◌⊎◌, ℕ, zero, true, List, Option, Some, None, IfSome}
+use Rattle.std.specs.Option.{option_map}
 use Rattle.std.specs.declared.cmp.Ordering.TheVariants.{Less}
 use Rattle.repl_types.specs.Bytes.{bytes_cmp}
 use Rattle.repl_types.specs.declared.area.Area.{Area}
@@ -65,6 +66,15 @@ pub record HasTable (c : Contents) (change : Change) (table : DefinedTable) : Ty
   pub stands : c areas.Defs 0 (short_text (table_of change)) ≡ Some (defined_table_spelling table)
   pub fits : IsDefinedTable table
   pub may : may_stand table.def change ≡ true
+
+-- these contents have this table under a name, or none
+abbrev pub IsTableAt : List ℕ → Option DefinedTable → Contents → Type 0
+IsTableAt name found c = (c areas.Defs 0 (short_text name) ≡ option_map defined_table_spelling found) × IfSome found IsDefinedTable
+
+-- they have the table that is known, if one is
+abbrev pub IsKnown : Option DefinedTable → Contents → Type 0
+IsKnown None c = Unit {0}
+IsKnown (Some table) c = IsTableAt table.def.name (Some table) c
 
 -- The log has a change of a transaction at a position, which may stand at its table.
 pub record IsKeptChange (tx : ℕ) (c : Contents) (pos : ℕ) (change : Change) : Type 0 where

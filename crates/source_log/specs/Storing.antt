@@ -32,7 +32,7 @@ use Rattle.log_rows.specs.InFlight.{in_flight_table}
 use Rattle.log_rows.specs.LongerTables.{log_table, head_after, head_table}
 use Rattle.site_store.specs.Damage.{AddsOnlySpelt}
 use Rattle.log_worlds.specs.LongerLogs.{is_users, IsEarly}
-use Rattle.source_log.specs.Rules.{rules, flight_key, HasTable, IsKeptChange}
+use Rattle.source_log.specs.Rules.{rules, flight_key, HasTable, IsKnown, IsKeptChange}
 use Rattle.source_log.specs.declared.outcome.Outcome.{Outcome}
 use Rattle.source_log.specs.declared.outcome.Outcome.TheVariants as outcomes
 
@@ -128,6 +128,10 @@ pub record TakesRecord (head : Head) (r : LogRecord) (outcome : Outcome) (c d : 
   pub ends : IsLastKey (c areas.Log 0) (b64 head.last) → IsLastKey (d areas.Log 0) (b64 (end_after outcome r head).last)
   pub told : (server : Server) → IsKept server → head ≡ head_of server → Stores server c → outcome ≡ outcome_of server r
   pub stores : (server : Server) → IsKept server → head ≡ head_of server → Stores server c → Stores (after_outcome outcome r server) d
+
+-- a record was taken, or it wasn't, if the contents have the table that is known; they have the one that is known then
+abbrev pub TakesKnowing : Option DefinedTable → Option DefinedTable → Head → LogRecord → Outcome → Contents → Contents → Type 0
+TakesKnowing before now head r outcome c d = IsKnown before c → TakesRecord head r outcome c d × IsKnown now d
 
 -- A record that a user may append, if it is applicable and there is room.
 pub record MayAppend (r : LogRecord) : Type 0 where

@@ -21,6 +21,7 @@ ghost use Rattle.source_log.specs.Appending.{BlamesOrStops, stop_at};
 use crate::laws::{laws_of_logs, laws_of_worlds};
 use crate::outcome::Outcome;
 use crate::progress::Progress;
+use crate::shared_table::SharedTable;
 use crate::taking::{head_after, take_record};
 use faults::{AppendError, Fault};
 use keep_core::Keeper;
@@ -74,8 +75,9 @@ fn take_first<K: Keeper>(
 {
     laws_of_worlds();
     let mut end = head;
+    let mut known: Option<SharedTable> = None;
     'records: for (taken, record) in records.iter().enumerate() {
-        let outcome = take_record(sites, alloc, server, &end, record)?;
+        let outcome = take_record(sites, alloc, server, &end, record, &mut known)?;
         let Outcome::Taken = outcome else {
             return Ok(Progress {
                 taken,

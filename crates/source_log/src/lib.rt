@@ -28,9 +28,11 @@ mod making;
 mod outcome;
 mod progress;
 mod reads;
+mod shared_table;
 mod source;
 mod step;
 mod steps;
+mod tables;
 mod taking;
 mod units;
 

@@ -31,11 +31,12 @@ fn make_one<K: Keeper>(
         (MakesOne step.now made)) }
     ensures fault { IfErr result (Breaks rules K.kept sites.old sites.new server) }
 {
-    let applies = change_applies(sites, alloc, server, &step.table, &step.change)?;
+    let table = step.table.get();
+    let applies = change_applies(sites, alloc, server, table, &step.change)?;
     if !applies {
         return Ok(false);
     }
-    make_change(sites, alloc, server, &step.table, &step.change)?;
+    make_change(sites, alloc, server, table, &step.change)?;
     Ok(true)
 }
 
@@ -82,7 +83,7 @@ fn unmake_all<K: Keeper>(
     while left > 0 {
         left -= 1;
         let step = &steps[left];
-        unmake_change(sites, alloc, server, &step.table, &step.change)?;
+        unmake_change(sites, alloc, server, step.table.get(), &step.change)?;
     }
     Ok(())
 }

@@ -1,11 +1,11 @@
 //! A change of a commit.
 
-use repl_definitions::DefinedTable;
+use crate::shared_table::SharedTable;
 use repl_types::Change;
 
-/// A change of a commit, with its table.
+/// A change of a commit, with its table, which changes of one table share.
 #[derive(Drop)]
 pub struct Step {
-    pub table: DefinedTable,
+    pub table: SharedTable,
     pub change: Change,
 }

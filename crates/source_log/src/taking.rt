@@ -14,17 +14,18 @@ ghost use Rattle.server_steps.specs.Calls.{GoesOn, Breaks, FailsToWrite};
 ghost use Rattle.log_rows.specs.LongerTables.{head_after as head_after_lem};
 ghost use Rattle.source_log.specs.Reading.{with_dropped};
 ghost use Rattle.source_log.specs.Rules.{rules, flight_key};
-ghost use Rattle.source_log.specs.Storing.{TakesRecord, HasRoom, IsCommit};
+ghost use Rattle.source_log.specs.Storing.{TakesRecord, TakesKnowing, HasRoom, IsCommit};
 
 use crate::fitting::may_stand;
 use crate::in_flight::{drop_changes, positions_of};
 use crate::laws::{laws_of_logs, laws_of_source, laws_of_turns};
 use crate::making::make_all;
 use crate::outcome::Outcome;
+use crate::shared_table::SharedTable;
 use crate::steps::read_steps;
+use crate::tables::find_table;
 use faults::Fault;
 use keep_core::Keeper;
-use repl_definitions::DefinedTable;
 use repl_records::{Head, InFlight, InFlightKey};
 use repl_types::{Change, LogRecord};
 use row_changes::table_of;
@@ -107,7 +108,8 @@ fn put_end<K: Keeper>(
     Ok(())
 }
 
-/// Takes a change, if its table is defined, it fits there, and the log has room.
+/// Takes a change, if its table is defined, it fits there, and the log has room. Its table then is
+/// known.
 fn take_change<K: Keeper>(
     sites: &mut Sites<K>,
     alloc: Global,
@@ -116,29 +118,31 @@ fn take_change<K: Keeper>(
     tx: u32,
     change: &Change,
     logged: &LogRecord,
+    known: &mut Option<SharedTable>,
 ) -> Result<Outcome, Fault>
     requires server { server < length (names sites.old) }
     requires open { IsOpenAt (work K.kept sites.old) server }
     requires is { logged.now ≡ LogRecord.Change tx change.now }
     requires typed { IsLogRecord logged.now }
     ensures ok { IfOk result (λ outcome. GoesOn K.kept sites.old sites.new server
-        (TakesRecord head.now logged.now outcome)) }
+        (TakesKnowing known.old known.new head.now logged.now outcome)) }
     ensures room { IfOk result (HasRoom head.now) }
     ensures fault { IfErr result (Breaks rules K.kept sites.old sites.new server) }
 {
     laws_of_source();
     laws_of_logs();
-    let found = sites.get::<DefinedTable>(alloc, server, Table0, table_of(change))?;
+    let found = find_table(sites, alloc, server, table_of(change), known)?;
     let Some(table) = found else {
         return Ok(Outcome::NotApplicable);
     };
-    if !may_stand(alloc, &table.def, change)? {
+    if !may_stand(alloc, &table.get().def, change)? {
         return Ok(Outcome::NotApplicable);
     }
     if !has_room(head) {
         return Ok(Outcome::Full);
     }
     put_change(sites, alloc, server, tx, head.last + 1, logged)?;
+    *known = Some(table);
     Ok(Outcome::Taken)
 }
 
@@ -188,13 +192,14 @@ fn take_commit<K: Keeper>(
     tx: u32,
     time: u64,
     logged: &LogRecord,
+    known: &mut Option<SharedTable>,
 ) -> Result<Outcome, Fault>
     requires server { server < length (names sites.old) }
     requires open { IsOpenAt (work K.kept sites.old) server }
     requires is { IsCommit tx time logged.now }
     requires typed { IsLogRecord logged.now }
     ensures ok { IfOk result (λ outcome. GoesOn K.kept sites.old sites.new server
-        (TakesRecord head.now logged.now outcome)) }
+        (TakesKnowing known.old known.new head.now logged.now outcome)) }
     ensures room { IfOk result (HasRoom head.now) }
     ensures fault { IfErr result (Breaks rules K.kept sites.old sites.new server) }
 {
@@ -205,7 +210,7 @@ fn take_commit<K: Keeper>(
         return Ok(Outcome::NotApplicable);
     }
     let positions = positions_of(sites, alloc, server, tx)?;
-    let steps = read_steps(sites, alloc, server, tx, positions.as_slice())?;
+    let steps = read_steps(sites, alloc, server, tx, positions.as_slice(), known)?;
     let outcome = make_all(sites, alloc, server, has_room(head), steps.as_slice())?;
     let Outcome::Taken = outcome else {
         return Ok(outcome);
@@ -222,29 +227,34 @@ fn take_commit<K: Keeper>(
     Ok(Outcome::Taken)
 }
 
-/// Takes a record, if it is applicable and the log has room, and answers what becomes of it.
+/// Takes a record, if it is applicable and the log has room, and answers what becomes of it. A
+/// table may be known, and afterwards the last one that was read is.
 pub fn take_record<K: Keeper>(
     sites: &mut Sites<K>,
     alloc: Global,
     server: u32,
     head: &Head,
     logged: &LogRecord,
+    known: &mut Option<SharedTable>,
 ) -> Result<Outcome, Fault>
     requires server { server < length (names sites.old) }
     requires open { IsOpenAt (work K.kept sites.old) server }
     requires typed { IsLogRecord logged.now }
     ensures ok { IfOk result (λ outcome. GoesOn K.kept sites.old sites.new server
-        (TakesRecord head.now logged.now outcome)) }
+        (TakesKnowing known.old known.new head.now logged.now outcome)) }
     ensures room { IfOk result (HasRoom head.now) }
     ensures fault { IfErr result (Breaks rules K.kept sites.old sites.new server) }
 {
     match logged {
         LogRecord::Change { tx, change } => {
-            take_change(sites, alloc, server, head, *tx, change, logged)
+            take_change(sites, alloc, server, head, *tx, change, logged, known)
         }
         LogRecord::Commit { tx, time, .. } => {
-            take_commit(sites, alloc, server, head, *tx, *time, logged)
+            take_commit(sites, alloc, server, head, *tx, *time, logged, known)
         }
-        LogRecord::Abort { tx } => take_abort(sites, alloc, server, head, *tx, logged),
+        LogRecord::Abort { tx } => {
+            let outcome = take_abort(sites, alloc, server, head, *tx, logged)?;
+            Ok(outcome)
+        }
     }
 }

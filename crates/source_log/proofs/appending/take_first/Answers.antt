@@ -1,4 +1,4 @@
-use Rattle.std.proofs.Common.{◌+◌, ◌<◌, ℕ, List, length, sym, subst}
+use Rattle.std.proofs.Common.{◌+◌, ◌<◌, ℕ, List, None, length, sym, subst}
 use Rattle.std.proofs.lemmas.Result.{err_from_is_err_and}
 use Rattle.repl_types.specs.declared.area.Area.TheVariants as areas
 use Rattle.keep_core.specs.Contents.{Contents, IsLastKey}
@@ -11,8 +11,8 @@ use Rattle.server_steps.specs.laws.Reads.{looks_none}
 use Rattle.server_steps.specs.laws.Steps.{goes_saw, goes_as, goes_then, goes_open}
 use Rattle.stored_defs.specs.laws.Standing.{all_at_place}
 use Rattle.source_log.specs.Appending.{TakesFirst}
-use Rattle.source_log.specs.Rules.{rules}
-use Rattle.source_log.specs.Storing.{MayAppend, TakesRecord}
+use Rattle.source_log.specs.Rules.{rules, IsKnown}
+use Rattle.source_log.specs.Storing.{MayAppend, TakesKnowing}
 use Rattle.source_log.specs.declared.outcome.Outcome.{Outcome}
 use Rattle.source_log.specs.declared.outcome.Outcome.TheVariants as outcomes
 use Rattle.source_log.proofs.Extending.{extended_shown}
@@ -23,13 +23,13 @@ pub records-init : goal.records-init
 records-init g c =
     let head = c.args.head in
     let N = λ (d : Contents). IsLastKey (d areas.Log 0) (b64 head.last) in
-    goes_saw g.K.Keeper.kept c.args.sites.now c.args.sites.now c.args.server N (λ d e. N d × TookSome head c.args.records.now 0 head d e) c.requires.open (looks_none g.K.Keeper.kept c.args.sites.now) c.requires.last (λ d n. (n, took_none head c.args.records.now d))
+    goes_saw g.K.Keeper.kept c.args.sites.now c.args.sites.now c.args.server N (λ d e. N d × TookSome head c.args.records.now 0 head d e × IsKnown None e) c.requires.open (looks_none g.K.Keeper.kept c.args.sites.now) c.requires.last (λ d n. (n, took_none head c.args.records.now d, tt))
 
 pub take_record-requires-clause-server : goal.take_record-requires-clause-server
 take_record-requires-clause-server g c = subst (λ (l : List (List ℕ)). c.args.server < length l) (sym c.records.invariant.works.passes.names) c.requires.server
 
 pub take_record-requires-clause-open : goal.take_record-requires-clause-open
-take_record-requires-clause-open g c = goes_open g.K.Keeper.kept c.args.sites.now c.records.sites c.args.server (λ d e. IsLastKey (d areas.Log 0) (b64 c.args.head.last) × TookSome c.args.head c.args.records.now c.records.taken c.records.end d e) c.requires.open c.records.invariant
+take_record-requires-clause-open g c = goes_open g.K.Keeper.kept c.args.sites.now c.records.sites c.args.server (λ d e. IsLastKey (d areas.Log 0) (b64 c.args.head.last) × TookSome c.args.head c.args.records.now c.records.taken c.records.end d e × IsKnown c.records.known e) c.requires.open c.records.invariant
 
 pub take_record-requires-clause-typed : goal.take_record-requires-clause-typed
 take_record-requires-clause-typed g c = subst IsLogRecord (sym c.index-records-taken.is) (all_at_place MayAppend c.args.records.now c.records.taken c.index-records-taken.result c.requires.records c.records-test.true).typed
@@ -40,7 +40,7 @@ returns-in_err-outcome-clause-fault g c =
     let records = c.args.records.now in
     let n = c.records.taken in
     let end = c.records.end in
-    let P = λ (d e : Contents). IsLastKey (d areas.Log 0) (b64 head.last) × TookSome head records n end d e in
+    let P = λ (d e : Contents). IsLastKey (d areas.Log 0) (b64 head.last) × TookSome head records n end d e × IsKnown c.records.known e in
     let p = err_from_is_err_and c.from_residual.result c.from_residual.ensures.1 in
     rw (p.1, p.2) (breaks_on rules g.K.Keeper.kept c.args.sites.now c.records.sites c.take_record.new.sites c.args.server P c.in_err-outcome.field-0.0 c.requires.open (λ d e took. extended_shown d e (took.1.extends took.0)) c.records.invariant c.in_err-outcome.ensures.fault)
 
@@ -58,10 +58,10 @@ returns-in_default-clause-ok g c =
     let r = c.index-records-taken.result in
     let is = c.index-records-taken.is in
     let lt = c.records-test.true in
-    let P = λ (d e : Contents). IsLastKey (d areas.Log 0) (b64 head.last) × TookSome head records n end d e in
+    let P = λ (d e : Contents). IsLastKey (d areas.Log 0) (b64 head.last) × TookSome head records n end d e × IsKnown c.records.known e in
     let outcome = c.in_ok-outcome.outcome in
-    goes_then kept s0 s1 s2 server P (TakesRecord end r outcome) (TakesFirst head records (record { taken = n; end = end; outcome = outcome })) c.requires.open c.records.invariant c.in_ok-outcome.ensures.ok
-    (λ d e f took takes. took_first head records n end d e f took.1 r is lt outcome c.in_default.not-Taken takes)
+    goes_then kept s0 s1 s2 server P (TakesKnowing c.records.known c.take_record.new.known end r outcome) (TakesFirst head records (record { taken = n; end = end; outcome = outcome })) c.requires.open c.records.invariant c.in_ok-outcome.ensures.ok
+    (λ d e f took takes. took_first head records n end d e f took.1 r is lt outcome c.in_default.not-Taken (takes took.2).0)
 
 pub records-preserved : goal.records-preserved
 records-preserved g c =
@@ -77,13 +77,15 @@ records-preserved g c =
     let r = c.index-records-taken.result in
     let is = c.index-records-taken.is in
     let lt = c.records-test.true in
-    let P = λ (d e : Contents). IsLastKey (d areas.Log 0) (b64 head.last) × TookSome head records n end d e in
+    let P = λ (d e : Contents). IsLastKey (d areas.Log 0) (b64 head.last) × TookSome head records n end d e × IsKnown c.records.known e in
     let laws = c.laws_of_worlds.ensures in
     let next = c.head_after-end.result in
     let may : MayAppend r = subst MayAppend (sym is) (all_at_place MayAppend records n r c.requires.records lt) in
-    let takes : GoesOn kept s1 s2 server (TakesRecord end r outcomes.Taken) = subst (λ (o : Outcome). GoesOn kept s1 s2 server (TakesRecord end r o)) c.in-Taken.is c.in_ok-outcome.ensures.ok in
-    goes_then kept s0 s1 s2 server P (TakesRecord end r outcomes.Taken) (λ d e. IsLastKey (d areas.Log 0) (b64 head.last) × TookSome head records (n + 1) next d e) c.requires.open c.records.invariant takes
-    (λ d e f took takes. (took.0, subst (λ (h : Head). TookSome head records (n + 1) h d f) (sym c.head_after-end.ensures) (took_more head records n end d e f took.1 r is lt laws.log laws.goes_on may takes)))
+    let before = c.records.known in
+    let now = c.take_record.new.known in
+    let takes : GoesOn kept s1 s2 server (TakesKnowing before now end r outcomes.Taken) = subst (λ (o : Outcome). GoesOn kept s1 s2 server (TakesKnowing before now end r o)) c.in-Taken.is c.in_ok-outcome.ensures.ok in
+    goes_then kept s0 s1 s2 server P (TakesKnowing before now end r outcomes.Taken) (λ d e. IsLastKey (d areas.Log 0) (b64 head.last) × TookSome head records (n + 1) next d e × IsKnown now e) c.requires.open c.records.invariant takes
+    (λ d e f took takes. let taken = takes took.2 in (took.0, subst (λ (h : Head). TookSome head records (n + 1) h d f) (sym c.head_after-end.ensures) (took_more head records n end d e f took.1 r is lt laws.log laws.goes_on may taken.0), taken.1))
 
 pub returns-clause-ok : goal.returns-clause-ok
 returns-clause-ok g c =
@@ -92,5 +94,5 @@ returns-clause-ok g c =
     let records = c.args.records.now in
     let n = c.records.taken in
     let end = c.records.end in
-    let P = λ (d e : Contents). IsLastKey (d areas.Log 0) (b64 head.last) × TookSome head records n end d e in
+    let P = λ (d e : Contents). IsLastKey (d areas.Log 0) (b64 head.last) × TookSome head records n end d e × IsKnown c.records.known e in
     goes_as kept c.args.sites.now c.records.sites c.args.server P (TakesFirst head records (record { taken = length records; end = end; outcome = outcomes.Taken })) c.requires.open c.records.invariant (λ d e took. took_all head records n end d e c.records-test.false took.1)

@@ -2,8 +2,9 @@ use Rattle.repl_types.specs.declared.area.Area.TheVariants as areas
 use Rattle.keep_core.specs.Contents.{IsLastKey}
 use Rattle.row_codec.specs.Spelling.{b64}
 use Rattle.server_steps.specs.Calls.{GoesOn}
+use Rattle.source_log.specs.Rules.{IsKnown}
 use Rattle.source_log.proofs.TakenFirst.{TookSome}
 use Rattle.source_log.proofs.appending.take_first.Given as goal
 
 abbrev pub invariant-records : goal.invariant-records
-invariant-records g l = GoesOn g.K.Keeper.kept l.fn.sites l.sites l.server (λ c d. IsLastKey (c areas.Log 0) (b64 l.fn.head.last) × TookSome l.fn.head l.records l.taken l.end c d)
+invariant-records g l = GoesOn g.K.Keeper.kept l.fn.sites l.sites l.server (λ c d. IsLastKey (c areas.Log 0) (b64 l.fn.head.last) × TookSome l.fn.head l.records l.taken l.end c d × IsKnown l.known d)

@@ -1,5 +1,9 @@
 use Rattle.std.proofs.Common.{◌≡◌, Bool, true, false, subst, refl}
+use Rattle.std.specs.Prelude.{IfSome}
 use Rattle.std.proofs.lemmas.Result.{err_from_is_err_and}
+use Rattle.repl_definitions.specs.declared.defined.DefinedTable.{DefinedTable}
+use Rattle.site_store.specs.Views.{sees}
+use Rattle.server_steps.specs.Calls.{GoesOn}
 use Rattle.server_steps.specs.laws.Damage.{write_breaks_after}
 use Rattle.server_steps.specs.laws.Steps.{goes_saw, saw_then}
 use Rattle.source_log.specs.Making.{Tells, MakesOne, with_made}
@@ -9,7 +13,7 @@ use Rattle.source_log.proofs.making.make_one.Goals as goal
 pub returns-then-not-applies-clause-ok : goal.returns-then-not-applies-clause-ok
 returns-then-not-applies-clause-ok g c =
     let step = c.args.step.now in
-    goes_saw g.K.Keeper.kept c.args.sites.now c.change_applies.new.sites c.args.server (Tells step.table step.change c.in_ok-applies.applies) (MakesOne step false) c.requires.open c.in_ok-applies.ensures.ok c.in_ok-applies.ensures.tells (λ d tells. record { tells = subst (λ (b : Bool). Tells step.table step.change b d) c.if-not-applies.true tells; makes = refl })
+    goes_saw g.K.Keeper.kept c.args.sites.now c.change_applies.new.sites c.args.server (Tells step.table step.change c.in_ok-applies.applies) (MakesOne step false) c.requires.open c.in_ok-applies.ensures.ok (subst (λ (t : DefinedTable). IfSome (sees g.K.Keeper.kept c.args.sites.now c.args.server) (Tells t step.change c.in_ok-applies.applies)) c.get-table.ensures c.in_ok-applies.ensures.tells) (λ d tells. record { tells = subst (λ (b : Bool). Tells step.table step.change b d) c.if-not-applies.true tells; makes = refl })
 
 pub returns-in_err-make_change-clause-fault : goal.returns-in_err-make_change-clause-fault
 returns-in_err-make_change-clause-fault g c =
@@ -19,4 +23,4 @@ returns-in_err-make_change-clause-fault g c =
 pub returns-clause-ok : goal.returns-clause-ok
 returns-clause-ok g c =
     let step = c.args.step.now in
-    saw_then g.K.Keeper.kept c.args.sites.now c.change_applies.new.sites c.make_change.new.sites c.args.server (Tells step.table step.change c.in_ok-applies.applies) (λ d e. e ≡ with_made step.table step.change d) (MakesOne step true) c.requires.open c.in_ok-applies.ensures.ok c.in_ok-applies.ensures.tells c.in_ok-make_change.ensures.ok (λ d e tells made. record { tells = subst (λ (b : Bool). Tells step.table step.change b d) c.if-not-applies.false tells; makes = made })
+    saw_then g.K.Keeper.kept c.args.sites.now c.change_applies.new.sites c.make_change.new.sites c.args.server (Tells step.table step.change c.in_ok-applies.applies) (λ d e. e ≡ with_made step.table step.change d) (MakesOne step true) c.requires.open c.in_ok-applies.ensures.ok (subst (λ (t : DefinedTable). IfSome (sees g.K.Keeper.kept c.args.sites.now c.args.server) (Tells t step.change c.in_ok-applies.applies)) c.get-table.ensures c.in_ok-applies.ensures.tells) (subst (λ (t : DefinedTable). GoesOn g.K.Keeper.kept c.change_applies.new.sites c.make_change.new.sites c.args.server (λ d e. e ≡ with_made t step.change d)) c.get-table.ensures c.in_ok-make_change.ensures.ok) (λ d e tells made. record { tells = subst (λ (b : Bool). Tells step.table step.change b d) c.if-not-applies.false tells; makes = made })

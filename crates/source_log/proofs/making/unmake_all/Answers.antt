@@ -1,9 +1,12 @@
 use Rattle.std.proofs.Common.{◌≡◌, ◌<◌, ◌-◌, ◌+◌, ℕ, List, length, take, sym, ap, subst, ◌∙◌, arith}
 use Rattle.std.proofs.lemmas.Result.{err_from_is_err_and}
+use Rattle.repl_definitions.specs.declared.defined.DefinedTable.{DefinedTable}
 use Rattle.repl_model.specs.Tables.{inverse}
+use Rattle.server_steps.specs.Calls.{GoesOn}
 use Rattle.server_steps.specs.laws.Faults.{write_fails_on}
 use Rattle.server_steps.specs.laws.Steps.{goes_none, goes_as, goes_then}
 use Rattle.stored_defs.specs.laws.Standing.{all_at_place}
+use Rattle.source_log.specs.Fitting.{CanBeMade}
 use Rattle.source_log.specs.Making.{StepCanBeMade, all_unmade, with_made}
 use Rattle.source_log.specs.declared.step.Step.{Step}
 use Rattle.source_log.proofs.Drops.{take_whole}
@@ -19,7 +22,7 @@ loop-left-init g c =
     }
 
 pub unmake_change-requires-clause-can : goal.unmake_change-requires-clause-can
-unmake_change-requires-clause-can g c = subst StepCanBeMade (sym c.index-steps-left.is) (all_at_place StepCanBeMade c.args.steps.now (c.loop-left.left - 1) c.index-steps-left.result c.requires.can (omega (arith, c.loop-left.invariant.few, c.loop-left-test.true)))
+unmake_change-requires-clause-can g c = subst (λ (t : DefinedTable). CanBeMade t.def c.index-steps-left.result.change) (sym c.get.ensures) (subst StepCanBeMade (sym c.index-steps-left.is) (all_at_place StepCanBeMade c.args.steps.now (c.loop-left.left - 1) c.index-steps-left.result c.requires.can (omega (arith, c.loop-left.invariant.few, c.loop-left-test.true))))
 
 pub returns-in_err-unmake_change-clause-fault : goal.returns-in_err-unmake_change-clause-fault
 returns-in_err-unmake_change-clause-fault g c =
@@ -37,7 +40,7 @@ loop-left-preserved g c =
           let step = c.index-steps-left.result in
           let lt : n < length steps = omega (arith, c.loop-left.invariant.few, c.loop-left-test.true) in
           let count : c.loop-left.left ≡ n + 1 = omega (arith, c.loop-left-test.true) in
-          goes_then g.K.Keeper.kept c.args.sites.now c.loop-left.sites c.unmake_change.new.sites c.args.server (λ d e. all_unmade (take c.loop-left.left steps) e ≡ all_unmade steps d) (λ d e. e ≡ with_made step.table (inverse step.change) d) (λ d e. all_unmade (take n steps) e ≡ all_unmade steps d) c.requires.open c.loop-left.invariant.goes c.in_ok-unmake_change.ensures.ok (λ d e f p q. unmade_next steps n step d e f lt c.index-steps-left.is (subst (λ (m : ℕ). all_unmade (take m steps) e ≡ all_unmade steps d) count p) q);
+          goes_then g.K.Keeper.kept c.args.sites.now c.loop-left.sites c.unmake_change.new.sites c.args.server (λ d e. all_unmade (take c.loop-left.left steps) e ≡ all_unmade steps d) (λ d e. e ≡ with_made step.table (inverse step.change) d) (λ d e. all_unmade (take n steps) e ≡ all_unmade steps d) c.requires.open c.loop-left.invariant.goes (subst (λ (t : DefinedTable). GoesOn g.K.Keeper.kept c.loop-left.sites c.unmake_change.new.sites c.args.server (λ d e. e ≡ with_made t (inverse step.change) d)) c.get.ensures c.in_ok-unmake_change.ensures.ok) (λ d e f p q. unmade_next steps n step d e f lt c.index-steps-left.is (subst (λ (m : ℕ). all_unmade (take m steps) e ≡ all_unmade steps d) count p) q);
     }
 
 pub returns-clause-ok : goal.returns-clause-ok

@@ -15,7 +15,7 @@ use Rattle.server_steps.specs.laws.Damage.{needed_breaks, breaks_after}
 use Rattle.server_steps.specs.laws.Reads.{sees_on, sees_back, looks_then}
 use Rattle.stored_defs.specs.laws.Passing.{if_seen, if_both_seen}
 use Rattle.source_log.specs.Making.{IsStepAt}
-use Rattle.source_log.specs.Rules.{rules, IsInFlight, IsLogged, HasTable}
+use Rattle.source_log.specs.Rules.{rules, IsInFlight, IsLogged, IsKnown, HasTable}
 use Rattle.source_log.proofs.Strays.{other_record, IsStray}
 use Rattle.source_log.proofs.steps.read_step.Goals as goal
 
@@ -66,7 +66,8 @@ returns-clause-step g c =
     let change = c.in-Some.change in
     let table = c.in_ok-table.table in
     let is : logged ≡ records.Change c.args.tx change = subst (λ (o : Option Change). IfSome o (λ x. logged ≡ records.Change c.args.tx x)) c.in-Some.is c.change_of.ensures.some in
-    if_both_seen (sees kept s0 c.args.server) (RowIs log_spelling areas.Log 0 (b64 c.args.pos) (Some logged)) (λ d. HasTable d change table) (λ d. IsStepAt c.args.tx d c.args.pos (record { table = table; change = change })) (λ d row has. record { logged = row ∙ ap (λ (r : LogRecord). Some (log_spelling r)) is; has = has }) c.in_ok-logged.ensures.row (sees_back kept s0 c.get_needed.new.self c.args.server (λ d. HasTable d change table) (record { most = reads_of_one 1 c.args.server areas.Log; stays = c.in_ok-logged.ensures.ok.stays }) c.in_ok-table.ensures.table)
+    let known = c.args.known.now in
+    if_both_seen (sees kept s0 c.args.server) (RowIs log_spelling areas.Log 0 (b64 c.args.pos) (Some logged)) (λ d. IsKnown known d → HasTable d change table) (λ d. IsKnown known d → IsStepAt c.args.tx d c.args.pos (record { table = table; change = change })) (λ d row has. λ k. record { logged = row ∙ ap (λ (r : LogRecord). Some (log_spelling r)) is; has = has k }) c.in_ok-logged.ensures.row (sees_back kept s0 c.get_needed.new.self c.args.server (λ d. IsKnown known d → HasTable d change table) (record { most = reads_of_one 1 c.args.server areas.Log; stays = c.in_ok-logged.ensures.ok.stays }) c.in_ok-table.ensures.table)
 
 pub returns-clause-can : goal.returns-clause-can
 returns-clause-can g c =

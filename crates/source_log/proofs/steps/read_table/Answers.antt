@@ -6,16 +6,25 @@ use Rattle.repl_definitions.specs.Defined.{defined_table_spelling, IsDefinedTabl
 use Rattle.site_store.specs.Calls.{reads_of_one}
 use Rattle.site_store.specs.Records.{RowIs}
 use Rattle.site_store.specs.Views.{sees}
-use Rattle.server_steps.specs.laws.Damage.{needed_breaks, breaks_after}
-use Rattle.server_steps.specs.laws.Reads.{sees_on}
+use Rattle.server_steps.specs.laws.Damage.{needed_breaks, breaks_after, memory_after}
+use Rattle.server_steps.specs.laws.Reads.{looks_none, sees_on}
 use Rattle.stored_defs.specs.laws.Passing.{if_seen, if_both_seen}
 use Rattle.source_log.specs.Rules.{rules, IsInFlight, IsLogged}
 use Rattle.source_log.proofs.Strays.{other_table, IsStray}
 use Rattle.source_log.proofs.steps.read_table.Goals as goal
 
+pub returns-in_err-found-clause-fault : goal.returns-in_err-found-clause-fault
+returns-in_err-found-clause-fault g c =
+    let s0 = c.args.sites.now in
+    let p = err_from_is_err_and c.from_residual.result c.from_residual.ensures.1 in
+    rw (p.1, p.2) (memory_after rules g.K.Keeper.kept s0 s0 c.args.server (looks_none g.K.Keeper.kept s0))
+
+pub returns-in-Some-clause-ok : goal.returns-in-Some-clause-ok
+returns-in-Some-clause-ok g c = looks_none g.K.Keeper.kept c.args.sites.now
+
 pub returns-in_err-table-clause-fault : goal.returns-in_err-table-clause-fault
 returns-in_err-table-clause-fault g c =
-    let p = err_from_is_err_and c.from_residual.result c.from_residual.ensures.1 in
+    let p = err_from_is_err_and c.from_residual-in_err-table.result c.from_residual-in_err-table.ensures.1 in
     let key = short_text c.table_of.result.now in
     let change = c.args.change.now in
     rw (p.1, p.2) (needed_breaks rules g.K.Keeper.kept IsDefinedTable defined_table_spelling c.args.sites.now c.get_needed.new.self c.args.server areas.Defs 0 key (reads_of_one 1 c.args.server areas.Defs) c.in_err-table.field-0.0 (λ bytes h. h) (if_seen (sees g.K.Keeper.kept c.args.sites.now c.args.server) (λ d. IsInFlight c.args.tx d c.args.pos × IsLogged c.args.tx d c.args.pos change) (rules.is_needed areas.Defs 0 key) (λ d h. (c.args.tx, c.args.pos, change, ap short_text c.table_of.ensures, h.0, c.requires.typed, h.1)) c.requires.in_flight) c.in_err-table.ensures.fault)

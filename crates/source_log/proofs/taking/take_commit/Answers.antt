@@ -1,4 +1,4 @@
-use Rattle.std.proofs.Common.{◌≡◌, ◌+◌, ◌<◌, ℕ, List, Some, sym, ap, subst, ◌∙◌, arith}
+use Rattle.std.proofs.Common.{◌≡◌, ◌+◌, ◌<◌, ℕ, List, Some, refl, sym, ap, subst, ◌∙◌, arith}
 use Rattle.std.specs.Prelude.{IfSome}
 use Rattle.std.proofs.lemmas.Bool.{ltb-true}
 use Rattle.std.proofs.lemmas.Result.{err_from_is_err_and}
@@ -16,17 +16,18 @@ use Rattle.server_steps.specs.laws.Steps.{goes_none, goes_then, saw_then}
 use Rattle.stored_defs.specs.laws.Passing.{if_both_seen}
 use Rattle.source_log.specs.Making.{MakesAll, AreSteps}
 use Rattle.source_log.specs.Reading.{ArePositions, with_dropped}
-use Rattle.source_log.specs.Rules.{rules}
-use Rattle.source_log.specs.Storing.{TakesRecord}
+use Rattle.source_log.specs.Rules.{rules, IsKnown}
+use Rattle.source_log.specs.Storing.{TakesKnowing}
 use Rattle.source_log.specs.declared.outcome.Outcome.{Outcome}
 use Rattle.source_log.specs.declared.outcome.Outcome.TheVariants as outcomes
 use Rattle.source_log.specs.declared.step.Step.{Step}
 use Rattle.source_log.proofs.Commits.{commit_stays, commit_made}
 use Rattle.source_log.proofs.EndsTaken.{commit_late}
+use Rattle.source_log.proofs.KnownTables.{known_stays}
 use Rattle.source_log.proofs.taking.take_commit.Goals as goal
 
 pub returns-then-time-head-clause-ok : goal.returns-then-time-head-clause-ok
-returns-then-time-head-clause-ok g c = goes_none g.K.Keeper.kept c.args.sites.now c.args.server (TakesRecord c.args.head.now c.args.logged.now outcomes.NotApplicable) c.requires.open (λ d. commit_late c.args.head.now c.args.tx d c.args.time c.args.logged.now c.requires.is c.if-time-head.true)
+returns-then-time-head-clause-ok g c = goes_none g.K.Keeper.kept c.args.sites.now c.args.server (TakesKnowing c.args.known.now c.args.known.now c.args.head.now c.args.logged.now outcomes.NotApplicable) c.requires.open (λ d. λ k. (commit_late c.args.head.now c.args.tx d c.args.time c.args.logged.now c.requires.is c.if-time-head.true, k))
 
 pub returns-in_err-steps-clause-fault : goal.returns-in_err-steps-clause-fault
 returns-in_err-steps-clause-fault g c =
@@ -55,12 +56,18 @@ returns-in_default-clause-ok g c =
     let steps = c.in_ok-steps.steps in
     let room = c.has_room.result in
     let looks = looks_then kept s0 s1 s2 c.in_ok-positions.ensures.ok c.in_ok-steps.ensures.ok in
-    let N = λ (d : Contents). ArePositions tx positions d × AreSteps tx positions steps d in
-    let saw : IfSome (sees kept s0 server) N = if_both_seen (sees kept s0 server) (ArePositions tx positions) (AreSteps tx c.as_slice.result.now steps) N (λ d f a. (f, subst (λ (ps : List ℕ). AreSteps tx ps steps d) c.as_slice.ensures a)) c.in_ok-positions.ensures.positions (sees_back kept s0 s1 server (AreSteps tx c.as_slice.result.now steps) c.in_ok-positions.ensures.ok c.in_ok-steps.ensures.steps) in
+    let before = c.args.known.now in
+    let now = c.read_steps.new.known in
+    let N = λ (d : Contents). ArePositions tx positions d × (IsKnown before d → AreSteps tx positions steps d × IsKnown now d) in
+    let A = λ (ps : List ℕ) (d : Contents). IsKnown before d → AreSteps tx ps steps d × IsKnown now d in
+    let saw : IfSome (sees kept s0 server) N = if_both_seen (sees kept s0 server) (ArePositions tx positions) (A c.as_slice.result.now) N (λ d f a. (f, subst (λ (ps : List ℕ). A ps d) c.as_slice.ensures a)) c.in_ok-positions.ensures.positions (sees_back kept s0 s1 server (A c.as_slice.result.now) c.in_ok-positions.ensures.ok c.in_ok-steps.ensures.steps) in
     let outcome = c.in_ok-outcome.outcome in
     let logs = c.laws_of_logs.ensures in
     let made : GoesOn kept s2 s3 server (MakesAll steps room outcome) = subst (λ (l : List Step). GoesOn kept s2 s3 server (MakesAll l room outcome)) c.as_slice-2.ensures c.in_ok-outcome.ensures.ok in
-    saw_then kept s0 s2 s3 server N (MakesAll steps room outcome) (TakesRecord head logged outcome) c.requires.open looks saw made (λ d e n m. commit_stays logs.flights logs.positions logs.stored logs.stand logs.tables head tx c.args.time logged c.requires.is positions steps c.in_ok-steps.ensures.can (omega (arith, c.if-time-head.false)) room d n.0 n.1 outcome e c.in_default.not-Taken c.has_room.ensures m)
+    saw_then kept s0 s2 s3 server N (MakesAll steps room outcome) (TakesKnowing before now head logged outcome) c.requires.open looks saw made (λ d e n m. λ k.
+    let read = n.1 k in
+    let takes = commit_stays logs.flights logs.positions logs.stored logs.stand logs.tables head tx c.args.time logged c.requires.is positions steps c.in_ok-steps.ensures.can (omega (arith, c.if-time-head.false)) room d n.0 read.0 outcome e c.in_default.not-Taken c.has_room.ensures m in
+    (takes, known_stays now d e (takes.others areas.Defs 0 refl) read.1))
 
 pub returns-in_default-clause-room : goal.returns-in_default-clause-room
 returns-in_default-clause-room g c = λ is. absurd (c.in_default.not-Taken is)
@@ -97,8 +104,11 @@ returns-clause-ok g c =
     let steps = c.in_ok-steps.steps in
     let room = c.has_room.result in
     let looks = looks_then kept s0 s1 s2 c.in_ok-positions.ensures.ok c.in_ok-steps.ensures.ok in
-    let N = λ (d : Contents). ArePositions tx positions d × AreSteps tx positions steps d in
-    let saw : IfSome (sees kept s0 server) N = if_both_seen (sees kept s0 server) (ArePositions tx positions) (AreSteps tx c.as_slice.result.now steps) N (λ d f a. (f, subst (λ (ps : List ℕ). AreSteps tx ps steps d) c.as_slice.ensures a)) c.in_ok-positions.ensures.positions (sees_back kept s0 s1 server (AreSteps tx c.as_slice.result.now steps) c.in_ok-positions.ensures.ok c.in_ok-steps.ensures.steps) in
+    let before = c.args.known.now in
+    let now = c.read_steps.new.known in
+    let N = λ (d : Contents). ArePositions tx positions d × (IsKnown before d → AreSteps tx positions steps d × IsKnown now d) in
+    let A = λ (ps : List ℕ) (d : Contents). IsKnown before d → AreSteps tx ps steps d × IsKnown now d in
+    let saw : IfSome (sees kept s0 server) N = if_both_seen (sees kept s0 server) (ArePositions tx positions) (A c.as_slice.result.now) N (λ d f a. (f, subst (λ (ps : List ℕ). A ps d) c.as_slice.ensures a)) c.in_ok-positions.ensures.positions (sees_back kept s0 s1 server (A c.as_slice.result.now) c.in_ok-positions.ensures.ok c.in_ok-steps.ensures.steps) in
     let s4 = c.put_end.new.sites in
     let logs = c.laws_of_logs.ensures in
     let turns = c.laws_of_turns.ensures in
@@ -107,8 +117,11 @@ returns-clause-ok g c =
     let P = λ (d e : Contents). N d × MakesAll steps room outcomes.Taken d e in
     let goes : GoesOn kept s0 s3 server P = saw_then kept s0 s2 s3 server N (MakesAll steps room outcomes.Taken) P c.requires.open looks saw made (λ d e n m. (n, m)) in
     let Q = λ (d e : Contents). e ≡ with_dropped tx c.as_slice-3.result.now (put_at d areas.Log 0 (b64 (head.last + 1)) (Some (log_spelling logged))) in
-    goes_then kept s0 s3 s4 server P Q (TakesRecord head logged outcomes.Taken) c.requires.open goes c.in_ok-put_end.ensures.ok (λ d e f p q. commit_made logs.flights logs.positions logs.stored logs.stand logs.tables head tx c.args.time logged c.requires.is positions steps c.in_ok-steps.ensures.can (omega (arith, c.if-time-head.false)) room d p.0.0 p.0.1 logs.log logs.others turns.stored turns.stand logs.commit e f c.requires.typed short p.1
-    (q ∙ ap (λ (ps : List ℕ). with_dropped tx ps (put_at e areas.Log 0 (b64 (head.last + 1)) (Some (log_spelling logged)))) c.as_slice-3.ensures))
+    goes_then kept s0 s3 s4 server P Q (TakesKnowing before now head logged outcomes.Taken) c.requires.open goes c.in_ok-put_end.ensures.ok (λ d e f p q. λ k.
+    let read = p.0.1 k in
+    let takes = commit_made logs.flights logs.positions logs.stored logs.stand logs.tables head tx c.args.time logged c.requires.is positions steps c.in_ok-steps.ensures.can (omega (arith, c.if-time-head.false)) room d p.0.0 read.0 logs.log logs.others turns.stored turns.stand logs.commit e f c.requires.typed short p.1
+    (q ∙ ap (λ (ps : List ℕ). with_dropped tx ps (put_at e areas.Log 0 (b64 (head.last + 1)) (Some (log_spelling logged)))) c.as_slice-3.ensures) in
+    (takes, known_stays now d f (takes.others areas.Defs 0 refl) read.1))
 
 pub returns-clause-room : goal.returns-clause-room
 returns-clause-room g c = λ is. ltb-true c.args.head.now.last log_limit (sym c.has_room.ensures ∙ c.in_ok-outcome.ensures.room c.in-Taken.is)
