@@ -80,8 +80,8 @@ impl Run {
         self.olds.is_empty() && self.settled == self.rows.len()
     }
 
-    /// Where the key belongs. If it is the last key or above it, or that of the row after the one
-    /// found last, this takes constant time, else the time of a binary search.
+    /// Where the key belongs. If it is the last key or above it, or that of the row found last or of
+    /// the one after it, this takes constant time, else the time of a binary search.
     pub fn spot(&mut self, key: &[u8]) -> Spot
         ensures spot { IsSpot self.new key.now result }
         ensures above { IsAbove self.new key.now → result ≡ Spot.Above }
@@ -212,7 +212,7 @@ impl Run {
         ensures spot { IsSpot self.now key.now result }
         ensures above { result ≢ Spot.Above }
     {
-        let above = self.above(self.found.saturating_add(1), key);
+        let above = self.above(self.found, key);
         if above > 0 && self.key(above - 1) == key {
             Spot::At(above - 1)
         } else {
@@ -220,16 +220,26 @@ impl Run {
         }
     }
 
-    /// The place of the first row above the key. If the row at `guess` has the key, this takes
-    /// constant time.
+    /// The place of the first row above the key. If the row at `guess` or the one after it has the
+    /// key, this takes constant time.
     fn above(&self, guess: usize, key: &[u8]) -> usize
         ensures { IsFirstAbove (keys_in self.now.bytes.items self.now.rows.items) key.now result }
     {
-        if guess < self.rows.len() && self.key(guess) == key {
-            guess + 1
-        } else {
-            first_above(&self.bytes, &self.rows, key)
+        if self.has_at(guess, key) {
+            return guess + 1;
         }
+        let next = guess.saturating_add(1);
+        if self.has_at(next, key) {
+            return next + 1;
+        }
+        first_above(&self.bytes, &self.rows, key)
+    }
+
+    /// Whether the row at a place has the key.
+    fn has_at(&self, at: usize, key: &[u8]) -> bool
+        ensures { result ≡ true → (at < length self.now.rows.items) × (key_at self.now at ≡ key.now) }
+    {
+        at < self.rows.len() && self.key(at) == key
     }
 
     /// The rows are settled as they are.
