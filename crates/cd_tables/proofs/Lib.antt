@@ -5,6 +5,7 @@ mod CapturedRows
 mod Signals
 mod PutRows
 mod Carried
+mod KnownRegistrations
 mod Elsewhere
 mod Parts
 mod FoundRows

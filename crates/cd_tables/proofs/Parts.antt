@@ -1,6 +1,6 @@
 -- A unit is captured, change by change: proofs.
 use Rattle.std.proofs.Common.{◌≡◌, ℕ, ◌+◌, ◌<◌, ◌≤◌, Bool, true, false, cond, List, [], ◌∷◌, ◌++◌, length, get_or, take, drop, refl, sym, ap, subst, ◌∙◌, arith}
-use Rattle.std.specs.Prelude.{fold, Some}
+use Rattle.std.specs.Prelude.{fold, Option, Some}
 use Rattle.std.specs.List.{flat_map}
 use Rattle.std.proofs.lemmas.List.{take-append-drop, take_all, take_more, drop_more}
 use Rattle.repl_types.specs.declared.area.Area.{Area}
@@ -17,7 +17,9 @@ use Rattle.capture_worlds.specs.Captures.{rows_captured}
 use Rattle.capture_rows.specs.StoredChanges.{with_uow_row}
 use Rattle.capture_rows.specs.StoredCaptures.{HasCaptured, HasPart, IsNextUnit, UnitBegins, UnitGoesOn, UnitEnds}
 use Rattle.cd_tables.specs.Appending.{Becomes, AppendsChange, is_of_unit, CapturesUnit}
+use Rattle.cd_tables.specs.Known.{IsKnown}
 use Rattle.cd_tables.specs.Rules.{rules}
+use Rattle.cd_tables.specs.declared.stated.StatedRegistration.{StatedRegistration}
 use Rattle.cd_tables.proofs.Elsewhere.{uow_elsewhere, change_elsewhere}
 use Rattle.cd_tables.proofs.Shown.{shown_then}
 
@@ -26,6 +28,10 @@ pub record CapturesPart (u : Unit) (changes : List Placed) (rows : ℕ) (c d : C
   pub others : (a : Area) (n : ℕ) → is_of_unit a n ≡ false → d a n ≡ c a n
   pub shown : ShownBefore rules c d
   pub part : (world : World) (server : Server) → IsNextUnit world server u → HasCaptured server c → HasPart server u changes d × (rows ≡ rows_captured u.head.seq changes server)
+
+-- They were, and what is known of a registration stands in the contents that were made.
+abbrev pub CapturesKnowing : Unit → List Placed → ℕ → Option StatedRegistration → Contents → Contents → Type 0
+CapturesKnowing u changes rows known c d = CapturesPart u changes rows c d × IsKnown known d
 
 -- no change has no rows
 no_rows_captured : (seq : ℕ) (server : Server) → 0 ≡ rows_captured seq [] server

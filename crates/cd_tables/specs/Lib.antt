@@ -2,6 +2,7 @@ pub mod Rules
 pub mod Reading
 pub mod Clearing
 pub mod Appending
+pub mod Known
 pub mod StoredRows
 pub mod Captured
 pub mod Finding

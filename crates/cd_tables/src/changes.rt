@@ -1,6 +1,6 @@
 //! One change of a unit is captured.
 
-ghost use Rattle.std.specs.Prelude.{◌≡◌, ◌<◌, ◌≤◌, length, OnOk, IfOk, IfErr};
+ghost use Rattle.std.specs.Prelude.{◌≡◌, ◌<◌, ◌≤◌, length, OnOk, IfOk, IfErr, IfSome};
 ghost use Rattle.std.specs.List.{AllByRecursion};
 ghost use Rattle.repl_model.specs.ChangeRows.{rows_of as rows_of_lem};
 ghost use Rattle.repl_model.specs.Tables.{table_of};
@@ -15,11 +15,12 @@ ghost use Rattle.capture_rows.specs.StoredChanges.{with_change_rows, with_rows_o
 ghost use Rattle.capture_rows.specs.StoredChanges.{started, stopped, with_change};
 ghost use Rattle.cd_tables.specs.Reading.{ReadsNoLog};
 ghost use Rattle.cd_tables.specs.Rules.{rules, IsRegistrationOf};
-ghost use Rattle.cd_tables.specs.Appending.{CanBeStored, Becomes, AppendsChange};
+ghost use Rattle.cd_tables.specs.Appending.{CanBeStored, Becomes};
+ghost use Rattle.cd_tables.specs.Known.{IsStated, AppendsKnowing};
 
 use crate::clearing::clear_changes;
 use crate::laws::laws_of_rows;
-use crate::registrations::{read_registration, read_state};
+use crate::stated::{StatedRegistration, find_registration, known_after};
 use faults::Fault;
 use keep_core::Keeper;
 use repl_definitions::DefinedRegistration;
@@ -226,28 +227,43 @@ fn carry_out<K: Keeper>(
     }
 }
 
-/// Captures a change of a unit with this seq, and answers how many change rows were put.
+/// A change that was captured: how many change rows were put, and the registration that is known
+/// afterwards.
+#[derive(Drop)]
+pub struct CapturedChange {
+    pub rows: u64,
+    pub known: Option<StatedRegistration>,
+}
+
+/// Captures a change of a unit with this seq. A registration may be known from the changes before.
 pub fn append_change<K: Keeper>(
     sites: &mut Sites<K>,
     alloc: Global,
     server: u32,
     seq: u64,
     placed: &Placed,
-) -> Result<u64, Fault>
+    known: Option<StatedRegistration>,
+) -> Result<CapturedChange, Fault>
     requires server { server < length (names sites.old) }
     requires open { IsOpenAt (work K.kept sites.old) server }
     requires typed { HasRows placed.now.change }
-    ensures ok { IfOk result (λ rows. GoesOn K.kept sites.old sites.new server
-        (AppendsChange seq placed.now rows)) }
-    ensures few { IfOk result (λ rows. rows ≤ 2) }
+    requires fits { IfSome known IsStated }
+    ensures ok { IfOk result (λ made. GoesOn K.kept sites.old sites.new server
+        (AppendsKnowing known made.known seq placed.now made.rows)) }
+    ensures few { IfOk result (λ made. made.rows ≤ 2) }
+    ensures fits { IfOk result (λ made. IfSome made.known IsStated) }
     ensures fault { IfErr result (Breaks rules K.kept sites.old sites.new server) }
     ensures reads { ReadsNoLog K.kept sites.old sites.new }
 {
     let name = table_of(&placed.change);
-    let Some(reg) = read_registration(sites, alloc, server, name)? else {
-        return Ok(0);
+    let found = find_registration(sites, alloc, server, name, known)?;
+    let Some(at) = found else {
+        return Ok(CapturedChange {
+            rows: 0,
+            known: None,
+        });
     };
-    let state = read_state(sites, alloc, server, name, &reg)?;
-    let rows = carry_out(sites, alloc, server, seq, placed, &reg, &state)?;
-    Ok(rows)
+    let rows = carry_out(sites, alloc, server, seq, placed, &at.reg, &at.state)?;
+    let known = known_after(&placed.change, at);
+    Ok(CapturedChange { rows, known })
 }

@@ -3,9 +3,10 @@
 //!
 //! `append_changes` puts the row of a unit and the change rows of its changes, and carries out its
 //! starts and stops, all inside the transaction that the caller has open. A change of a table that
-//! isn't registered, or whose registration isn't active, has no change row. `specs/Appending.antt`
-//! says what it makes of what a server has captured, and `specs/Rules.antt` what shows that the
-//! server is damaged.
+//! isn't registered, or whose registration isn't active, has no change row. A registration and its
+//! state are read once for changes of its table that follow one another (`specs/Known.antt`).
+//! `specs/Appending.antt` says what it makes of what a server has captured, and `specs/Rules.antt`
+//! what shows that the server is damaged.
 //!
 //! `reg_state`, `next_unit` and `next_change` read the state of a registration, the next captured
 //! unit and the next change row (`specs/Finding.antt`). `drop_upto` removes the change rows of
@@ -29,6 +30,7 @@ mod dropping;
 mod finding;
 mod laws;
 mod registrations;
+mod stated;
 mod units;
 
 pub use dropping::{drop_upto, set_code};

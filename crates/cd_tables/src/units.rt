@@ -78,8 +78,11 @@ pub fn append_changes<K: Keeper>(
     laws_of_units();
     put_unit(sites, alloc, server, &unit.head)?;
     let mut rows = 0;
+    let mut known = None;
     'changes: for placed in unit.changes.as_slice() {
-        rows += append_change(sites, alloc, server, unit.head.seq, placed)?;
+        let made = append_change(sites, alloc, server, unit.head.seq, placed, known)?;
+        rows += made.rows;
+        known = made.known;
     }
     Ok(rows)
 }
