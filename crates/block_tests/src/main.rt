@@ -5,8 +5,7 @@
 //! definitions that `load_defs` loads, and logs that `session` of `session_core` feeds and
 //! captures.
 //!
-//! It is a program that does nothing: of a library near the top `rt ci` would sum all sources below,
-//! once for each path to them.
+//! It is a program that does nothing, so that no library is made of it.
 #![tactic(auto)]
 
 #[cfg(test)]

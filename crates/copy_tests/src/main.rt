@@ -5,8 +5,7 @@
 //! `apply_cycle` with the targets of `copy_targets`, over what `load_defs`, `source_log` and
 //! `capture_core` store.
 //!
-//! It is a program that does nothing: of a library near the top `rt ci` would sum all sources below,
-//! once for each path to them.
+//! It is a program that does nothing, so that no library is made of it.
 #![tactic(auto)]
 
 #[cfg(test)]

@@ -73,8 +73,8 @@ impl ScatteredRows {
     }
 
     /// Given whether another part of the table found a next key after `after`, with that key and
-    /// its value: answers whether the whole table has a next key, and puts it in `key` and its value
-    /// in `out`. The other part counts at a key that both have.
+    /// its value: answers whether the whole table has a next key, and puts it in `key` and its
+    /// value in `out`. The other part counts at a key that both have.
     pub fn next(
         &self,
         after: Slot,

@@ -56,8 +56,8 @@ fn below(state: &mut u64, limit: u16) -> u16 {
     u16::from_be_bytes([bytes[0], bytes[1]]) % limit.max(1)
 }
 
-/// A call by chance. Half of the keys rise with the number of the call, and the others are scattered
-/// below these.
+/// A call by chance. Half of the keys rise with the number of the call, and the others are
+/// scattered below these.
 fn call_by_chance(state: &mut u64, number: u16) -> Call {
     let rising = number / 4;
     let scattered = below(state, rising);

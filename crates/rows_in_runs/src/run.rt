@@ -80,8 +80,8 @@ impl Run {
         self.olds.is_empty() && self.settled == self.rows.len()
     }
 
-    /// Where the key belongs. If it is the last key or above it, or that of the row found last or of
-    /// the one after it, this takes constant time, else the time of a binary search.
+    /// Where the key belongs. If it is the last key or above it, or that of the row found last or
+    /// of the one after it, this takes constant time, else the time of a binary search.
     pub fn spot(&mut self, key: &[u8]) -> Spot
         ensures spot { IsSpot self.new key.now result }
         ensures above { IsAbove self.new key.now → result ≡ Spot.Above }
@@ -237,7 +237,8 @@ impl Run {
 
     /// Whether the row at a place has the key.
     fn has_at(&self, at: usize, key: &[u8]) -> bool
-        ensures { result ≡ true → (at < length self.now.rows.items) × (key_at self.now at ≡ key.now) }
+        ensures { result ≡ true → (at < length self.now.rows.items)
+            × (key_at self.now at ≡ key.now) }
     {
         at < self.rows.len() && self.key(at) == key
     }

@@ -34,8 +34,8 @@ pub fn run_opening<K: Keeper, I: Source, O: Sink>(
         × (refused ≡ is_refused (run_events opening.now bytes w)))) }
     ensures stopped { OnErr result ((w : World)
         → Stands (names sites.old) (held K.kept sites.old) w → IfSome (I.left input.old) (λ bytes.
-        Stopped (Stands (names sites.old)) (run_events opening.now bytes w) w (held K.kept sites.new)
-        (O.taken output.old) (O.taken output.new))) }
+        Stopped (Stands (names sites.old)) (run_events opening.now bytes w) w
+        (held K.kept sites.new) (O.taken output.old) (O.taken output.new))) }
     ensures ended { HasEnded (I.left input.old) (I.left input.new) (I.faults input.old)
         (I.faults input.new) (O.faults output.old) (O.faults output.new) result }
     ensures servers { IfErr result (λ e.

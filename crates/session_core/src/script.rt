@@ -128,7 +128,8 @@ pub fn run_script<K: Keeper, I: Source, O: Sink>(
     ensures ok { IfOk result (λ refused. (w : World)
         → Stands (names sites.old) (held K.kept sites.old) w → IfSome (I.left input.old) (λ bytes.
         Went (Stands (names sites.old)) (script_events bytes w) w (held K.kept sites.new)
-        (O.taken output.old) (O.taken output.new) × (refused ≡ is_refused (script_events bytes w)))) }
+        (O.taken output.old) (O.taken output.new)
+        × (refused ≡ is_refused (script_events bytes w)))) }
     ensures stopped { OnErr result ((w : World)
         → Stands (names sites.old) (held K.kept sites.old) w → IfSome (I.left input.old) (λ bytes.
         Stopped (Stands (names sites.old)) (script_events bytes w) w (held K.kept sites.new)

@@ -2,8 +2,7 @@
 //!
 //! It has no code but tests. It stands on `session_core`, and nothing stands on it.
 //!
-//! It is a program that does nothing: of a library near the top `rt ci` would sum all sources below,
-//! once for each path to them.
+//! It is a program that does nothing, so that no library is made of it.
 #![tactic(auto)]
 
 #[cfg(test)]

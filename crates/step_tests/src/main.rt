@@ -3,8 +3,7 @@
 //! It has no code but tests, of `step` of `apply_cycle` with the targets of `copy_targets`, at
 //! servers in memory.
 //!
-//! It is a program that does nothing: of a library near the top `rt ci` would sum all sources below,
-//! once for each path to them.
+//! It is a program that does nothing, so that no library is made of it.
 #![tactic(auto)]
 
 #[cfg(test)]

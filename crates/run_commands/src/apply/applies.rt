@@ -36,7 +36,8 @@ fn most_of<K: Keeper>(alloc: Global, sites: &mut Sites<K>, set: &PlacedSet) -> R
     ensures most { IfOk result (MakesAtMost K.kept sites.old set.now) }
     ensures stopped { OnErr result (held K.kept sites.new ≡ held K.kept sites.old) }
     ensures servers { KeepsServers K.kept sites.old sites.new }
-    ensures cause { (count : ℕ) → IfErr result (PartHasCause K.kept sites.old sites.new count count) }
+    ensures cause { (count : ℕ)
+        → IfErr result (PartHasCause K.kept sites.old sites.new count count) }
 {
     match captured_point(sites, alloc, set) {
         Ok(point) => Ok(point.saturating_add(MORE_STEPS)),

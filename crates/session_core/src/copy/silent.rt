@@ -31,7 +31,8 @@ pub fn load_items<K: Keeper>(alloc: Global, sites: &mut Sites<K>) -> Result<(), 
     ensures stopped { OnErr result ((t : Option (List ℕ)) → StoppedIn K.kept sites.old sites.new t t
         (silent (load_text_events (Some copy_text_lem)))) }
     ensures servers { KeepsServers K.kept sites.old sites.new }
-    ensures cause { (count : ℕ) → IfErr result (PartHasCause K.kept sites.old sites.new count count) }
+    ensures cause { (count : ℕ)
+        → IfErr result (PartHasCause K.kept sites.old sites.new count count) }
 {
     let text = copy_text(alloc)?;
     let mut output = Unwritten;
@@ -47,7 +48,8 @@ pub fn apply_items<K: Keeper>(alloc: Global, sites: &mut Sites<K>) -> Result<(),
     ensures stopped { OnErr result ((t : Option (List ℕ)) → StoppedIn K.kept sites.old sites.new t t
         (silent (apply_events 0 copy_set_lem))) }
     ensures servers { KeepsServers K.kept sites.old sites.new }
-    ensures cause { (count : ℕ) → IfErr result (PartHasCause K.kept sites.old sites.new count count) }
+    ensures cause { (count : ℕ)
+        → IfErr result (PartHasCause K.kept sites.old sites.new count count) }
 {
     let set = copy_set(alloc)?;
     let mut output = Unwritten;
@@ -63,7 +65,8 @@ pub fn capture_items<K: Keeper>(alloc: Global, sites: &mut Sites<K>) -> Result<(
     ensures stopped { OnErr result ((t : Option (List ℕ)) → StoppedIn K.kept sites.old sites.new t t
         (silent (capture_events (codes "src") None None))) }
     ensures servers { KeepsServers K.kept sites.old sites.new }
-    ensures cause { (count : ℕ) → IfErr result (PartHasCause K.kept sites.old sites.new count count) }
+    ensures cause { (count : ℕ)
+        → IfErr result (PartHasCause K.kept sites.old sites.new count count) }
 {
     let source = source_name(alloc)?;
     let mut output = Unwritten;

@@ -64,7 +64,8 @@ impl Sink for KeptLines {
     fn write(&mut self, piece: &[u8]) -> Result<usize, ReadError>
         ensures whole { IfOk result (λ count. count ≡ length piece.now) }
         ensures takes { OnOk result (self.new ≡ self.old ++ piece.now) }
-        ensures memory { IfErr result (λ error. (error ≡ ReadError.Memory) × (self.new ≡ self.old)) }
+        ensures memory { IfErr result (λ error. (error ≡ ReadError.Memory)
+            × (self.new ≡ self.old)) }
     {
         match self.kept.extend_from_slice(piece) {
             Ok(()) => Ok(piece.len()),
