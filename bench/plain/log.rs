@@ -93,16 +93,24 @@ pub fn record(line: &str) -> Option<Record> {
 }
 
 /// Whether a row is one of `id int, item text, qty int null`.
-fn fits(row: &Row) -> bool {
+fn fits_orders(row: &Row) -> bool {
     matches!(&row[..], [Value::Int(_), Value::Text(text), Value::Int(_) | Value::Null] if text.len() <= 1000)
 }
 
-#[derive(Default)]
+/// A server with one table.
 pub struct Server {
     pub log: Vec<Record>,
     in_flight: BTreeMap<u32, Vec<usize>>,
     pub rows: BTreeMap<i64, Row>,
     time: u64,
+    table: &'static str,
+    fits: fn(&Row) -> bool,
+}
+
+impl Default for Server {
+    fn default() -> Server {
+        Server::of("orders", fits_orders)
+    }
 }
 
 fn key(row: &Row) -> i64 {
@@ -113,6 +121,11 @@ fn key(row: &Row) -> i64 {
 }
 
 impl Server {
+    /// A server with a table of this name, whose rows are those that fit.
+    pub fn of(table: &'static str, fits: fn(&Row) -> bool) -> Server {
+        Server { log: Vec::new(), in_flight: BTreeMap::new(), rows: BTreeMap::new(), time: 0, table, fits }
+    }
+
     fn make(&mut self, at: usize) -> bool {
         let Record::Change(_, _, change) = &self.log[at] else { return false };
         match change {
@@ -124,9 +137,10 @@ impl Server {
     }
 
     pub fn take(&mut self, record: Record) -> bool {
+        let fits = self.fits;
         match &record {
             Record::Change(tx, table, change) => {
-                let applies = table == "orders"
+                let applies = table == self.table
                     && match change {
                         Change::Insert(row) | Change::Delete(row) => fits(row),
                         Change::Update(before, after) => fits(before) && fits(after) && before[0] == after[0],
