@@ -14,11 +14,11 @@
 //!
 //! Both work inside the transaction that the caller has open at the target. `copies_are_undamaged`
 //! and `changes_are_undamaged` say that no source of a sound world shows damage, and no target that
-//! has the rows of a copy. No command uses the crate yet. It stands on `set_places`, which finds a
-//! set and its registrations, on `row_expr`, which evaluates columns and predicates, on `log_rows`
-//! and `cd_tables`, which say in what order the rows of a source and its change rows stand, on
-//! `subs_sets`, which bounds their numbers, on `server_steps`, for the words of its contracts, and
-//! on `site_store`.
+//! has the rows of a copy. `copy_targets` and `show_sets` stand on it. It stands on `set_places`,
+//! which finds a set and its registrations, on `row_expr`, which evaluates columns and predicates,
+//! on `log_rows` and `cd_tables`, which say in what order the rows of a source and its change rows
+//! stand, on `subs_sets`, which bounds their numbers, on `server_steps`, for the words of its
+//! contracts, and on `site_store`.
 //!
 //! For example, a member copies `id` and `qty` of the rows of `orders` whose `qty` is at least 10.
 //! Of the rows `(1, 'pen', 20)` and `(2, 'ink', 5)` of the source, its target gets the row `(1,

@@ -7,7 +7,6 @@ use Rattle.faults.specs.declared.fault.Fault.{Fault}
 use Rattle.keep_core.specs.Contents.{Contents}
 use Rattle.keep_core.specs.Kept.{Kept}
 use Rattle.site_store.specs.declared.sites.Sites.{Sites}
-use Rattle.site_store.specs.Views.{sees}
 use Rattle.site_store.specs.Damage.{Shows, Damages}
 use Rattle.server_steps.specs.Calls.{Looks, Breaks}
 use Rattle.server_steps.specs.laws.Faults.{stops_as, stops_after}

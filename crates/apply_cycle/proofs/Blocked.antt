@@ -7,6 +7,8 @@ use Rattle.std.proofs.lemmas.Bool.{cond-false}
 use Rattle.repl_types.specs.declared.area.Area.{Area}
 use Rattle.repl_types.specs.declared.status.DamageCause.{DamageCause}
 use Rattle.faults.specs.declared.fault.Counts.{Counts}
+use Rattle.faults.specs.declared.fault.Fault.{Fault}
+use Rattle.faults.specs.declared.fault.Fault.TheVariants as faults
 use Rattle.faults.specs.declared.fault.Stepped.TheVariants as steps
 use Rattle.keep_core.specs.Contents.{Contents}
 use Rattle.keep_core.specs.Kept.{Kept}
@@ -148,10 +150,10 @@ module _ (sound_next : NextActionsSound) (target_holds : BlockHolds) (stored : B
           (λ c d holds p. block_holds kept shows s1 reveals known known_is p.0 c d holds p.1)
           (λ other c i apart holds. (others w k (block_entry k upto) other c holds).0) stepped
 
-      -- if the call failed, they may still stand for the world before it
-      pub may_have_blocked : OthersHoldAfterStep → (held kept s2 ≡ held kept s0) ⊎ HasStepped kept s0 s2 set.target (PutsSomeTargets kept takes shows s1 set (Block known.synchpoint upto) time known) → HasBecome kept s0 s2 w ⊎ HasBecome kept s0 s2 after
-      may_have_blocked others (inl same) = inl (subst (λ (h : List (Option Contents)). Stands (names s0) h w) (sym same) stands)
-      may_have_blocked others (inr stepped) = inr (has_blocked others stepped)
+      -- if the call failed, they may still stand for the world before it, and for the one after it only if a keeper failed
+      pub may_have_blocked : OthersHoldAfterStep → (e : Fault) → (held kept s2 ≡ held kept s0) ⊎ ((e ≡ faults.Keeper set.target) × HasStepped kept s0 s2 set.target (PutsSomeTargets kept takes shows s1 set (Block known.synchpoint upto) time known)) → HasBecome kept s0 s2 w ⊎ ((s : ℕ) × (e ≡ faults.Keeper s) × HasBecome kept s0 s2 after)
+      may_have_blocked others e (inl same) = inl (subst (λ (h : List (Option Contents)). Stands (names s0) h w) (sym same) stands)
+      may_have_blocked others e (inr stepped) = inr (set.target, stepped.0, has_blocked others stepped.1)
 
       -- what is answered is the block's ends and its counts
       pub has_answered : OthersHoldAfterStep → (counts : Counts) → HasStepped kept s0 s2 set.target (PutsTargets kept takes shows s1 set (Block known.synchpoint upto) time known counts) → HasBlocked kept s0 s2 w k upto (steps.Block known.synchpoint upto counts.inserts counts.updates counts.deletes)

@@ -1,6 +1,6 @@
 -- One action of a set after reads is the step from the beginning: proofs.
-use Rattle.std.proofs.Common.{◌≡◌, ℕ, Bool, true, false, ◌||◌, List, inl, inr, refl, sym, subst, arith}
-use Rattle.std.specs.Prelude.{Option}
+use Rattle.std.proofs.Common.{◌≡◌, ◌∙◌, ℕ, Bool, true, false, ◌||◌, List, inl, inr, refl, sym, subst, arith}
+use Rattle.std.specs.Prelude.{Option, Result, Ok}
 use Rattle.repl_types.specs.declared.area.Area.{Area}
 use Rattle.repl_types.specs.declared.area.Area.TheVariants as areas
 use Rattle.repl_types.specs.declared.status.DamageCause.{DamageCause}
@@ -11,7 +11,7 @@ use Rattle.faults.specs.declared.fault.Stepped.TheVariants as steps
 use Rattle.keep_core.specs.Contents.{Contents}
 use Rattle.keep_core.specs.Kept.{Kept}
 use Rattle.repl_model.specs.AfterActions.{after_action}
-use Rattle.repl_model.specs.NextActions.{Action, next_action}
+use Rattle.repl_model.specs.NextActions.{Action, signals, refreshes, blocks, reports, idles, refuses, next_action}
 use Rattle.repl_model.specs.World.{World, KnownSet}
 use Rattle.world_store.specs.Stands.{Stands}
 use Rattle.site_store.specs.declared.sites.Sites.{Sites}
@@ -26,13 +26,14 @@ use Rattle.set_places.specs.Steps.{HasBecome, MayHaveBecome, BlamesUnchanged}
 use Rattle.set_places.specs.laws.Commits.{unchanged_after}
 use Rattle.source_log.specs.Rules.{all_rules}
 use Rattle.subs_sets.specs.Rules.{is_read, source_rules, state_rules}
+use Rattle.prune_control.specs.Noting as noting
 use Rattle.prune_control.specs.Noting.{mark_rules}
 use Rattle.target_steps.specs.Taking.{is_of_block, ShowsAtEnds}
 use Rattle.full_refresh.specs.Refreshes as refreshing
 use Rattle.full_refresh.specs.Refreshes.{IsRefresh}
 use Rattle.apply_cycle.specs.Blocks as blocking
 use Rattle.apply_cycle.specs.Blocks.{is_read_in_block, ReadsAnswered}
-use Rattle.apply_cycle.specs.Stepping.{IsAnswer, HasMade, HasFailed, ReadsInStep, IsBlamed, ShowsReportDamage, ShowsDamage}
+use Rattle.apply_cycle.specs.Stepping.{IsAnswer, HasActed, ReadsIfBlock, HasMade, HasFailed, ReadsInStep, IsBlamed, ShowsReportDamage, ShowsDamage}
 
 -- ---- in a world
 
@@ -70,7 +71,7 @@ module _ {K : Type 0} (kept : K → Kept) (s0 s1 : Sites K) (looks : Looks kept 
   may_back s2 w v e may = record {
     stands = elim may.stands [
       | inl same ↦ inl (become_back s2 w same)
-      | inr next ↦ inr (become_back s2 v next)
+      | inr next ↦ inr (next.0, next.1, become_back s2 v next.2)
     ];
     undamaged = may.undamaged;
   }
@@ -102,7 +103,7 @@ module _ {K : Type 0} (kept : K → Kept) (s0 s1 : Sites K) (looks : Looks kept 
   blamed_back D E weaker s2 faults.Memory h = blames_back D E weaker s2 faults.Memory h
   blamed_back D E weaker s2 (faults.Keeper s) h = blames_back D E weaker s2 (faults.Keeper s) h
   blamed_back D E weaker s2 (faults.Damaged s a cause) h = blames_back D E weaker s2 (faults.Damaged s a cause) h
-  blamed_back D E weaker s2 (faults.Refused refusal) h = tt
+  blamed_back D E weaker s2 (faults.Refused refusal) h = h ∙ looks.stays.held
 
 -- ---- who is to blame
 
@@ -111,7 +112,12 @@ blamed : {K : Type 0} (kept : K → Kept) (s0 s1 : Sites K) (D : ℕ → Area �
 blamed kept s0 s1 D faults.Memory h = h
 blamed kept s0 s1 D (faults.Keeper s) h = h
 blamed kept s0 s1 D (faults.Damaged s a cause) h = h
-blamed kept s0 s1 D (faults.Refused refusal) h = tt
+blamed kept s0 s1 D (faults.Refused refusal) h = absurd h.blames
+
+-- a point that wasn't noted after the state was read
+pub noted_blamed : {K : Type 0} (kept : K → Kept) (set : PlacedSet) (s0 s1 s2 : Sites K) → Looks kept s0 s1 → (e : Fault) → BlamesUnchanged kept s1 s2 (noting.ShowsDamage kept s1 set.source) e → IsBlamed kept s0 s2 (ShowsReportDamage kept s0 set) e
+noted_blamed kept set s0 s1 s2 looks e h = blamed kept s0 s2 (ShowsReportDamage kept s0 set) e
+    (blames_back kept s0 s1 looks (noting.ShowsDamage kept s1 set.source) (ShowsReportDamage kept s0 set) (λ s a cause d. inr (damage_back kept s0 s1 looks (λ q. q ≡ set.source) mark_rules s a cause d)) s2 e h)
 
 module _ {K : Type 0} (kept : K → Kept) (shows : Area → DamageCause → Option Contents → Type 0) (set : PlacedSet) (s0 s1 s2 : Sites K) (looks : Looks kept s0 s1) (e : Fault) where
   -- for a refresh
@@ -140,6 +146,34 @@ module _ {K : Type 0} (kept : K → Kept) (shows : Area → DamageCause → Opti
       weaker s a cause (inl h) = inr (inr (inr (inr (inl (damage_back kept s0 s1 looks (λ q. q ≡ set.target) state_rules s a cause h)))))
       weaker s a cause (inr h) = inr (inr (inr (inr (inr (damage_back kept s0 s1 looks (λ q. q ≡ set.source) mark_rules s a cause h)))))
 
+-- ---- what was answered
+
+-- if something was done, it isn't answered that there was nothing to do
+pub not_idle : (stepped : Stepped) (P : Type 0) → HasActed stepped → ◌≡◌ {A = Result Stepped Fault} (Ok stepped) (Ok steps.Idle) → P
+not_idle stepped P acted is = let same : stepped ≡ steps.Idle = cc in absurd (subst HasActed same acted)
+
+-- a refresh is done
+pub refresh_acted : (stepped : Stepped) → IsRefresh stepped → HasActed stepped
+refresh_acted (steps.Refresh point rows) is = tt
+refresh_acted (steps.Signal server seq) is = tt
+refresh_acted (steps.Block from to inserts updates deletes) is = tt
+refresh_acted (steps.Report point) is = tt
+refresh_acted (steps.Load m f rows) is = tt
+refresh_acted (steps.Decide t d accepted rejected) is = tt
+refresh_acted (steps.Settle m f rejected applied) is = tt
+refresh_acted steps.Idle is = absurd is
+
+-- so is a block
+pub block_acted : {K : Type 0} (kept : K → Kept) (s0 s1 : Sites K) (more : ℕ) (stepped : Stepped) → ReadsAnswered more kept s0 s1 stepped → HasActed stepped
+block_acted kept s0 s1 more (steps.Refresh point rows) counted = tt
+block_acted kept s0 s1 more (steps.Signal server seq) counted = tt
+block_acted kept s0 s1 more (steps.Block from to inserts updates deletes) counted = tt
+block_acted kept s0 s1 more (steps.Report point) counted = tt
+block_acted kept s0 s1 more (steps.Load m f rows) counted = tt
+block_acted kept s0 s1 more (steps.Decide t d accepted rejected) counted = tt
+block_acted kept s0 s1 more (steps.Settle m f rejected applied) counted = tt
+block_acted kept s0 s1 more steps.Idle counted = absurd counted
+
 -- ---- reads
 
 module _ {K : Type 0} (kept : K → Kept) (s0 s1 : Sites K) (more : ℕ) where
@@ -154,23 +188,47 @@ module _ {K : Type 0} (kept : K → Kept) (s0 s1 : Sites K) (more : ℕ) where
   refresh_reads (steps.Settle m f rejected applied) is = tt
   refresh_reads steps.Idle is = tt
 
+-- what isn't read in a block isn't read to say what comes next
+not_read : (x y : Bool) → (x || y) ≡ false → x ≡ false
+not_read true y is = is
+not_read false y is = refl
+
+module _ {K : Type 0} (kept : K → Kept) (s0 s1 : Sites K) (first : ReadsOnly is_read kept s0 s1) where
+  -- what says what comes next reads no more than a block
+  pub reads_before : ReadsOnly is_read_in_block kept s0 s1
+  reads_before = λ s a is. first s a (not_read (is_read a) (is_of_block a) is)
+
+  -- nor does a block after it
+  pub reads_then : (s2 : Sites K) → ReadsOnly is_read_in_block kept s1 s2 → ReadsOnly is_read_in_block kept s0 s2
+  reads_then s2 then = λ s a is. omega (arith, reads_before s a is, then s a is)
+
+module _ {K : Type 0} (kept : K → Kept) (s0 s1 : Sites K) where
+  -- if no more is read than by a block, this is so whatever the action is
+  pub reads_if_block : ReadsOnly is_read_in_block kept s0 s1 → (a : Action) → ReadsIfBlock kept s0 s1 a
+  reads_if_block reads signals = tt
+  reads_if_block reads refreshes = tt
+  reads_if_block reads (blocks upto) = reads
+  reads_if_block reads reports = tt
+  reads_if_block reads idles = tt
+  reads_if_block reads (refuses place) = tt
+
+  -- nothing is said of other actions
+  pub reads_unless_block : (a b : Action) → a ≡ b → ReadsIfBlock kept s0 s1 a → ReadsIfBlock kept s0 s1 b
+  reads_unless_block a b is = subst (ReadsIfBlock kept s0 s1) is
+
 -- a block after the reads of what comes next reads no more
 pub block_reads : {K : Type 0} (kept : K → Kept) (s0 s1 s2 : Sites K) (more : ℕ) (stepped : Stepped) → ReadsOnly is_read kept s0 s1 → ReadsOnly is_read_in_block kept s1 s2 → ReadsAnswered more kept s1 s2 stepped → ReadsInStep kept s0 s2 more stepped
 block_reads kept s0 s1 s2 more stepped first then = by_answer stepped
   where
-    not_read : (x y : Bool) → (x || y) ≡ false → x ≡ false
-    not_read true y is = is
-    not_read false y is = refl
-
     both : ReadsOnly is_read_in_block kept s0 s2
-    both = λ s a is. omega (arith, first s a (not_read (is_read a) (is_of_block a) is), then s a is)
+    both = reads_then kept s0 s1 first s2 then
 
     by_answer : (stepped : Stepped) → ReadsAnswered more kept s1 s2 stepped → ReadsInStep kept s0 s2 more stepped
-    by_answer (steps.Refresh point rows) counted = tt
-    by_answer (steps.Signal server seq) counted = tt
+    by_answer (steps.Refresh point rows) counted = absurd counted
+    by_answer (steps.Signal server seq) counted = absurd counted
     by_answer (steps.Block from to inserts updates deletes) counted = (both, λ short s. omega (arith, first s areas.Cd refl, counted short s))
-    by_answer (steps.Report point) counted = tt
-    by_answer (steps.Load m f rows) counted = tt
-    by_answer (steps.Decide t d accepted rejected) counted = tt
-    by_answer (steps.Settle m f rejected applied) counted = tt
-    by_answer steps.Idle counted = tt
+    by_answer (steps.Report point) counted = absurd counted
+    by_answer (steps.Load m f rows) counted = absurd counted
+    by_answer (steps.Decide t d accepted rejected) counted = absurd counted
+    by_answer (steps.Settle m f rejected applied) counted = absurd counted
+    by_answer steps.Idle counted = absurd counted

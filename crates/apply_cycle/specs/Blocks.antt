@@ -34,11 +34,11 @@ HasBlocked kept old new w k upto stepped = let changes = set_changes w k.at_targ
     HasBecome kept old new (after_action w k (blocks upto))
     × (stepped ≡ steps.Block (synchpoint k.at_target.trail) upto (count_op is_insert changes) (count_op is_update changes) (count_op is_delete changes))
 
--- At each server change rows were read as often as a block answers that there were some, and so many times more at most, unless
--- numbers have run out.
+-- What was answered is a block. At each server change rows were read as often as it answers that there were some, and so many
+-- times more at most, unless numbers have run out.
 abbrev pub ReadsAnswered : {K : Type 0} → ℕ → (K → Kept) → Sites K → Sites K → Stepped → Type 0
 ReadsAnswered more kept old new (steps.Block from to inserts updates deletes) = ReadsCounted more kept old new (record { rows = 0; inserts = inserts; updates = updates; deletes = deletes })
-ReadsAnswered more kept old new other = Unit {0}
+ReadsAnswered more kept old new other = ⊥
 
 -- ---- damage
 

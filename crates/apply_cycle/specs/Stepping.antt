@@ -18,6 +18,7 @@ use Rattle.repl_model.specs.Units.{last_commit}
 use Rattle.repl_model.specs.World.{World, KnownSet}
 use Rattle.world_store.specs.TargetRows.{set_rows_refreshed, set_changes, count_op, is_insert, is_update, is_delete}
 use Rattle.site_store.specs.declared.sites.Sites.{Sites}
+use Rattle.site_store.specs.Views.{held}
 use Rattle.set_places.specs.declared.placed_set.PlacedSet.{PlacedSet}
 use Rattle.set_places.specs.Reading.{ReadsOnly}
 use Rattle.set_places.specs.Steps.{HasBecome, MayHaveBecome, BlamesUnchanged}
@@ -51,6 +52,11 @@ IsRefused k (refusals.LogFull name) = (next_action k ≡ signals) × (log_limit 
 IsRefused k (refusals.RefreshDisabled place) = next_action k ≡ refuses place
 IsRefused k other = ⊥
 
+-- what was answered isn't that there was nothing to do
+abbrev pub HasActed : Stepped → Type 0
+HasActed steps.Idle = ⊥
+HasActed other = Unit {0}
+
 module _ {K : Type 0} (kept : K → Kept) (old new : Sites K) where
   -- a set made its next action, and this is what was answered
   abbrev pub HasMade : World → KnownSet → ℕ → Stepped → Type 0
@@ -66,9 +72,15 @@ module _ {K : Type 0} (kept : K → Kept) (old new : Sites K) where
   ReadsInStep more (steps.Block from to inserts updates deletes) = ReadsOnly is_read_in_block kept old new × ReadsAnswered more kept old new (steps.Block from to inserts updates deletes)
   ReadsInStep more other = Unit {0}
 
-  -- somebody is to blame for a fault, and if it is damage, each server holds what it held; a refusal blames nobody
+  -- if the action is a block, no log, no source and nothing spilled is read
+  abbrev pub ReadsIfBlock : Action → Type 0
+  ReadsIfBlock (blocks upto) = ReadsOnly is_read_in_block kept old new
+  ReadsIfBlock other = Unit {0}
+
+  -- Somebody is to blame for a fault, and each server holds what it held, or at a fault of a keeper what the failed commit took.
+  -- A refusal blames nobody, and leaves what each server holds.
   abbrev pub IsBlamed : (ℕ → Area → DamageCause → Type 0) → Fault → Type 0
-  IsBlamed damage (faults.Refused refusal) = Unit {0}
+  IsBlamed damage (faults.Refused refusal) = held kept new ≡ held kept old
   IsBlamed damage e = BlamesUnchanged kept old new damage e
 
 -- what the target of a set was seen to have of the set's state, or the source of its mark, shows damage

@@ -10,7 +10,7 @@
 //! It stands on `subs_sets`, which says what the set does next, on `full_refresh` and
 //! `prune_control`, which make the other actions, on `target_steps`, which puts a step at a target,
 //! and on `action_worlds` and `action_store`, which say what the commit makes of a world and of
-//! what the servers hold. No command uses it yet.
+//! what the servers hold. `run_commands` uses it.
 //!
 //! For example, the targets of a set have reached 3, and its source has captured the units at 7 and
 //! at 12. If the set has no limit on a block, its next block is from 3 to 12. If a call fails

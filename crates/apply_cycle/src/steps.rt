@@ -5,10 +5,11 @@ ghost use Rattle.repl_model.specs.NextActions.{next_action as next_action_lem, s
 ghost use Rattle.repl_model.specs.Rules.{is_replica_set};
 ghost use Rattle.site_store.specs.Calls.{KeepsServers};
 ghost use Rattle.site_store.specs.Servers.{AllClosed};
-ghost use Rattle.site_store.specs.Views.{work};
+ghost use Rattle.site_store.specs.Views.{held, work};
 ghost use Rattle.set_places.specs.Places.{IsPlaced, ForSet};
 ghost use Rattle.target_steps.specs.Steps.{TakesEach};
-ghost use Rattle.apply_cycle.specs.Stepping.{HasMade, HasFailed, ReadsInStep, IsBlamed};
+ghost use Rattle.apply_cycle.specs.Stepping.{HasActed, HasMade, HasFailed, IsBlamed};
+ghost use Rattle.apply_cycle.specs.Stepping.{ReadsInStep, ReadsIfBlock};
 ghost use Rattle.apply_cycle.specs.Stepping.{ShowsDamage, ShowsReportDamage};
 ghost use Rattle.full_refresh.specs.Signals.{ShowsDamage as ShowsSignalDamage};
 
@@ -39,6 +40,7 @@ fn signal<K: Keeper>(sites: &mut Sites<K>, alloc: Global, set: &PlacedSet) -> Re
     ensures servers { KeepsServers K.kept sites.old sites.new }
     ensures reads { let members = length set.now.at_source.def.members in
         IfOk result (ReadsInStep K.kept sites.old sites.new members) }
+    ensures acted { IfOk result HasActed }
 {
     let Some(seq) = signal_step(sites, alloc, set)? else {
         let name = set.at_source.def.source.clone()?;
@@ -65,6 +67,7 @@ fn report<K: Keeper>(sites: &mut Sites<K>, alloc: Global, set: &PlacedSet) -> Re
     ensures servers { KeepsServers K.kept sites.old sites.new }
     ensures reads { let members = length set.now.at_source.def.members in
         IfOk result (ReadsInStep K.kept sites.old sites.new members) }
+    ensures acted { IfOk result HasActed }
 {
     let known = read_only_state(sites, alloc, set)?;
     note(sites, alloc, set, known.synchpoint)?;
@@ -76,10 +79,12 @@ fn report<K: Keeper>(sites: &mut Sites<K>, alloc: Global, set: &PlacedSet) -> Re
 /// Makes the next action of a read-only set, in one commit at one of its two servers, or does
 /// nothing if there is none. It answers what was done.
 ///
-/// It is refused if a refresh is called for by a gap and forbidden, or if the log of the source has
-/// no room for a signal; then nothing is changed. After a fault nothing is changed; but if the
-/// commit failed, it may have taken place. What is said of a world holds if the kinds of all
-/// members are taken.
+/// If there is nothing to do, nothing is changed, whatever the servers hold. It is refused if a
+/// refresh is called for by a gap and forbidden, or if the log of the source has no room for a
+/// signal; then nothing is changed either. After a fault nothing is changed; but if a keeper failed
+/// at the commit, this may have taken place. A block that failed has read no log, no source and
+/// nothing spilled either. What is said of a world, but for what a block reads, holds if the kinds
+/// of all members are taken.
 pub fn step<K: Keeper, T: Targets<K>>(
     sites: &mut Sites<K>,
     alloc: Global,
@@ -99,6 +104,9 @@ pub fn step<K: Keeper, T: Targets<K>>(
     ensures servers { KeepsServers K.kept sites.old sites.new }
     ensures reads { let members = length set.now.at_source.def.members in
         IfOk result (ReadsInStep K.kept sites.old sites.new members) }
+    ensures block_reads { IfErr result (λ e. ForSet K.kept sites.old set.now (λ w k.
+        ReadsIfBlock K.kept sites.old sites.new (next_action_lem k))) }
+    ensures idle { result ≡ Ok Stepped.Idle → held K.kept sites.new ≡ held K.kept sites.old }
 {
     let action = next_action(sites, alloc, set)?;
     match action {

@@ -19,7 +19,8 @@ use Rattle.run_core.specs.Runs.{Event, commits, last_world, lines_of, Went, Stop
 use Rattle.run_core.specs.laws.Runs.{last_append, lines_append, no_part, stopped_before}
 use Rattle.site_store.specs.declared.sites.Sites.{Sites}
 use Rattle.site_store.specs.Views.{names, held, work, sees}
-use Rattle.site_store.specs.Calls.{ClosesOne}
+use Rattle.site_store.specs.Calls.{no_access, both, ClosesOne}
+use Rattle.site_store.specs.laws.Counts.{at_most_itself, passes_then, keeps_passed, passes_keeps}
 use Rattle.repl_types.specs.declared.area.Area.{Area}
 use Rattle.repl_types.specs.declared.status.DamageCause.{DamageCause}
 use Rattle.site_store.specs.Damage.{Shows, IsUndamaged}
@@ -39,7 +40,7 @@ use Rattle.capture_core.specs.declared.captured.Captured.{Captured}
 use Rattle.capture_core.specs.declared.progress.Progress.{Progress}
 use Rattle.capture_core.proofs.BatchEnds.{by_ends}
 use Rattle.capture_core.proofs.Batches.{commits_left, commits_due, due_none, due_some, due_full}
-use Rattle.capture_core.proofs.Faults.{write_undamaged, write_blames, read_blames}
+use Rattle.capture_core.proofs.Faults.{StopsAtCommit, not_committed, write_undamaged, write_blames, read_blames}
 use Rattle.capture_core.proofs.Restarts.{state_spelt}
 use Rattle.capture_core.proofs.Standing.{within, in_at, member, sound_after, holds_after}
 use Rattle.capture_core.proofs.Undamaged.{HasSpeltState, undamaged}
@@ -62,8 +63,8 @@ module _ {K : Type 0} (kept : K → Kept) (s0 : Sites K) (n every most : ℕ) (c
 
   pub begin_fails : (s1 : Sites K) (e : Fault) → Breaks rules kept s0 s1 n e → HasFailed kept s0 s1 n most every e
   begin_fails s1 e f = record {
-    named = f.passes.names;
-    faults = f.passes.faults;
+    bounds = f.most;
+    passes = f.passes;
     blames = read_blames kept s0 s1 n e (λ a cause. subst (Shows rules a cause) same) f;
     worlds = λ w stands. record {
       stopped = λ t. stopped_before (Stands (names s0)) w (first_commits n most every w) (held kept s1) t (subst (λ (h : List (Option Contents)). Stands (names s0) h w) (sym f.held) stands);
@@ -165,8 +166,8 @@ module _ {K : Type 0} (kept : K → Kept) (s0 : Sites K) (n every most : ℕ) (c
 
     pub read_fails : (s2 : Sites K) (e : Fault) → Breaks rules kept s1 s2 n e → HasFailed kept s0 s2 n most every e
     read_fails s2 e f = record {
-      named = f.passes.names ∙ way.passes.names;
-      faults = λ s. omega (arith, way.passes.faults s, f.passes.faults s);
+      bounds = both way.bounds f.most;
+      passes = passes_then kept s0 s1 s2 way.bounds f.most (both way.bounds f.most) way.passes f.passes (at_most_itself (both way.bounds f.most));
       blames = blames_after kept s0 s1 s2 way.bounds (HeldDamage kept s2 n) e way.passes (read_blames kept s1 s2 n e (seen_before (get_or (held kept s2) n None) (ap (λ (l : List (Option Contents)). get_or l n None) (sym f.held))) f);
       worlds = λ w stands. record {
         stopped = stopped_there w stands (held kept s2) f.held;
@@ -199,10 +200,10 @@ module _ {K : Type 0} (kept : K → Kept) (s0 : Sites K) (n every most : ℕ) (c
           ∙ due_some every (name w stands) (length (at w stands).waiting) (world w stands) (omega (arith, (at w stands).count, less)) (omega (arith, (at w stands).count, waits)),
     )
 
-    pub commit_fails : (s2 : Sites K) (e : Fault) → IsDue → MayCommitUnits kept s1 s2 n p.state e → HasFailed kept s0 s2 n most every e
+    pub commit_fails : (s2 : Sites K) (e : Fault) → IsDue → StopsAtCommit kept s1 s2 n p.state e → HasFailed kept s0 s2 n most every e
     commit_fails s2 e due m = record {
-      named = m.passes.names ∙ way.passes.names;
-      faults = λ s. omega (arith, way.passes.faults s, m.passes.faults s);
+      bounds = both way.bounds m.most;
+      passes = passes_then kept s0 s1 s2 way.bounds m.most (both way.bounds m.most) way.passes m.passes (at_most_itself (both way.bounds m.most));
       blames = blames_after kept s0 s1 s2 way.bounds (HeldDamage kept s2 n) e way.passes (write_blames kept s1 s2 (HeldDamage kept s2 n) e m.blames);
       worlds = λ w stands. record {
         stopped = elim m.held [
@@ -255,11 +256,7 @@ module _ {K : Type 0} (kept : K → Kept) (s0 : Sites K) (n every most : ℕ) (c
       -- if none waits, the transaction is only closed
       pub ends_closed : p.waiting < every → p.waiting ≡ 0 → ClosesOne kept s1 s2 n → HasEnded kept s0 s2 n most every answer
       ends_closed less none closes = record {
-        keeps = record {
-          names = closes.passes.names ∙ way.passes.names;
-          faults = λ s. omega (arith, way.passes.faults s, closes.passes.faults s);
-          closed = working_closed kept s1 n LeavesOthers way.working (work kept s2) closes.work;
-        };
+        keeps = passes_keeps kept s0 s1 s2 way.bounds way.passes (keeps_passed kept s1 s2 no_access closes.passes (working_closed kept s1 n LeavesOthers way.working (work kept s2) closes.work));
         worlds = λ w stands. record {
           went = went w stands [] (due_none every (name w stands) (length (at w stands).waiting) (world w stands) (omega (arith, (at w stands).count, less)) (sym (at w stands).count ∙ none)) refl
               (subst (λ (h : List (Option Contents)). Stands (names s0) h (captured (name w stands) (at w stands).done w)) (sym closes.held) (at w stands).stands);
@@ -270,11 +267,8 @@ module _ {K : Type 0} (kept : K → Kept) (s0 : Sites K) (n every most : ℕ) (c
       -- else they are committed
       pub ends_committed : p.waiting < every → 0 < p.waiting → CommitsUnits kept s1 s2 n p.state → HasEnded kept s0 s2 n most every answer
       ends_committed less waits commit = record {
-        keeps = record {
-          names = commit.commits.passes.names ∙ commit.puts.works.passes.names ∙ way.passes.names;
-          faults = λ s. omega (arith, way.passes.faults s, commit.puts.works.passes.faults s, commit.commits.passes.faults s);
-          closed = working_closed kept commit.before n (Put kept s0 n every most call s1 p way commit.before commit.puts) (put_working kept s0 n every most call s1 p way commit.before commit.puts) (work kept s2) commit.commits.work;
-        };
+        keeps = passes_keeps kept s0 s1 s2 way.bounds way.passes (passes_keeps kept s1 commit.before s2 commit.puts.most commit.puts.works.passes (keeps_passed kept commit.before s2 no_access commit.commits.passes
+            (working_closed kept commit.before n (Put kept s0 n every most call s1 p way commit.before commit.puts) (put_working kept s0 n every most call s1 p way commit.before commit.puts) (work kept s2) commit.commits.work)));
         worlds = λ w stands. record {
           went = went w stands (commits (world w stands) ∷ []) (due_some every (name w stands) (length (at w stands).waiting) (world w stands) (omega (arith, (at w stands).count, less)) (omega (arith, (at w stands).count, waits))) refl
               (committed_in kept s0 n every most call s1 p way commit.before commit.puts w stands (held kept s2) commit.commits.held).0;
@@ -294,4 +288,4 @@ module _ {K : Type 0} (kept : K → Kept) (s0 : Sites K) (n every most : ℕ) (c
     -- and else it failed
     pub end_err : IsAll → p.waiting < every → (s2 : Sites K) (r : Result Captured Fault) → IfErr r (λ e. (0 < p.waiting) × MayCommitUnits kept s1 s2 n p.state e) → IfErr r (HasFailed kept s0 s2 n most every)
     end_err all less s2 (Ok answer) fault = tt
-    end_err all less s2 (Err e) fault = commit_fails s2 e (due_at_end all less fault.0) fault.1
+    end_err all less s2 (Err e) fault = commit_fails s2 e (due_at_end all less fault.0) (not_committed kept s1 s2 n p.state e fault.1)

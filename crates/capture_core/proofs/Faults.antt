@@ -1,5 +1,5 @@
 -- Who is blamed for a fault of a capture.
-use Rattle.std.proofs.Common.{◌≡◌, inr, ap, ℕ, List, get_or, refl, sym, subst, ◌∙◌, arith}
+use Rattle.std.proofs.Common.{◌≡◌, ◌⊎◌, inl, inr, ap, ℕ, List, get_or, refl, sym, subst, ◌∙◌, arith}
 use Rattle.std.specs.Prelude.{Option, Some, None}
 use Rattle.repl_types.specs.declared.area.Area.{Area}
 use Rattle.repl_types.specs.declared.status.DamageCause.{DamageCause}
@@ -16,7 +16,7 @@ use Rattle.site_store.specs.Damage.{Shows, Damages, IsNoDamage}
 use Rattle.site_store.specs.laws.Counts.{at_most_itself, passes_then}
 use Rattle.server_steps.specs.Calls.{Breaks}
 use Rattle.server_steps.specs.laws.Faults.{stops_as, blames_after, put_fails}
-use Rattle.capture_core.specs.Committing.{CommitsUnits, MayCommitUnits}
+use Rattle.capture_core.specs.Committing.{CommitsUnits, TookUnits, MayCommitUnits}
 use Rattle.capture_core.specs.Ending.{HeldDamage}
 use Rattle.capture_core.specs.Rules.{rules}
 use Rattle.repl_records.specs.declared.capture.CaptureState.{CaptureState}
@@ -55,8 +55,24 @@ module _ {K : Type 0} (kept : K → Kept) where
         (subst (Shows rules a cause) (ap (λ (l : List (Option Contents)). get_or l n None) (sym same) ∙ sym (ap (seen_of (get_or (held kept s2) n None)) (closed n))) h.1),
   )
 
+  -- A call failed after which what was captured is committed, or isn't.
+  pub record StopsAtCommit (s1 s2 : Sites K) (n : ℕ) (state : CaptureState) (e : Fault) : Type 0 where
+    pub most : Bounds
+    pub passes : Passes kept s1 s2 most
+    pub held : (held kept s2 ≡ held kept s1) ⊎ TookUnits kept s1 s2 n state
+    pub blames : Blames kept s1 s2 (λ s a cause. ⊥) e
+
+  -- the commit failed
+  pub not_committed : (s1 s2 : Sites K) (n : ℕ) (state : CaptureState) (e : Fault) → MayCommitUnits kept s1 s2 n state e → StopsAtCommit s1 s2 n state e
+  not_committed s1 s2 n state e m = record {
+    most = m.most;
+    passes = m.passes;
+    held = elim m.held [ inl same ↦ inl same | inr took ↦ inr took.1 ];
+    blames = m.blames;
+  }
+
   -- after a commit the next transaction wasn't begun
-  pub not_begun : (s1 s3 s4 : Sites K) (n : ℕ) (state : CaptureState) (e : Fault) → CommitsUnits kept s1 s3 n state → Fails kept s3 s4 no_access (AtServer n NoDamage) e → MayCommitUnits kept s1 s4 n state e
+  pub not_begun : (s1 s3 s4 : Sites K) (n : ℕ) (state : CaptureState) (e : Fault) → CommitsUnits kept s1 s3 n state → Fails kept s3 s4 no_access (AtServer n NoDamage) e → StopsAtCommit s1 s4 n state e
   not_begun s1 s3 s4 n state e commit f =
       let x = both commit.puts.most no_access in
       let first = passes_then kept s1 commit.before s3 commit.puts.most no_access x commit.puts.works.passes commit.commits.passes (at_most_itself x) in

@@ -3,6 +3,7 @@ mod Batches
 mod Buffers
 mod Calls
 mod Committed
+mod Elsewhere
 mod Ends
 mod Faults
 mod LogReads

@@ -1,5 +1,5 @@
 -- What a capture does in a world, and what it leaves of the servers.
-use Rattle.std.specs.Prelude.{◌≡◌, ℕ, ◌%◌, ◌==◌, ◌||◌, min, List, map, take, length, Option}
+use Rattle.std.specs.Prelude.{◌≡◌, ◌≢◌, ℕ, ◌%◌, ◌==◌, ◌||◌, min, List, map, take, length, Option, None, slice_index_or}
 use Rattle.std.specs.List.{filter, range_with_len}
 use Rattle.faults.specs.declared.fault.Fault.{Fault}
 use Rattle.keep_core.specs.Kept.{Kept}
@@ -40,6 +40,10 @@ captured_counts server units w = let at = server_in w server in counts_of (taken
 -- ---- what is left of the servers
 
 module _ {K : Type 0} (kept : K → Kept) (old new : Sites K) where
+  -- each server but this one holds what it held
+  abbrev pub HoldsElsewhere : ℕ → Type 0
+  HoldsElsewhere server = (q : ℕ) → q ≢ server → slice_index_or (held kept new) q None ≡ slice_index_or (held kept old) q None
+
   -- All its commits happened, and it answers these counts.
   pub record HasCapturedAll (server : ℕ) (units : Option ℕ) (every : ℕ) (w : World) (answer : Captured) : Type 0 where
     pub went : (t : Option (List ℕ)) → Went (Stands (names old)) (capture_events server units every w) w (held kept new) t t

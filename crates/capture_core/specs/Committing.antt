@@ -2,6 +2,7 @@
 use Rattle.std.specs.Prelude.{◌≡◌, ◌≢◌, ◌⊎◌, ℕ, ◌-◌, [], Option, Some, None, slice_index_or, slice_set}
 use Rattle.repl_types.specs.declared.area.Area.TheVariants as areas
 use Rattle.faults.specs.declared.fault.Fault.{Fault}
+use Rattle.faults.specs.declared.fault.Fault.TheVariants as faults
 use Rattle.keep_core.specs.Contents.{Contents, put_at}
 use Rattle.keep_core.specs.Kept.{Kept}
 use Rattle.repl_records.specs.FirstStates.{first_capture}
@@ -70,9 +71,9 @@ module _ {K : Type 0} (kept : K → Kept) (old new : Sites K) (server : ℕ) (st
     pub puts : GoesOn kept old before server (PutsState state)
     pub held : held kept new ≡ slice_set (held kept before) server (sees kept before server)
 
-  -- A commit of this failed: each server holds what it held, or the commit took place.
+  -- A commit of this failed: each server holds what it held, or at a fault of the server's keeper the commit took place.
   pub record MayCommitUnits (e : Fault) : Type 0 where
     pub most : Bounds
     pub passes : Passes kept old new most
-    pub held : (held kept new ≡ held kept old) ⊎ TookUnits
+    pub held : (held kept new ≡ held kept old) ⊎ ((e ≡ faults.Keeper server) × TookUnits)
     pub blames : Blames kept old new (λ s a cause. ⊥) e

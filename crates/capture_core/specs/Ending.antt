@@ -6,8 +6,8 @@ use Rattle.faults.specs.declared.fault.Fault.{Fault}
 use Rattle.keep_core.specs.Kept.{Kept}
 use Rattle.site_store.specs.declared.sites.Sites.{Sites}
 use Rattle.site_store.specs.Damage.{Shows, IsNoDamage}
-use Rattle.site_store.specs.Views.{names, held, fault_counts}
-use Rattle.site_store.specs.Calls.{KeepsServers, Blames, NoneFell}
+use Rattle.site_store.specs.Views.{names, held}
+use Rattle.site_store.specs.Calls.{Bounds, Passes, KeepsServers, Blames}
 use Rattle.run_core.specs.Runs.{Event, Went, Stopped}
 use Rattle.repl_types.specs.declared.unit.Unit.{Unit}
 use Rattle.repl_model.specs.World.{World}
@@ -56,10 +56,10 @@ module _ {K : Type 0} (kept : K → Kept) (old new : Sites K) (server most every
     pub stopped : (t : Option (List ℕ)) → Stopped (Stands (names old)) (first_commits server most every w) w (held kept new) t t
     pub undamaged : IsNoDamage e
 
-  -- It is so in each world for which the servers stood. The names stay, and no count of faults fell.
+  -- It is so in each world for which the servers stood, and somebody is to blame.
   pub record HasFailed (e : Fault) : Type 0 where
-    pub named : names new ≡ names old
-    pub faults : NoneFell (fault_counts kept old) (fault_counts kept new)
+    pub bounds : Bounds
+    pub passes : Passes kept old new bounds
     pub blames : Blames kept old new (HeldDamage kept new server) e
     pub worlds : (w : World) → Stands (names old) (held kept old) w → StopsIn e w
 

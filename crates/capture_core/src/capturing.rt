@@ -8,7 +8,7 @@ ghost use Rattle.site_store.specs.Calls.{KeepsServers, Blames};
 ghost use Rattle.world_store.specs.Stands.{Stands};
 ghost use Rattle.capture_core.specs.LogReads.{ReadsFromRestart};
 ghost use Rattle.capture_core.specs.Rules.{ShowsDamage};
-ghost use Rattle.capture_core.specs.Capturing.{HasCapturedAll, HasStopped};
+ghost use Rattle.capture_core.specs.Capturing.{HoldsElsewhere, HasCapturedAll, HasStopped};
 ghost use Rattle.capture_core.specs.Ending.{HasEnded, HasFailed};
 ghost use Rattle.capture_core.specs.Ending.{most_units as most_units_lem};
 
@@ -44,6 +44,9 @@ fn capture_units<K: Keeper>(
     requires every { 0 < every }
     ensures ok { IfOk result (HasEnded K.kept sites.old sites.new server most every) }
     ensures fault { IfErr result (HasFailed K.kept sites.old sites.new server most every) }
+    ensures idle { IfOk result (λ captured. captured.units ≡ 0
+        → held K.kept sites.new ≡ held K.kept sites.old) }
+    ensures apart { HoldsElsewhere K.kept sites.old sites.new server }
     ensures reads { ReadsFromRestart K.kept sites.old sites.new server }
 {
     laws_of_worlds();
@@ -66,8 +69,9 @@ fn capture_units<K: Keeper>(
 /// captured then and what was written. If there is no such unit, nothing is committed. Each record
 /// of the log from the restart on is read once at most.
 ///
-/// After a fault the first of these commits took place, and one that failed may have, too. What is
-/// said of a world holds if the servers stand for one and reveal what they hold.
+/// After a fault the first of these commits took place, and one at which the server's keeper failed
+/// may have, too. The other servers hold what they held, whatever is answered. What is said of a
+/// world holds if the servers stand for one and reveal what they hold.
 pub fn capture<K: Keeper>(
     sites: &mut Sites<K>,
     alloc: Global,
@@ -87,6 +91,9 @@ pub fn capture<K: Keeper>(
     ensures blames { IfErr result (Blames K.kept sites.old sites.new
         (ShowsDamage K.kept sites.new server)) }
     ensures servers { KeepsServers K.kept sites.old sites.new }
+    ensures idle { IfOk result (λ captured. captured.units ≡ 0
+        → held K.kept sites.new ≡ held K.kept sites.old) }
+    ensures apart { HoldsElsewhere K.kept sites.old sites.new server }
     ensures reads { ReadsFromRestart K.kept sites.old sites.new server }
 {
     match capture_units(sites, alloc, server, most_units(units), every) {

@@ -86,6 +86,7 @@ pub struct CopyTargets;
 impl<K: Keeper> Targets<K> for CopyTargets {
     ghost use Rattle.copy_targets.specs.Copies.{is_user_copy, ShowsCopyDamage};
     ghost use Rattle.copy_targets.specs.laws.TargetLaws.{copy_damage_unseen, copies_unnumbered};
+    ghost use Rattle.copy_targets.specs.laws.TargetLaws.{no_rest_of_copies};
 
     ghost takes = { is_user_copy };
 
@@ -94,6 +95,8 @@ impl<K: Keeper> Targets<K> for CopyTargets {
     ghost unseen = { copy_damage_unseen };
 
     ghost unnumbered = { copies_unnumbered };
+
+    ghost no_rest = { no_rest_of_copies };
 
     fn take(
         &mut self,

@@ -6,6 +6,8 @@ use Rattle.repl_types.specs.declared.area.Area.{Area}
 use Rattle.repl_types.specs.declared.record.LogRecord.{LogRecord}
 use Rattle.repl_types.specs.declared.status.DamageCause.{DamageCause}
 use Rattle.faults.specs.declared.fault.Counts.{Counts}
+use Rattle.faults.specs.declared.fault.Fault.{Fault}
+use Rattle.faults.specs.declared.fault.Fault.TheVariants as faults
 use Rattle.faults.specs.declared.fault.Stepped.TheVariants as steps
 use Rattle.keep_core.specs.Contents.{Contents}
 use Rattle.keep_core.specs.Kept.{Kept}
@@ -113,10 +115,10 @@ module _ (sound_next : NextActionsSound) (target_holds : RefreshHolds) (stored :
         (λ c d holds p. refresh_holds kept shows s1 reveals at at_is known known_is p.0 c d holds p.1)
         (λ other c i apart holds. (others w k (refresh_entry k) other c holds).1) stepped
 
-    -- if the call failed, they may still stand for the world before it
-    pub may_have_refreshed : OthersHoldAfterStep → (held kept s2 ≡ held kept s0) ⊎ HasStepped kept s0 s2 set.target (PutsSomeTargets kept takes shows s1 set (Refresh at.commit) at.time known) → HasBecome kept s0 s2 w ⊎ HasBecome kept s0 s2 after
-    may_have_refreshed others (inl same) = inl (subst (λ (h : List (Option Contents)). Stands (names s0) h w) (sym same) stands)
-    may_have_refreshed others (inr stepped) = inr (has_refreshed others stepped)
+    -- if the call failed, they may still stand for the world before it, and for the one after it only if a keeper failed
+    pub may_have_refreshed : OthersHoldAfterStep → (e : Fault) → (held kept s2 ≡ held kept s0) ⊎ ((e ≡ faults.Keeper set.target) × HasStepped kept s0 s2 set.target (PutsSomeTargets kept takes shows s1 set (Refresh at.commit) at.time known)) → HasBecome kept s0 s2 w ⊎ ((s : ℕ) × (e ≡ faults.Keeper s) × HasBecome kept s0 s2 after)
+    may_have_refreshed others e (inl same) = inl (subst (λ (h : List (Option Contents)). Stands (names s0) h w) (sym same) stands)
+    may_have_refreshed others e (inr stepped) = inr (set.target, stepped.0, has_refreshed others stepped.1)
 
     -- what is answered is the point and the rows
     pub has_answered : OthersHoldAfterStep → (counts : Counts) → HasStepped kept s0 s2 set.target (PutsTargets kept takes shows s1 set (Refresh at.commit) at.time known counts) → HasRefreshed kept s0 s2 w k (steps.Refresh at.commit counts.rows)

@@ -6,6 +6,8 @@ use Rattle.std.specs.Str.{bytes_eq}
 use Rattle.std.proofs.lemmas.List.{length-append, length-map}
 use Rattle.repl_types.specs.declared.record.LogRecord.{LogRecord}
 use Rattle.repl_types.specs.declared.unit.Unit.{Unit as LogUnit}
+use Rattle.faults.specs.declared.fault.Fault.{Fault}
+use Rattle.faults.specs.declared.fault.Fault.TheVariants as faults
 use Rattle.keep_core.specs.Contents.{Contents}
 use Rattle.keep_core.specs.Kept.{Kept}
 use Rattle.repl_records.specs.declared.prune.SyncMark.{SyncMark}
@@ -152,9 +154,9 @@ module _ (sound_next : NextActionsSound) (source_holds : SignalHolds) (w : World
         omega (arith, full, many)
 
     -- if the call failed, they still stand for the world before it, or the signal was put
-    pub may_have_signalled : OthersHoldAfterSignal → (held kept_by s1 ≡ held kept_by s0) ⊎ HasStepped kept_by s0 s1 set.source (PutsSome set.at_source.number known unit) → HasBecome kept_by s0 s1 w ⊎ HasBecome kept_by s0 s1 after
-    may_have_signalled others (inl same) = inl (subst (λ (h : List (Option Contents)). Stands (names s0) h w) (sym same) stands)
-    may_have_signalled others (inr stepped) = inr (has_signalled others stepped)
+    pub may_have_signalled : OthersHoldAfterSignal → (e : Fault) → (held kept_by s1 ≡ held kept_by s0) ⊎ ((e ≡ faults.Keeper set.source) × HasStepped kept_by s0 s1 set.source (PutsSome set.at_source.number known unit)) → HasBecome kept_by s0 s1 w ⊎ ((s : ℕ) × (e ≡ faults.Keeper s) × HasBecome kept_by s0 s1 after)
+    may_have_signalled others e (inl same) = inl (subst (λ (h : List (Option Contents)). Stands (names s0) h w) (sym same) stands)
+    may_have_signalled others e (inr stepped) = inr (set.source, stepped.0, has_signalled others stepped.1)
 
     -- what is answered tells which of both was so
     pub has_answered : OthersHoldAfterSignal → (c : Contents) → Holds w k.source c → (answer : Option ℕ) → HasAnswered kept_by s0 s1 c answer → HasSignalled kept_by s0 s1 w k answer

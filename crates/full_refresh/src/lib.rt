@@ -9,7 +9,7 @@
 //! It stands on `set_places`, which finds the set, on `source_log`, which appends the unit and
 //! reads the end of the log, on `prune_control`, which reads the set's mark, on `target_steps`,
 //! which puts a step at a target, and on `action_worlds` and `action_store`, which say what the
-//! commits make of a world and of what the servers hold. No command uses it yet.
+//! commits make of a world and of what the servers hold. `apply_cycle` stands on it.
 //!
 //! For example, the set `q/s` has two members on the table `orders` of `hq`, whose log ends at 3.
 //! Its signal is the unit of the commit at 5, whose only change is the start of `orders` at 4. Its

@@ -1,12 +1,12 @@
 //! The signal of a read-only set.
 
-ghost use Rattle.std.specs.Prelude.{◌<◌, length, OnErr, IfOk, IfErr};
+ghost use Rattle.std.specs.Prelude.{◌≡◌, ◌<◌, length, OnErr, IfOk, IfErr};
 ghost use Rattle.repl_model.specs.AfterActions.{after_action};
 ghost use Rattle.repl_model.specs.NextActions.{signals};
 ghost use Rattle.site_store.specs.Calls.{KeepsServers};
 ghost use Rattle.site_store.specs.Damage.{IsNoDamage};
 ghost use Rattle.site_store.specs.Servers.{AllClosed};
-ghost use Rattle.site_store.specs.Views.{names, work, sees, IsOpenAt};
+ghost use Rattle.site_store.specs.Views.{names, held, work, sees, IsOpenAt};
 ghost use Rattle.server_steps.specs.Calls.{GoesOn, Stops};
 ghost use Rattle.source_log.specs.Units.{MayAppendUnit, AppendsIfRoom, ShowsUnitDamage};
 ghost use Rattle.set_places.specs.Places.{IsPlaced, ForSet};
@@ -104,6 +104,7 @@ pub fn signal_step<K: Keeper>(
         → MayHaveBecome K.kept sites.old sites.new w (after_action w k signals) e)) }
     ensures blames { IfErr result (BlamesUnchanged K.kept sites.old sites.new
         (ShowsDamage K.kept sites.old set.now)) }
+    ensures same { result ≡ Ok None → held K.kept sites.new ≡ held K.kept sites.old }
     ensures servers { KeepsServers K.kept sites.old sites.new }
 {
     laws_of_signals();

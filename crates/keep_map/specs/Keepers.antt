@@ -1,12 +1,12 @@
 -- What a clause sees of a keeper in memory.
-use Rattle.std.specs.Prelude.{◌≡◌, ℕ, if◌then◌else◌, [], Some, None, slice_index}
+use Rattle.std.specs.Prelude.{◌≡◌, ℕ, if◌then◌else◌, [], Some, None, false, slice_index}
 use Rattle.repl_types.specs.declared.area.Area.{Area}
 use Rattle.keep_core.specs.Contents.{nothing}
 use Rattle.repl_types.specs.Area.{area_number}
 use Rattle.keep_core.specs.Kept.{Kept}
 use Rattle.keep_map.specs.declared.area_counts.AreaCounts.{AreaCounts}
 use Rattle.keep_map.specs.declared.map_keeper.MapKeeper.{MapKeeper}
-use Rattle.keep_map.specs.Planned.{after_call}
+use Rattle.keep_map.specs.Planned.{nothing_planned, after_call}
 use Rattle.keep_map.specs.Merged.{values_seen, values_held}
 use Rattle.keep_map.specs.Places.{contents_of}
 
@@ -27,6 +27,12 @@ kept_of m = record {
 -- a keeper that holds nothing, with no transaction open and nothing counted
 abbrev pub kept_empty : Kept
 kept_empty = record { held = Some nothing; open_work = None; faults = 0; reads = λ _. 0; writes = λ _. 0 }
+
+-- A keeper is as one that was just made: it holds nothing, has counted nothing, and no call of it is planned to fail.
+pub record IsNew (m : MapKeeper) : Type 0 where
+  pub kept : kept_of m ≡ kept_empty
+  pub plan : m.plan ≡ nothing_planned
+  pub doubt : m.doubt_takes ≡ false
 
 -- one more call was counted, and the rest of what was planned stays
 pub record CallIsCounted (old new : MapKeeper) : Type 0 where

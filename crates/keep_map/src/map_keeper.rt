@@ -31,15 +31,13 @@ pub struct MapKeeper {
 impl MapKeeper {
     ghost use Rattle.std.specs.Prelude.{◌≡◌, false, IsTrue, if◌then◌else◌};
     ghost use Rattle.keep_core.specs.Kept.{IsOpen, closed_with, committed};
-    ghost use Rattle.keep_map.specs.Planned.{nothing_planned, planned_anew};
-    ghost use Rattle.keep_map.specs.Keepers.{kept_of, kept_empty};
+    ghost use Rattle.keep_map.specs.Planned.{planned_anew};
+    ghost use Rattle.keep_map.specs.Keepers.{IsNew, kept_of};
 
     /// A keeper that holds nothing, with no transaction open and no call to fail. This allocates
     /// nothing.
     pub fn new(alloc: Global) -> MapKeeper
-        ensures kept { kept_of result ≡ kept_empty }
-        ensures plan { result.plan ≡ nothing_planned }
-        ensures doubt { result.doubt_takes ≡ false }
+        ensures { IsNew result }
     {
         let rows = StoredRows::new(alloc);
         let plan = Plan::new(alloc);

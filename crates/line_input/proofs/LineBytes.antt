@@ -1,20 +1,15 @@
 -- The bytes of a line as they are read.
-use Rattle.std.proofs.Common.{◌≡◌, ◌≢◌, ℕ, ◌+◌, ◌-◌, ◌<◌, ◌≤◌, List, [], ◌∷◌, ◌++◌, length, take, get_or, Bool, true, false, cond, Option, Some, None, refl, sym, ap, subst, ◌∙◌, inl, inr, append_assoc, arith}
+use Rattle.std.proofs.Common.{◌≡◌, ◌≢◌, ℕ, ◌+◌, ◌-◌, ◌<◌, ◌≤◌, List, [], ◌∷◌, ◌++◌, length, take, get_or, Bool, true, false, Option, Some, None, zero, suc, refl, sym, ap, subst, ◌∙◌, inl, inr, append_assoc, arith}
 use Rattle.std.specs.Prelude.{◌==◌}
 use Rattle.std.specs.Option.{option_map, IfSome}
-use Rattle.std.specs.List.{AllByRecursion, slice_split, onto_first}
-use Rattle.std.specs.Str.Lines.{lines, lines_of_parts, strip_carriage_return}
+use Rattle.std.specs.Str.Lines.{lines, strip_carriage_return}
 use Rattle.std.proofs.lemmas.List.{length-append, length-take, take_all, take-take, take-append-le, append-nil}
-use Rattle.std.proofs.lemmas.List.Splits.{length-slice_split}
 use Rattle.std.proofs.lemmas.Bool.{lt-ltb, le-ltb, ltb-true, ltb-false, cases_Bool}
-use Rattle.std.proofs.lemmas.Bool.Decides.{nat_tests}
 use Rattle.line_input.specs.declared.input.Next.{Next}
 use Rattle.line_input.specs.declared.input.Next.TheVariants.{End, Line, LongLine}
-use Rattle.line_input.specs.Input.{kept_limit, IsKept, EndsAs, EndsInputAs, NextLineIs, ReadsLine}
-
--- no byte is a line feed
-abbrev pub IsPlain : List ℕ → Type 0
-IsPlain bytes = AllByRecursion (λ b. b ≢ 10) bytes
+use Rattle.line_input.specs.Limits.{line_limit}
+use Rattle.line_input.specs.Input.{kept_limit, IsPlain, IsLineText, IsKept, EndsAs, EndsInputAs, NextLineIs, ReadsLine}
+use Rattle.line_input.specs.laws.Lines.{lines-feed, lines-last}
 
 -- the bytes of a line were read from the bytes left, and this much of them was kept; `most` is how many
 -- bytes could be given before, and `still` how many still can
@@ -24,45 +19,6 @@ pub record ReadSoFar (before now : Option (List ℕ)) (most still : ℕ) (line :
   pub plain : IsPlain so_far
   pub kept : IsKept so_far line long
   pub spent : still + length so_far ≤ most
-
--- ---- the lines of bytes
-
-abbrev is_feed : ℕ → Bool
-is_feed b = b == 10
-
-not_feed : (b : ℕ) → b ≢ 10 → is_feed b ≡ false
-not_feed b ne = grind (arith, nat_tests)
-
-split-plain : (bytes rest : List ℕ) → IsPlain bytes → slice_split is_feed (bytes ++ 10 ∷ rest) ≡ bytes ∷ slice_split is_feed rest
-split-plain [] rest plain = refl
-split-plain (b ∷ bytes) rest plain =
-    ap (λ (test : Bool). cond test ([] ∷ slice_split is_feed (bytes ++ 10 ∷ rest)) (onto_first b (slice_split is_feed (bytes ++ 10 ∷ rest)))) (not_feed b plain.0)
-    ∙ ap (onto_first b) (split-plain bytes rest plain.1)
-
-split-last : (bytes : List ℕ) → IsPlain bytes → slice_split is_feed bytes ≡ bytes ∷ []
-split-last [] plain = refl
-split-last (b ∷ bytes) plain =
-    ap (λ (test : Bool). cond test ([] ∷ slice_split is_feed bytes) (onto_first b (slice_split is_feed bytes))) (not_feed b plain.0)
-    ∙ ap (onto_first b) (split-last bytes plain.1)
-
--- after the first part there is another, so the first ends at a line feed
-feed_then : (line : List ℕ) (rest : List ℕ) → lines_of_parts (line ∷ slice_split is_feed rest) ≡ strip_carriage_return line ∷ lines_of_parts (slice_split is_feed rest)
-feed_then line rest = by (slice_split is_feed rest) (omega (arith, length-slice_split is_feed rest))
-  where
-    by : (ps : List (List ℕ)) → 0 < length ps → lines_of_parts (line ∷ ps) ≡ strip_carriage_return line ∷ lines_of_parts ps
-    by [] some = absurd (omega arith)
-    by (p ∷ ps) some = refl
-
--- bytes that begin with a line and a line feed have that line and then the lines of the rest
-pub lines-feed : (bytes rest : List ℕ) → IsPlain bytes → lines (bytes ++ 10 ∷ rest) ≡ strip_carriage_return bytes ∷ lines rest
-lines-feed bytes rest plain = ap lines_of_parts (split-plain bytes rest plain) ∙ feed_then bytes rest
-
--- bytes with no line feed are one line
-pub lines-last : (bytes : List ℕ) → IsPlain bytes → 0 < length bytes → lines bytes ≡ bytes ∷ []
-lines-last [] plain some = absurd (omega arith)
-lines-last (b ∷ bytes) plain some =
-    let long : (length (b ∷ bytes) == 0) ≡ false = grind (arith, nat_tests) in
-    ap lines_of_parts (split-last (b ∷ bytes) plain) ∙ ap (λ (test : Bool). cond test [] ((b ∷ bytes) ∷ [])) long
 
 -- ---- what is kept of a line
 
@@ -187,3 +143,38 @@ pub some_read : (next : Next) (line : List ℕ) (bytes : List ℕ) → EndsInput
 some_read End line bytes ends ne = absurd (ne refl)
 some_read Line line bytes ends ne = ends.1
 some_read LongLine line bytes ends ne = omega arith
+
+-- ---- the text of a line
+
+-- the first bytes have no line feed if all have none
+plain-take : (n : ℕ) (bytes : List ℕ) → IsPlain bytes → IsPlain (take n bytes)
+plain-take zero bytes plain = tt
+plain-take (suc n) [] plain = tt
+plain-take (suc n) (b ∷ bytes) plain = (plain.0, plain-take n bytes plain.1)
+
+-- nor have they after their carriage return is removed
+plain-stripped : (bytes : List ℕ) → IsPlain bytes → IsPlain (strip_carriage_return bytes)
+plain-stripped bytes plain = elim (cases_Bool (get_or bytes (length bytes - 1) 0 == 13)) [
+  | inl ends ↦ rw ends (plain-take (length bytes - 1) bytes plain)
+  | inr other ↦ rw other plain
+]
+
+-- what is kept of a longer line
+kept_text : (line bytes : List ℕ) → IsPlain bytes → line_limit < length bytes → line ≡ take kept_limit bytes → IsLineText LongLine line
+kept_text line bytes plain long kept = (
+  subst IsPlain (sym kept) (plain-take kept_limit bytes plain),
+  omega (arith, ap length kept, length-take kept_limit bytes),
+  omega (arith, ap length kept, length-take kept_limit bytes),
+)
+
+-- at a line feed
+pub text_at_feed : (next : Next) (line bytes : List ℕ) → IsPlain bytes → EndsAs next line bytes → IsLineText next line
+text_at_feed End line bytes plain ends = absurd ends
+text_at_feed Line line bytes plain ends = (subst IsPlain (sym ends.0) (plain-stripped bytes plain), ends.1)
+text_at_feed LongLine line bytes plain ends = kept_text line (strip_carriage_return bytes) (plain-stripped bytes plain) ends.0 ends.1
+
+-- at the end of the input
+pub text_at_end : (next : Next) (line bytes : List ℕ) → IsPlain bytes → EndsInputAs next line bytes → IsLineText next line
+text_at_end End line bytes plain ends = tt
+text_at_end Line line bytes plain ends = (subst IsPlain (sym ends.0) plain, ends.2)
+text_at_end LongLine line bytes plain ends = kept_text line bytes plain ends.0 ends.1

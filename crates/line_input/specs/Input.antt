@@ -1,5 +1,6 @@
 -- What is left of an input while its lines are read.
 use Rattle.std.specs.Prelude.{◌≡◌, ◌≢◌, ℕ, ◌+◌, ◌-◌, ◌<◌, ◌≤◌, List, [], ◌∷◌, ◌++◌, codes, length, take, drop, Bool, true, nat_lt, Option, Some, None, Result, Err}
+use Rattle.std.specs.List.{AllByRecursion}
 use Rattle.std.specs.Option.{option_map, IfSome}
 use Rattle.std.specs.Str.Lines.{lines, strip_carriage_return}
 use Rattle.keep_core.specs.Revealed.{Rises}
@@ -40,6 +41,17 @@ NothingAfterEnd i later = has_ended i ≡ true → IfSome later (λ bytes. bytes
 -- the limit is kept whole and can be told from a longer one
 abbrev pub kept_limit : ℕ
 kept_limit = line_limit + 2
+
+-- no byte is a line feed
+abbrev pub IsPlain : List ℕ → Type 0
+IsPlain bytes = AllByRecursion (λ b. b ≢ 10) bytes
+
+-- what is kept of a line has no line feed, and it is within the limit, or of a line over the limit more than a line
+-- may have, and no more than is kept; at the end of the input there is no line
+abbrev pub IsLineText : Next → List ℕ → Type 0
+IsLineText End line = Unit {0}
+IsLineText Line line = IsPlain line × (length line ≤ line_limit)
+IsLineText LongLine line = IsPlain line × (line_limit < length line) × (length line ≤ kept_limit)
 
 -- this is the next line of these bytes, and these are the bytes after it; of a line over the limit the first
 -- bytes are kept

@@ -89,10 +89,9 @@ impl From<ReadError> for InputError {
 }
 
 impl Input {
-    ghost use Rattle.line_input.specs.Limits.{line_limit};
     ghost use Rattle.line_input.specs.Input.{piece_left, left_of, total_of, budget, has_ended};
     ghost use Rattle.line_input.specs.Input.{NothingAfterEnd, Spends, MetFeed, InputHasCause};
-    ghost use Rattle.line_input.specs.Input.{ReadsLine};
+    ghost use Rattle.line_input.specs.Input.{ReadsLine, IsLineText};
 
     /// An input of which nothing was read.
     pub fn new(alloc: Global) -> Result<Input, AllocError>
@@ -190,7 +189,7 @@ impl Input {
         requires same_source { NothingAfterEnd self.old (I.left source.old) }
         ensures line { IfOk result (λ next. ReadsLine next line.new.items
             (left_of self.old (I.left source.old)) (left_of self.new (I.left source.new))) }
-        ensures short { result ≡ Ok Next.Line → length line.new.items ≤ line_limit }
+        ensures whole { IfOk result (λ next. IsLineText next line.new.items) }
         ensures spends { IfOk result (λ next.
             Spends next self.old (I.left source.old) self.new (I.left source.new)) }
         ensures within { budget self.new ≤ budget self.old }

@@ -2,7 +2,6 @@
 
 ghost use Rattle.std.specs.Prelude.{◌≡◌, ◌≤◌, List, ℕ, length};
 ghost use Rattle.std.specs.Str.Lines.{strip_carriage_return};
-ghost use Rattle.line_input.specs.Limits.{line_limit};
 ghost use Rattle.line_input.specs.Input.{IsKept, EndsAs, EndsInputAs};
 
 use crate::input::Next;
@@ -29,7 +28,6 @@ fn strip(line: &mut Vec<u8>)
 pub fn end_line(line: &mut Vec<u8>, long: bool) -> Next
     ensures ends { (bytes : List ℕ) → IsKept bytes line.old.items long
         → EndsAs result line.new.items bytes }
-    ensures short { result ≡ Next.Line → length line.new.items ≤ line_limit }
     ensures shorter { length line.new.items ≤ length line.old.items }
 {
     if long {
@@ -44,9 +42,8 @@ pub fn end_line(line: &mut Vec<u8>, long: bool) -> Next
 
 /// Ends a line at the end of the input. `long` says that it has more bytes than were kept.
 pub fn last(line: &[u8], long: bool) -> Next
-    ensures ends { (bytes : List ℕ) → IsKept bytes line.now long
+    ensures { (bytes : List ℕ) → IsKept bytes line.now long
         → EndsInputAs result line.now bytes }
-    ensures short { result ≡ Next.Line → length line.now ≤ line_limit }
 {
     if long || line.len() > LINE_LIMIT {
         return Next::LongLine;

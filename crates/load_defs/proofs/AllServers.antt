@@ -1,6 +1,8 @@
 -- All servers are loaded, one after another.
 use Rattle.std.proofs.Common.{◌≡◌, ◌⊎◌, ℕ, suc, ◌+◌, ◌<◌, List, [], length, get_or, sym, ap, subst, ◌∙◌, arith, inl, inr}
 use Rattle.std.proofs.lemmas.List.{get_or-map}
+use Rattle.faults.specs.declared.fault.Fault.{Fault}
+use Rattle.faults.specs.declared.fault.Fault.TheVariants as faults
 use Rattle.repl_commands.specs.declared.written.RawDefs.{RawDefs}
 use Rattle.repl_model.specs.Sound.{empty_server}
 use Rattle.repl_model.specs.World.{World}
@@ -53,10 +55,10 @@ module _ {K : Type 0} (kept : K → Kept) (s0 : Sites K) (defs : Defs) (stored :
         subst (λ (p : List (List ℕ) × ℕ). Stands p.0 (held kept s2) (load_first defs p.1 w)) (λ i. (named i, more i)) (from_next (λ v. Stands (names s1) (held kept s2) (load_first defs (suc n) v)) one raw w may is stands)
 
     -- or that fails
-    pub loads_stop : StaysWithoutGains → InNext (λ w. Stands (names s1) (held kept s2) (load_first defs n w) ⊎ Stands (names s1) (held kept s2) (load_first defs (suc n) w)) → InEach (SomeHappened kept s0 s2 (load_commits defs))
-    loads_stop stays one raw w may is stands t =
+    pub loads_stop : StaysWithoutGains → (e : Fault) → InNext (λ w. Stands (names s1) (held kept s2) (load_first defs n w) ⊎ ((e ≡ faults.Keeper n) × Stands (names s1) (held kept s2) (load_first defs (suc n) w))) → InEach (SomeHappened kept s0 s2 (load_commits defs))
+    loads_stop stays e one raw w may is stands t =
         let count = count_named (names s0) (held kept s0) w stands in
-        elim (from_next (λ v. Stands (names s1) (held kept s2) (load_first defs n v) ⊎ Stands (names s1) (held kept s2) (load_first defs (suc n) v)) one raw w may is stands) [
+        elim (from_next (λ v. Stands (names s1) (held kept s2) (load_first defs n v) ⊎ ((e ≡ faults.Keeper n) × Stands (names s1) (held kept s2) (load_first defs (suc n) v))) one raw w may is stands) [
           | inl before ↦ stopped_at stays (Stands (names s0)) defs w (held kept s2) t n (omega (arith, lt, count)) (subst (λ (l : List (List ℕ)). Stands l (held kept s2) (load_first defs n w)) named before)
-          | inr after ↦ stopped_at stays (Stands (names s0)) defs w (held kept s2) t (suc n) (omega (arith, lt, count)) (subst (λ (l : List (List ℕ)). Stands l (held kept s2) (load_first defs (suc n) w)) named after)
+          | inr after ↦ stopped_at stays (Stands (names s0)) defs w (held kept s2) t (suc n) (omega (arith, lt, count)) (subst (λ (l : List (List ℕ)). Stands l (held kept s2) (load_first defs (suc n) w)) named after.1)
         ]

@@ -7,5 +7,6 @@ pub mod Puts
 pub mod Added
 pub mod OneServer
 pub mod AllServers
+pub mod NoneNew
 pub mod OneText
 pub mod StoredReads

@@ -1,5 +1,5 @@
 -- How many items of a text are new.
-use Rattle.std.specs.Prelude.{Bool, not, count_by}
+use Rattle.std.specs.Prelude.{◌≡◌, Bool, not, count_by}
 use Rattle.std.specs.List.{list_any}
 use Rattle.repl_definitions.specs.declared.set.SetDef.{SetDef}
 use Rattle.repl_model.specs.World.{same_set}
@@ -28,3 +28,7 @@ loaded_counts known defs = record {
   registrations = count_by (is_new_registration known) defs.registrations;
   sets = count_by (is_new_set known) defs.sets;
 }
+
+-- no item is new
+abbrev pub NoneIsNew : Loaded → Type 0
+NoneIsNew loaded = (loaded.tables ≡ 0) × (loaded.registrations ≡ 0) × (loaded.sets ≡ 0)

@@ -1,6 +1,6 @@
 //! How many items of a text are new.
 
-ghost use Rattle.std.specs.Prelude.{◌≡◌, count_by, IfOk};
+ghost use Rattle.std.specs.Prelude.{◌≡◌, ◌↔◌, IsTrue, count_by, IfOk};
 ghost use Rattle.std.specs.List.{list_any};
 ghost use Rattle.repl_model.specs.World.{same_set as same_set_lem};
 ghost use Rattle.spelled_defs.specs.Spelled.{is_table as is_table_lem};
@@ -8,6 +8,7 @@ ghost use Rattle.spelled_defs.specs.Spelled.{is_registration as is_registration_
 ghost use Rattle.load_defs.specs.Counts.{is_new_table as is_new_table_lem};
 ghost use Rattle.load_defs.specs.Counts.{is_new_registration as is_new_registration_lem};
 ghost use Rattle.load_defs.specs.Counts.{is_new_set as is_new_set_lem, loaded_counts};
+ghost use Rattle.load_defs.specs.Counts.{NoneIsNew};
 
 use load_plan::same_set;
 use repl_definitions::SetDef;
@@ -119,4 +120,11 @@ pub fn count_new(known: &Defs, defs: &Defs) -> Result<Loaded, AllocError>
         registrations: narrow_place(count_registrations(known, defs.registrations.as_slice()))?,
         sets: narrow_place(count_sets(known, defs.sets.as_slice()))?,
     })
+}
+
+/// Whether no item is new.
+pub fn none_is_new(loaded: &Loaded) -> bool
+    ensures { IsTrue result ↔ NoneIsNew loaded.now }
+{
+    loaded.tables == 0 && loaded.registrations == 0 && loaded.sets == 0
 }

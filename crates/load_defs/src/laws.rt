@@ -5,6 +5,7 @@ ghost use Rattle.load_worlds.specs.SoundLoads.{StaysSound};
 ghost use Rattle.load_rules.specs.StaysSound.{HoldsLoaded};
 ghost use Rattle.load_store.specs.LoadedServers.{LoadedHolds, OthersHold};
 ghost use Rattle.planned_loads.specs.PlannedLoads.{AddsPlanned, PlansGains, StaysWithoutGains};
+ghost use Rattle.planned_loads.specs.PlannedLoads.{KnownTextsAddNothing};
 ghost use Rattle.planned_loads.specs.PlannedLoads.{KnowsStored, HasRoom, SeesUnrefused};
 ghost use Rattle.accepted_texts.specs.AcceptedTexts.{SpellsAll, TypesItems, StoresAdditions};
 
@@ -22,6 +23,7 @@ pub fn laws_of_worlds()
     ensures rows { AddsPlanned }
     ensures gains { PlansGains }
     ensures stays { StaysWithoutGains }
+    ensures idle { KnownTextsAddNothing }
 {
     a_load_stays_sound();
     a_loaded_server_holds();

@@ -1,6 +1,6 @@
 //! The load of a text.
 
-ghost use Rattle.std.specs.Prelude.{IfOk, IfErr};
+ghost use Rattle.std.specs.Prelude.{◌≡◌, IfOk, IfErr};
 ghost use Rattle.repl_model.specs.World.{World};
 ghost use Rattle.site_store.specs.Servers.{AllClosed};
 ghost use Rattle.site_store.specs.Views.{names, held, work};
@@ -8,10 +8,11 @@ ghost use Rattle.site_store.specs.Calls.{KeepsServers};
 ghost use Rattle.world_store.specs.Stands.{Stands};
 ghost use Rattle.stored_defs.specs.Rules.{ShowsDamage};
 ghost use Rattle.accepted_texts.specs.Texts.{IsWhole};
+ghost use Rattle.load_defs.specs.Counts.{NoneIsNew};
 ghost use Rattle.load_defs.specs.Loading.{HasLoaded, HasNotLoaded, BlamesOrRefuses};
 
-use crate::counts::Loaded;
-use crate::laws::laws_of_texts;
+use crate::counts::{Loaded, none_is_new};
+use crate::laws::{laws_of_texts, laws_of_worlds};
 use crate::plan::plan_load;
 use crate::reading::read_servers;
 use crate::servers::load_servers;
@@ -21,7 +22,8 @@ use repl_commands::RawDefs;
 use site_store::Sites;
 use std::alloc::Global;
 
-/// Loads the definitions of a text at their servers, and answers how many of its items were new.
+/// Loads the definitions of a text at their servers, and answers how many of its items were new. If
+/// none was, nothing is changed.
 ///
 /// The text is refused, and nothing is changed, if a rule is broken together with what is known, if
 /// it names a server that isn't there, if a limit is passed, or if a definition stands already with
@@ -41,10 +43,16 @@ pub fn load<K: Keeper>(sites: &mut Sites<K>, alloc: Global, raw: &RawDefs) -> Re
     ensures blames { IfErr result (BlamesOrRefuses K.kept sites.old sites.new
         (ShowsDamage K.kept sites.old)) }
     ensures servers { KeepsServers K.kept sites.old sites.new }
+    ensures idle { IfOk result (λ loaded. NoneIsNew loaded
+        → held K.kept sites.new ≡ held K.kept sites.old) }
 {
     laws_of_texts();
+    laws_of_worlds();
     let stored = read_servers(sites, alloc)?;
     let plan = plan_load(alloc, raw, stored.as_slice())?;
+    if none_is_new(&plan.loaded) {
+        return Ok(plan.loaded);
+    }
     load_servers(sites, alloc, &plan.defs, stored.as_slice())?;
     Ok(plan.loaded)
 }

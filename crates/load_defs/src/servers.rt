@@ -2,11 +2,12 @@
 
 ghost use Rattle.std.specs.Prelude.{◌≡◌, ◌⊎◌, ◌<◌, suc, map, length, OnOk, IfErr, OnErr};
 ghost use Rattle.std.specs.List.{AllByRecursion};
+ghost use Rattle.faults.specs.declared.fault.Fault.TheVariants.{Keeper};
 ghost use Rattle.repl_commands.specs.declared.written.RawDefs.{RawDefs};
 ghost use Rattle.repl_model.specs.World.{World};
 ghost use Rattle.site_store.specs.Servers.{AllClosed};
 ghost use Rattle.site_store.specs.Views.{names, held, work};
-ghost use Rattle.site_store.specs.Calls.{KeepsServers, Blames};
+ghost use Rattle.site_store.specs.Calls.{KeepsServers, Blames, HoldsOrInDoubt};
 ghost use Rattle.world_store.specs.Stands.{Stands};
 ghost use Rattle.load_worlds.specs.Loads.{load_first, server_at};
 ghost use Rattle.planned_loads.specs.Planned.{stored_server, stored_servers};
@@ -56,7 +57,9 @@ fn load_server<K: Keeper>(
         → stored.now ≡ stored_server (server_at w server)
         → Stands (names sites.old) (held K.kept sites.old) (load_first defs.now server w)
         → Stands (names sites.old) (held K.kept sites.new) (load_first defs.now server w)
-        ⊎ Stands (names sites.old) (held K.kept sites.new) (load_first defs.now (suc server) w)) }
+        ⊎ ((e ≡ Keeper server)
+        × Stands (names sites.old) (held K.kept sites.new) (load_first defs.now (suc server) w))) }
+    ensures held { IfErr result (HoldsOrInDoubt K.kept sites.old sites.new) }
     ensures blames { IfErr result (Blames K.kept sites.old sites.new (λ s a cause. ⊥)) }
     ensures servers { KeepsServers K.kept sites.old sites.new }
 {

@@ -14,3 +14,4 @@ pub mod Gains
 pub mod Known
 pub mod Room
 pub mod Seen
+pub mod AllKnown

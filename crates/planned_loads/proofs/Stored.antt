@@ -146,7 +146,7 @@ module _ (world : World) (server : Server) (keeps : ServerKeepsRules world serve
   numbered_apart = alike_is_one (λ (t : ℕ × ServerTable). t.1.def.name) bytes_eq names.exact names.itself (numbered_tables server) (numbered_differ (λ (t u : ServerTable). bytes_eq t.def.name u.def.name) 0 server.tables keeps.differ)
 
   -- they are the same in the order of these names
-  registrations_same : HasSame (registration_rows server) entries
+  pub registrations_same : HasSame (registration_rows server) entries
   registrations_same = by_key_same short_text IsName name_cmp names.in_order entries (registrations_fit server.tables table_names_fit)
       (given_differ defined_registration (λ a b. same_key (short_text a.0) (short_text b.0)) (λ (t u : ℕ × ServerTable). bytes_eq t.1.def.name u.1.def.name) follows (numbered_tables server) (numbered_differ (λ (t u : ServerTable). bytes_eq t.def.name u.def.name) 0 server.tables keeps.differ))
     where
@@ -154,7 +154,7 @@ module _ (world : World) (server : Server) (keeps : ServerKeepsRules world serve
       follows t u a b e f same = names.alike t.1.def.name u.1.def.name ((λ i. same_key (short_text (sym (given_name t a e) i)) (short_text (sym (given_name u b f) i))) ∙ same)
 
   -- a registration names its table
-  names_its_table : (t : ℕ × ServerTable) (row : List ℕ × DefinedRegistration) → In t (numbered_tables server) → defined_registration t ≡ Some row → row.1.registration.table ≡ t.1.def.name
+  pub names_its_table : (t : ℕ × ServerTable) (row : List ℕ × DefinedRegistration) → In t (numbered_tables server) → defined_registration t ≡ Some row → row.1.registration.table ≡ t.1.def.name
   names_its_table t row i = by_registered t.1.registered (at_one KeepsTable server.tables t.1 keeps.tables (numbered_in 0 server.tables t i)).2
     where
       by_registered : (o : Option Registered) → IfSome o (λ r. RegistrationKeepsRules t.1.def r.reg) → option_map (λ r. (t.1.def.name, record { number = t.0; registration = r.reg })) o ≡ Some row → row.1.registration.table ≡ t.1.def.name

@@ -1,14 +1,15 @@
 -- What is shown of the plan of a load in a sound world.
-use Rattle.std.specs.Prelude.{◌≡◌, Bool, false, not, ◌&&◌, ◌==◌, List, length, None}
-use Rattle.std.specs.List.{AllByRecursion}
+use Rattle.std.specs.Prelude.{◌≡◌, Bool, false, IsTrue, not, ◌&&◌, ◌==◌, List, length, None}
+use Rattle.std.specs.List.{AllByRecursion, list_any}
 use Rattle.row_codec.specs.Spelling.{b32, short_text, set_spelling}
 use Rattle.repl_definitions.specs.Defined.{defined_table_spelling, defined_registration_spelling}
 use Rattle.repl_definitions.specs.Sets.{source_set_spelling, target_set_spelling}
 use Rattle.repl_commands.specs.declared.written.RawDefs.{RawDefs}
 use Rattle.repl_records.specs.Capture.{registration_state_spelling}
 use Rattle.repl_records.specs.Prune.{mark_spelling}
-use Rattle.repl_model.specs.World.{Server, World}
+use Rattle.repl_model.specs.World.{Server, World, same_set}
 use Rattle.repl_model.specs.Sound.{IsSound}
+use Rattle.spelled_defs.specs.Spelled.{is_table, is_registration}
 use Rattle.spelled_defs.specs.declared.defs.Defs.{Defs}
 use Rattle.world_store.specs.Tables.{definition_table, capture_table, prune_table}
 use Rattle.load_model.specs.Known.{known_defs}
@@ -47,6 +48,16 @@ PlansGains = (raw : RawDefs) (world : World) (defs : Defs) (server : Server) →
 -- a server that gets nothing new is as it was
 abbrev pub StaysWithoutGains : Type 0
 StaysWithoutGains = (defs : Defs) (server : Server) → gains defs server ≡ false → load_server defs server ≡ server
+
+-- All tables, registrations and sets of a text are known in a world.
+pub record AreKnown (world : World) (defs : Defs) : Type 0 where
+  pub tables : AllByRecursion (λ t. IsTrue (list_any (is_table t.server t.def.name) (known_defs world).tables)) defs.tables
+  pub registrations : AllByRecursion (λ r. IsTrue (list_any (is_registration r.server r.def.table) (known_defs world).registrations)) defs.registrations
+  pub sets : AllByRecursion (λ def. IsTrue (list_any (λ other. same_set def.id other.id) (known_defs world).sets)) defs.sets
+
+-- if all of a text is known, no server gets something new
+abbrev pub KnownTextsAddNothing : Type 0
+KnownTextsAddNothing = (raw : RawDefs) (world : World) (defs : Defs) (server : Server) → IsSound world → Accepted raw world defs → AreKnown world defs → In server world → gains defs server ≡ false
 
 -- what is known in a world is what its servers keep of it
 abbrev pub KnowsStored : Type 0

@@ -2,9 +2,10 @@
 //!
 //! `load_plan` looks at what servers keep of definitions. `specs/Planned.antt` says what that is in
 //! a world, and `specs/PlannedLoads.antt` what the plan then means there: the rows that are added
-//! make the tables of the loaded servers, and definitions that aren't refused agree with what
-//! stands and are within the limits. It has no other code. It stands on `load_plan`, on
-//! `load_rules`, which says when definitions are accepted, and on `world_store`.
+//! make the tables of the loaded servers, definitions that aren't refused agree with what stands
+//! and are within the limits, and a text of which all is known adds nothing. It has no other code.
+//! It stands on `load_plan`, on `load_rules`, which says when definitions are accepted, and on
+//! `world_store`.
 //!
 //! For example, a server that keeps two tables and gets a third one gets a row with the number 2,
 //! and its table of definitions is then that of the loaded server.
@@ -13,6 +14,7 @@
 ghost use Rattle.planned_loads.specs.PlannedLoads.{
   AddsPlanned,
   HasRoom,
+  KnownTextsAddNothing,
   KnowsStored,
   PlansGains,
   SeesUnrefused,
@@ -26,6 +28,7 @@ pub fn planned_rows_load_a_server()
     ensures rows { AddsPlanned }
     ensures gains { PlansGains }
     ensures stays { StaysWithoutGains }
+    ensures idle { KnownTextsAddNothing }
 {
     accepted_definitions_stay_sound();
 }

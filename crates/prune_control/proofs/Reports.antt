@@ -21,7 +21,7 @@ use Rattle.load_worlds.specs.laws.Members.{In}
 use Rattle.set_places.specs.declared.placed_set.PlacedSet.{PlacedSet}
 use Rattle.set_places.specs.Places.{IsPlacedAs, IsReadOnly}
 use Rattle.set_places.specs.Steps.{HasBecome, MayHaveBecome, HasStepped, MayCommitStep}
-use Rattle.set_places.specs.laws.Commits.{blamed, has_become, may_have_become}
+use Rattle.set_places.specs.laws.Commits.{has_become, may_have_become}
 use Rattle.set_places.specs.laws.Known.{is_among}
 use Rattle.set_places.specs.laws.Standing.{source_revealed}
 use Rattle.action_worlds.specs.StaysSound.{NextActionsSound}
@@ -56,8 +56,8 @@ module _ (sounds : NextActionsSound) (source : ReportHolds) (others : OthersHold
     -- if this failed they may stand for the world before it
     pub maybe_reported : (e : Fault) → AllClosed (work kept s0) → MayCommitStep kept s0 s1 set.source (PutsPoint set point) (ShowsDamage kept s0 set.source) e → MayHaveBecome kept s0 s1 w (after_action w k reports) e
     maybe_reported e closed may = record {
-      stands = may_have_become kept s0 s1 w set.source k.source (reported k.at_source.def (synchpoint k.at_target.trail)) (PutsPoint set point) stands placed.source (λ s. refl) sound_after source_after (λ other c i differs holds. others w k other c holds) may.stepped;
-      undamaged = no_damage kept s0 s1 (λ s. s ≡ set.source) mark_rules e (λ s is. subst (λ (n : ℕ). (c : Contents) × (sees kept s0 n ≡ Some c) × IsUndamaged mark_rules c) (sym is) seen) (blamed kept s0 s1 (ShowsDamage kept s0 set.source) e may.blames);
+      stands = may_have_become kept s0 s1 w set.source k.source (reported k.at_source.def (synchpoint k.at_target.trail)) (PutsPoint set point) stands placed.source (λ s. refl) sound_after source_after (λ other c i differs holds. others w k other c holds) e may.stepped;
+      undamaged = no_damage kept s0 s1 (λ s. s ≡ set.source) mark_rules e (λ s is. subst (λ (n : ℕ). (c : Contents) × (sees kept s0 n ≡ Some c) × IsUndamaged mark_rules c) (sym is) seen) may.blames.blames;
     }
       where
         seen : (c : Contents) × (sees kept s0 set.source ≡ Some c) × IsUndamaged mark_rules c

@@ -4,11 +4,9 @@ use Rattle.std.specs.Prelude.{Option, Some, None, IsSome}
 use Rattle.std.specs.Option.{option_map_or}
 use Rattle.std.specs.Str.{bytes_eq}
 use Rattle.std.proofs.lemmas.List.{append-nil, length-append}
-use Rattle.repl_types.specs.declared.area.Area.{Area}
 use Rattle.repl_types.specs.declared.record.LogRecord.{LogRecord}
 use Rattle.repl_types.specs.declared.refusal.Refusal.{Refusal}
 use Rattle.repl_types.specs.declared.refusal.Refusal.TheVariants as refusals
-use Rattle.repl_types.specs.declared.status.DamageCause.{DamageCause}
 use Rattle.faults.specs.declared.call_errors.AppendError.{AppendError}
 use Rattle.faults.specs.declared.call_errors.AppendError.TheVariants as errors
 use Rattle.faults.specs.declared.fault.Fault.{Fault}
@@ -21,7 +19,7 @@ use Rattle.repl_model.specs.Longer.{with_more, grown}
 use Rattle.repl_model.specs.World.{Server, World}
 use Rattle.run_core.specs.Runs.{Event, last_world, lines_of, is_refused, Went, Stopped}
 use Rattle.run_core.specs.laws.Runs.{stopped_before, stopped_in_second}
-use Rattle.site_store.specs.Calls.{KeepsServers, Blames}
+use Rattle.site_store.specs.Calls.{KeepsServers}
 use Rattle.site_store.specs.Servers.{AllClosed, HasNone, IsPlace}
 use Rattle.site_store.specs.Views.{names, held, work}
 use Rattle.site_store.specs.declared.sites.Sites.{Sites}
@@ -35,7 +33,7 @@ use Rattle.run_commands.specs.parts.Parts.{then_events, Happened, StoppedIn}
 use Rattle.run_commands.specs.parts.Refusing.{refused}
 use Rattle.run_commands.specs.parts.RunErrors.{error_of_fault}
 use Rattle.run_commands.specs.declared.parts.run_error.RunError.{RunError}
-use Rattle.run_commands.specs.parts.laws.Damage.{append_shown, fault_cause}
+use Rattle.run_commands.specs.parts.laws.Damage.{append_shown, undoubted, fault_cause}
 use Rattle.run_commands.specs.parts.laws.Parts.{happened_as, stopped_as, happened_both, stopped_second, refusal_written, refusal_begun}
 use Rattle.run_commands.specs.feed.FeedEvents.{commit_events, error_events, server_events, batch_events, last_position}
 use Rattle.run_commands.specs.declared.feed.feed.Feed.{Feed}
@@ -151,34 +149,20 @@ module _ {K : Type 0} (kept : K → Kept) (s0 : Sites K) (closed : AllClosed (wo
         elim (has w stands).1 [
           | inl at ↦ stopped_before (Stands (names s0)) w (batch_events feed w) (held kept s1) t at
           | inr at ↦ subst (λ (es : List (Event World)). Stopped (Stands (names s0)) es w (held kept s1) t t) (at_place error w stands refl)
-              (let went = records_went (taken (server_in w n) feed.records) w at in
+              (let went = records_went (taken (server_in w n) feed.records) w at.1 in
               stopped_in_second (Stands (names s0)) w (first w) rest (held kept s1) (held kept s1) t t t went (stopped_before (Stands (names s0)) (last_world w (first w)) rest (held kept s1) t went.stands))
         ]
-
-    -- who is to blame
-    blamed : (e : Fault) → BlamesFault kept s0 s1 (ShowsDamage kept s0 n) e → Blames kept s0 s1 (ShowsDamage kept s0 n) e
-    blamed faults.Memory blames = blames
-    blamed (faults.Keeper s) blames = blames
-    blamed (faults.Damaged s a cause) blames = blames.0
-    blamed (faults.Refused refusal) blames = absurd blames
-
-    -- if damage was found, the servers hold what they held
-    unchanged : (e : Fault) → BlamesFault kept s0 s1 (ShowsDamage kept s0 n) e → (s : ℕ) (a : Area) (cause : DamageCause) → e ≡ faults.Damaged s a cause → held kept s1 ≡ held kept s0
-    unchanged faults.Memory blames s a cause is = absurd cc
-    unchanged (faults.Keeper m) blames s a cause is = absurd cc
-    unchanged (faults.Damaged m b other) blames s a cause is = blames.1
-    unchanged (faults.Refused refusal) blames s a cause is = absurd blames
 
     -- a fault of an append isn't that something is refused
     pub ends_run : (e : Fault) → BlamesFault kept s0 s1 (ShowsDamage kept s0 n) e → IsSome (error_of_fault e)
     ends_run faults.Memory blames = refl
     ends_run (faults.Keeper s) blames = refl
     ends_run (faults.Damaged s a cause) blames = refl
-    ends_run (faults.Refused refusal) blames = absurd blames
+    ends_run (faults.Refused refusal) blames = absurd blames.blames
 
     -- why the run ends
     pub append_cause : KeepsServers kept s0 s1 → (before now : ℕ) (e : Fault) (error : RunError) → Some error ≡ error_of_fault e → BlamesFault kept s0 s1 (ShowsDamage kept s0 n) e →
         ((w : World) → Stands (names s0) (held kept s0) w → HasNotAppended kept s0 s1 n feed.records w (errors.Fault e)) → PartHasCause kept s0 s1 before now error
     append_cause keeps before now e error is blames has =
-        fault_cause kept s0 s1 closed keeps all_rules append_shown (λ s. s ≡ n) (λ s at. subst (λ (m : ℕ). m < length (names s0)) (sym at) place.within) before now e error is (blamed e blames)
-        (unchanged e blames) (λ w stands. (has w stands).0)
+        fault_cause kept s0 s1 closed keeps all_rules append_shown (λ s. s ≡ n) (λ s at. subst (λ (m : ℕ). m < length (names s0)) (sym at) place.within) before now e error is blames.blames
+        (λ s a cause met. undoubted kept s0 s1 e s a cause met blames.holds) (λ w stands. (has w stands).0)

@@ -1,9 +1,10 @@
 -- The steps of the set of a name, which is looked for first.
-use Rattle.std.proofs.Common.{◌≡◌, ◌∙◌, ◌+◌, ℕ, [], ◌∷◌, sym, ap}
+use Rattle.std.proofs.Common.{◌≡◌, ◌∙◌, ◌+◌, ◌<◌, ℕ, List, [], ◌∷◌, length, sym, ap, subst}
 use Rattle.std.specs.Prelude.{Option, Some, None}
-use Rattle.std.specs.Option.{option_map_or}
+use Rattle.std.specs.Option.{option_map_or, IfSome}
 use Rattle.repl_types.specs.declared.record.SetId.{SetId}
 use Rattle.repl_types.specs.declared.refusal.Refusal.TheVariants as refusals
+use Rattle.keep_core.specs.Contents.{Contents}
 use Rattle.keep_core.specs.Kept.{Kept}
 use Rattle.repl_model.specs.World.{World, KnownSet}
 use Rattle.reply_text.specs.Replies.{reply_line}
@@ -12,10 +13,11 @@ use Rattle.run_core.specs.Runs.{writes}
 use Rattle.run_commands.specs.parts.Refusing.{refused}
 use Rattle.run_commands.specs.parts.laws.Looking.{stood_before}
 use Rattle.server_steps.specs.Calls.{Looks}
+use Rattle.server_steps.specs.laws.Reads.{looks_sees}
 use Rattle.site_store.specs.Views.{names, held}
 use Rattle.site_store.specs.declared.sites.Sites.{Sites}
 use Rattle.world_store.specs.Stands.{Stands}
-use Rattle.set_places.specs.Places.{IsKnownAs}
+use Rattle.set_places.specs.Places.{HasSourceRow, HasTargetRow, IsPlaced, IsKnownAs}
 use Rattle.set_places.specs.declared.placed_set.PlacedSet.{PlacedSet}
 use Rattle.run_commands.specs.apply.Progress.{MakesAtMost, MayMake}
 use Rattle.run_commands.specs.apply.StepEvents.{events_of, events_from, apply_events}
@@ -33,3 +35,19 @@ may_make kept s0 s1 looks id set known most at = λ w stands.
     let before = stood_before kept s0 s1 looks w stands in
     let k = known w before in
     (k.0, k.1, at w k.0 before k.2)
+
+-- a set that is placed after reads was placed before them
+pub placed_before : {K : Type 0} (kept : K → Kept) (s0 s1 : Sites K) → Looks kept s0 s1 → (set : PlacedSet) → IsPlaced kept s1 set → IsPlaced kept s0 set
+placed_before kept s0 s1 looks set placed = record {
+  source = record {
+    within = subst (λ (l : List (List ℕ)). set.source < length l) looks.stays.passes.names placed.source.within;
+    row = subst (λ (saw : Option Contents). IfSome saw (HasSourceRow set.at_source)) (looks_sees kept s0 s1 looks set.source) placed.source.row;
+    fits = placed.source.fits;
+  };
+  target = record {
+    within = subst (λ (l : List (List ℕ)). set.target < length l) looks.stays.passes.names placed.target.within;
+    row = subst (λ (saw : Option Contents). IfSome saw (HasTargetRow set.at_target)) (looks_sees kept s0 s1 looks set.target) placed.target.row;
+    fits = placed.target.fits;
+  };
+  apart = placed.apart;
+}

@@ -18,4 +18,5 @@ pub mod StatusEvents
 mod StepDamage
 mod StepEnds
 mod TargetEvents
+mod ToldSteps
 mod UnitNumbers

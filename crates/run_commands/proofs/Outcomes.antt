@@ -7,6 +7,7 @@ use Rattle.std.proofs.lemmas.List.{length-append, append-nil}
 use Rattle.repl_types.specs.declared.refusal.Refusal.{Refusal}
 use Rattle.repl_types.specs.declared.refusal.Refusal.TheVariants as refusals
 use Rattle.faults.specs.declared.fault.Fault.{Fault}
+use Rattle.faults.specs.declared.fault.Fault.TheVariants as faults
 use Rattle.faults.specs.declared.fault.Stepped.{Stepped}
 use Rattle.faults.specs.declared.fault.Stepped.TheVariants as steps
 use Rattle.keep_core.specs.Contents.{Contents}
@@ -211,6 +212,6 @@ module _ {K : Type 0} (kept : K → Kept) (s0 s1 : Sites K) (w : World) (k : Kno
       by_action idles become = before become (outcome_of w k idles)
       by_action (refuses place) become = before become (outcome_of w k (refuses place))
 
-      by_world : HasBecome kept s0 s1 w ⊎ HasBecome kept s0 s1 (after_action w k (next_action k)) → StoppedStep kept s0 s1 t t w (outcome_of w k (next_action k))
+      by_world : HasBecome kept s0 s1 w ⊎ ((s : ℕ) × (e ≡ faults.Keeper s) × HasBecome kept s0 s1 (after_action w k (next_action k))) → StoppedStep kept s0 s1 t t w (outcome_of w k (next_action k))
       by_world (inl same) = before same (outcome_of w k (next_action k))
-      by_world (inr become) = by_action (next_action k) become
+      by_world (inr became) = by_action (next_action k) became.2

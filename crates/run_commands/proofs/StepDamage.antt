@@ -17,7 +17,7 @@ use Rattle.repl_model.specs.Applicable.{is_signal}
 use Rattle.repl_model.specs.World.{World}
 use Rattle.load_worlds.specs.laws.Members.{in_map}
 use Rattle.site_store.specs.declared.sites.Sites.{Sites}
-use Rattle.site_store.specs.Calls.{KeepsServers, Blames}
+use Rattle.site_store.specs.Calls.{KeepsServers}
 use Rattle.site_store.specs.Damage.{Rules, joined, Shows, Damages, IsNoDamage}
 use Rattle.site_store.specs.laws.Damage.{shown_first, shown_second}
 use Rattle.site_store.specs.Servers.{AllClosed}
@@ -29,18 +29,19 @@ use Rattle.subs_sets.specs.Rules as sets
 use Rattle.subs_sets.specs.Rules.{captured_rules, state_rules}
 use Rattle.set_places.specs.Members.{member_rules}
 use Rattle.set_places.specs.Places.{IsPlaced}
+use Rattle.set_places.specs.Steps.{BlamesUnchanged}
 use Rattle.set_places.specs.declared.placed_set.PlacedSet.{PlacedSet}
 use Rattle.prune_control.specs.Noting.{mark_rules}
 use Rattle.full_refresh.specs.Signals.{start_of, signal_rules}
 use Rattle.target_steps.specs.Taking.{ShowsAtEnds}
 use Rattle.copy_targets.specs.Copies.{ShowsCopyDamage}
 use Rattle.apply_cycle.specs.Stepping.{IsBlamed, ShowsDamage}
-use Rattle.run_commands.specs.parts.Causes.{PartHasCause}
+use Rattle.run_commands.specs.parts.Causes.{PartHasCause, FoundByRead}
 use Rattle.run_commands.specs.parts.Damage as running
 use Rattle.run_commands.specs.parts.Damage.{rules}
 use Rattle.run_commands.specs.parts.RunErrors.{error_of_fault}
 use Rattle.run_commands.specs.declared.parts.run_error.RunError.{RunError}
-use Rattle.run_commands.specs.parts.laws.Damage.{IsShown, append_shown, set_shown, seen_after, blamed_cause}
+use Rattle.run_commands.specs.parts.laws.Damage.{IsShown, append_shown, set_shown, seen_after, undoubted, fault_reads, blamed_cause}
 
 -- ---- of a signal
 
@@ -148,15 +149,25 @@ module _ {K : Type 0} (kept : K → Kept) (s0 s1 : Sites K) (set : PlacedSet) (p
     subst (λ (saw : Option Contents). Shows rules a cause saw ⊎ ShowsCopyDamage a cause saw) (seen_after kept s0 s1 closed keeps same n) h.1,
   )
 
+  -- what it found was read
+  pub step_reads : (e : Fault) (error : RunError) → Some error ≡ error_of_fault e → IsBlamed kept s0 s1 (ShowsDamage kept ShowsCopyDamage s0 set) e → FoundByRead error
+  step_reads e error is blamed = by_fault e is blamed
+    where
+      by_blames : (e : Fault) → Some error ≡ error_of_fault e → BlamesUnchanged kept s0 s1 (ShowsDamage kept ShowsCopyDamage s0 set) e → FoundByRead error
+      by_blames e is blames = fault_reads kept s0 s1 (ShowsDamage kept ShowsCopyDamage s0 set) step_shown e error is blames.blames
+
+      by_fault : (e : Fault) → Some error ≡ error_of_fault e → IsBlamed kept s0 s1 (ShowsDamage kept ShowsCopyDamage s0 set) e → FoundByRead error
+      by_fault faults.Memory is blamed = by_blames faults.Memory is blamed
+      by_fault (faults.Keeper s) is blamed = by_blames (faults.Keeper s) is blamed
+      by_fault (faults.Damaged s a cause) is blamed = by_blames (faults.Damaged s a cause) is blamed
+      by_fault (faults.Refused refusal) is blamed = absurd cc
+
   -- why a run ends at a step that failed
   pub step_cause : (before now : ℕ) (e : Fault) (error : RunError) → Some error ≡ error_of_fault e → IsBlamed kept s0 s1 (ShowsDamage kept ShowsCopyDamage s0 set) e → ((w : World) → Stands (names s0) (held kept s0) w → IsNoDamage e) → PartHasCause kept s0 s1 before now error
   step_cause before now e error is blamed none = by_fault e is blamed none
     where
-      damage : ℕ → Area → DamageCause → Type 0
-      damage n a cause = ShowsDamage kept ShowsCopyDamage s0 set n a cause × (held kept s1 ≡ held kept s0)
-
-      by_blames : (e : Fault) → Some error ≡ error_of_fault e → Blames kept s0 s1 damage e → ((w : World) → Stands (names s0) (held kept s0) w → IsNoDamage e) → PartHasCause kept s0 s1 before now error
-      by_blames e is blames none = blamed_cause kept s0 s1 closed keeps damage before now e error is blames (λ n a cause met shows. shown_after shows.1 n a cause (step_shown n a cause shows.0)) none
+      by_blames : (e : Fault) → Some error ≡ error_of_fault e → BlamesUnchanged kept s0 s1 (ShowsDamage kept ShowsCopyDamage s0 set) e → ((w : World) → Stands (names s0) (held kept s0) w → IsNoDamage e) → PartHasCause kept s0 s1 before now error
+      by_blames e is blames none = blamed_cause kept s0 s1 closed keeps (ShowsDamage kept ShowsCopyDamage s0 set) before now e error is blames.blames (λ n a cause met shows. shown_after (undoubted kept s0 s1 e n a cause met blames.holds) n a cause (step_shown n a cause shows)) none
 
       by_fault : (e : Fault) → Some error ≡ error_of_fault e → IsBlamed kept s0 s1 (ShowsDamage kept ShowsCopyDamage s0 set) e → ((w : World) → Stands (names s0) (held kept s0) w → IsNoDamage e) → PartHasCause kept s0 s1 before now error
       by_fault faults.Memory is blamed none = by_blames faults.Memory is blamed none

@@ -3,15 +3,15 @@ use Rattle.std.proofs.Common.{◌≡◌, ◌≤◌, ◌<◌, ◌+◌, ◌++◌, 
 use Rattle.std.proofs.Math.Seq.{take-nil}
 use Rattle.std.proofs.lemmas.Bool.Decides.{nat_tests}
 use Rattle.std.specs.Prelude.{nat_lt, if◌then◌else◌, is_some}
-use Rattle.std.specs.Option.{option_map, option_to_list}
+use Rattle.std.specs.Option.{option_map, option_to_list, IfSome}
 use Rattle.std.specs.Str.Lines.{lines}
 use Rattle.line_input.specs.Limits.{line_limit}
-use Rattle.line_input.specs.Input.{kept_limit, ReadsLine}
+use Rattle.line_input.specs.Input.{kept_limit, IsPlain, IsLineText, ReadsLine}
 use Rattle.line_input.specs.declared.input.Next.TheVariants.{Line, LongLine}
 use Rattle.script_lines.specs.Lines.{ScriptLine, long_body, long_command, comment_mark, body_mark, begins_with, short_line, long_line, script_line, script_from}
 use Rattle.line_input.specs.Input.{left_of, budget}
 use Rattle.line_input.specs.declared.input.Input.{Input}
-use Rattle.script_lines.specs.Script.{line_of, line_number, line_text, next_kind, lines_left, pending, waiting}
+use Rattle.script_lines.specs.Script.{line_of, line_number, line_text, next_kind, lines_left, pending, waiting, IsLineOf}
 use Rattle.script_lines.specs.declared.script.Script.{Script}
 use Rattle.script_lines.specs.declared.kind.LineKind.{LineKind}
 
@@ -91,6 +91,19 @@ waits_long s0 s i later old text input number same is reads =
     let here : ReadsLine LongLine (line_text s) old (left_of s.input later) = subst (λ (t : List ℕ). ReadsLine LongLine t old (left_of s.input later)) (sym same) (subst (λ (j : Input). ReadsLine LongLine text old (left_of j later)) (sym input) reads) in
     left_long old (left_of s.input later) (line_number s) (next_kind s) (line_text s) here (is ∙ ap long_line (sym same))
     ∙ ap (λ (n : ℕ). option_map (λ bytes. script_from n (lines bytes)) old) number
+
+-- what is kept of a line of a kind is such a line by itself
+is_line : (kind : Option LineKind) (kept text : List ℕ) (is : Option ScriptLine) → kept ≡ text → IsPlain text → script_line text ≡ is → option_map (λ k. line_of k kept) kind ≡ is → IfSome kind (λ k. IsLineOf k kept)
+is_line None kept text is same plain line of_kind = tt
+is_line (Some k) kept text is same plain line of_kind = (subst IsPlain (sym same) plain, ap script_line same ∙ line ∙ sym of_kind)
+
+-- of a line within the limit
+pub short_waits : (s : Script) (text : List ℕ) → line_text s ≡ text → option_map (λ k. line_of k (line_text s)) (next_kind s) ≡ short_line text → IsLineText Line text → IfSome (next_kind s) (λ k. IsLineOf k (line_text s))
+short_waits s text same of_kind whole = is_line (next_kind s) (line_text s) text (short_line text) same whole.0 (script_line_short text whole.1) of_kind
+
+-- and of one over it
+pub long_waits : (s : Script) (text : List ℕ) → line_text s ≡ text → option_map (λ k. line_of k (line_text s)) (next_kind s) ≡ long_line text → IsLineText LongLine text → IfSome (next_kind s) (λ k. IsLineOf k (line_text s))
+long_waits s text same of_kind whole = is_line (next_kind s) (line_text s) text (long_line text) same whole.0 (script_line_long text whole.1) of_kind
 
 -- at most one line waits
 pub few_wait : (s : Script) → waiting s ≤ 1

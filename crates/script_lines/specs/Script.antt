@@ -1,10 +1,10 @@
 -- What a script that is read has left, and what its reader keeps.
-use Rattle.std.specs.Prelude.{◌≡◌, ℕ, ◌+◌, ◌<◌, if◌then◌else◌, List, ◌++◌, length, take, drop, Option, is_some}
+use Rattle.std.specs.Prelude.{◌≡◌, ℕ, ◌+◌, ◌<◌, if◌then◌else◌, List, ◌++◌, length, take, drop, Option, Some, is_some}
 use Rattle.std.specs.Option.{option_map, option_to_list}
 use Rattle.std.specs.Str.Lines.{lines}
 use Rattle.line_input.specs.Limits.{line_limit}
-use Rattle.line_input.specs.Input.{left_of, total_of, budget, kept_limit, NothingAfterEnd}
-use Rattle.script_lines.specs.Lines.{ScriptLine, command, body, long_command, long_body, script_from}
+use Rattle.line_input.specs.Input.{left_of, total_of, budget, kept_limit, IsPlain, NothingAfterEnd}
+use Rattle.script_lines.specs.Lines.{ScriptLine, command, body, long_command, long_body, script_line, script_from}
 use Rattle.script_lines.specs.declared.kind.LineKind.{LineKind}
 use Rattle.script_lines.specs.declared.kind.LineKind.TheVariants as kinds
 use Rattle.script_lines.specs.declared.script.Script.{Script}
@@ -56,3 +56,7 @@ HasOneSource s later = NothingAfterEnd s.input later
 pub record IsLong (line kept : List ℕ) : Type 0 where
   pub long : line_limit < length line
   pub prefix : kept ≡ take kept_limit line
+
+-- of a line of this kind these bytes are kept: they have no line feed, and by themselves they are such a line too
+abbrev pub IsLineOf : LineKind → List ℕ → Type 0
+IsLineOf kind text = IsPlain text × (script_line text ≡ Some (line_of kind text))

@@ -28,7 +28,7 @@ impl Script {
     ghost use Rattle.script_lines.specs.Script.{next_kind, line_number, line_text, line_of};
     ghost use Rattle.script_lines.specs.Script.{next_line};
     ghost use Rattle.script_lines.specs.Script.{lines_left, total_left, pending, waiting};
-    ghost use Rattle.script_lines.specs.Script.{HasOneSource};
+    ghost use Rattle.script_lines.specs.Script.{HasOneSource, IsLineOf};
 
     /// A script of which nothing was read.
     pub fn new(alloc: Global) -> Result<Script, AllocError>
@@ -39,6 +39,7 @@ impl Script {
         ensures begins { IfOk result (λ script. (later : Option (List ℕ)) →
             HasOneSource script later) }
         ensures none { IfOk result (λ script. next_kind script ≡ None) }
+        ensures number { IfOk result (λ script. line_number script ≡ 0) }
     {
         Ok(Script {
             input: Input::new(alloc)?,
@@ -85,6 +86,8 @@ impl Script {
         ensures lines { OnOk result (lines_left self.new (I.left source.new)
             ≡ lines_left self.old (I.left source.old)) }
         ensures kind { IfOk result (λ kind. kind ≡ next_kind self.new) }
+        ensures line { next_kind self.old ≡ None → IfOk result (λ kind. IfSome kind (λ k.
+            IsLineOf k (line_text self.new))) }
         ensures end { result ≡ Ok None → IfSome (I.left source.old) (λ _.
             (I.left source.new ≡ Some []) × (lines_left self.new (I.left source.new) ≡ Some [])) }
         ensures fits { result ≡ Ok None → IfSome (total_left self.new (I.left source.new))

@@ -1,9 +1,10 @@
 -- The feed of the input, whose lines are kept, and what is done after it.
 use Rattle.std.proofs.Common.{◌≡◌, ◌∙◌, ◌||◌, ℕ, List, [], Bool, sym, ap}
-use Rattle.std.specs.Prelude.{Option, Some, None, codes}
+use Rattle.std.specs.Prelude.{Option, Some, codes}
+use Rattle.keep_core.specs.Contents.{Contents}
 use Rattle.keep_core.specs.Kept.{Kept}
 use Rattle.repl_model.specs.World.{World}
-use Rattle.run_core.specs.Runs.{Event, last_world, is_refused}
+use Rattle.run_core.specs.Runs.{Event, last_world, Went, Stopped, is_refused}
 use Rattle.run_core.specs.laws.Runs.{refused_append, went_both, stopped_in_first, stopped_in_second}
 use Rattle.site_store.specs.Views.{names, held}
 use Rattle.site_store.specs.declared.sites.Sites.{Sites}
@@ -19,6 +20,7 @@ use Rattle.session_core.specs.copy.CopyEvents.{shown_events, fed_events}
 use Rattle.session_core.specs.copy.Reading.{ReadsAll, StopsReading}
 use Rattle.session_core.specs.copy.Showing.{KeepsRefusals}
 use Rattle.session_core.proofs.CopyRefusals.{keeps_refusals}
+use Rattle.session_core.proofs.ReadInputs.{of_input_also}
 
 -- what is fed at the source
 abbrev fed_at : List ℕ → World → List (Event World)
@@ -27,38 +29,48 @@ fed_at input w = input_events (codes "src") input w
 module _ {K : Type 0} (kept : K → Kept) (s0 s1 : Sites K) (t u : Option (List ℕ)) where
   -- the feed stopped
   pub feed_stopped : (input : Option (List ℕ)) → StopsReading kept s0 s1 input (Some []) u fed_at → StopsReading kept s0 s1 input t t fed_events
-  feed_stopped None stopped = λ w at. tt
-  feed_stopped (Some bytes) stopped = λ w at.
+  feed_stopped input stopped = λ w at.
+      of_input_also input (λ bytes. Stopped (Stands (names s0)) (fed_at bytes w) w (held kept s1) (Some []) u) (λ bytes. Stopped (Stands (names s0)) (fed_events bytes w) w (held kept s1) t t)
+      (λ bytes here.
       let fed = fed_at bytes w in
       stopped_in_first (Stands (names s0)) w (unwritten fed) (shown_events fed (last_world w (unwritten fed))) (held kept s1) t t
-      (stopped_unwritten (Stands (names s0)) fed w (held kept s1) (Some []) u t (stopped w at))
+      (stopped_unwritten (Stands (names s0)) fed w (held kept s1) (Some []) u t here)) (stopped w at)
 
 module _ {K : Type 0} (kept : K → Kept) (s0 s1 s2 : Sites K) (same : names s1 ≡ names s0) (t u : Option (List ℕ)) (lines : List ℕ) (refused : Bool) where
-  module _ (bytes : List ℕ) (fed : ReadsAll kept s0 s1 (Some bytes) (Some []) (Some lines) fed_at refused) (w : World) (at : Stands (names s0) (held kept s0) w) where
-    -- what is known of its refusals
-    known : KeepsRefusals (fed_at bytes w) lines refused
-    known = keeps_refusals (fed_at bytes w) lines refused (fed w at).1 (kept_lines (Stands (names s0)) (fed_at bytes w) w (held kept s1) lines (fed w at).0) (input_silent (codes "src") bytes w)
+  -- for which world servers stand, by their names at the beginning
+  abbrev Means : List (Option Contents) → World → Type 0
+  Means h w = Stands (names s0) h w
+
+  -- the feed of these bytes happened
+  abbrev HasFed : World → List ℕ → Type 0
+  HasFed w bytes = Went Means (fed_at bytes w) w (held kept s1) (Some []) (Some lines) × (refused ≡ is_refused (fed_at bytes w))
+
+  -- what is known of its refusals
+  known : (w : World) (bytes : List ℕ) → HasFed w bytes → KeepsRefusals (fed_at bytes w) lines refused
+  known w bytes fed = keeps_refusals (fed_at bytes w) lines refused fed.1 (kept_lines Means (fed_at bytes w) w (held kept s1) lines fed.0) (input_silent (codes "src") bytes w)
 
   -- the feed happened, and what is done after it
   pub feed_happened : (input : Option (List ℕ)) (any : Bool) → ReadsAll kept s0 s1 input (Some []) (Some lines) fed_at refused
       → ((fed : List (Event World)) → KeepsRefusals fed lines refused → Happened kept s1 s2 t u (shown_events fed) any) → ReadsAll kept s0 s2 input t u fed_events any
-  feed_happened None any fed shown = λ w at. tt
-  feed_happened (Some bytes) any fed shown = λ w at.
+  feed_happened input any fed shown = λ w at.
+      of_input_also input (HasFed w) (λ bytes. Went Means (fed_events bytes w) w (held kept s2) t u × (any ≡ is_refused (fed_events bytes w)))
+      (λ bytes here.
       let events = fed_at bytes w in
-      let first = went_unwritten (Stands (names s0)) events w (held kept s1) (Some []) (Some lines) t (fed w at).0 in
+      let first = went_unwritten Means events w (held kept s1) (Some []) (Some lines) t here.0 in
       let v = last_world w (unwritten events) in
-      let later = happened_since kept s0 s1 s2 same t u (shown_events events) any (shown events (known bytes fed w at)) v first.stands in (
-        went_both (Stands (names s0)) w (unwritten events) (shown_events events v) (held kept s1) (held kept s2) t t u first later.0,
+      let later = happened_since kept s0 s1 s2 same t u (shown_events events) any (shown events (known w bytes here)) v first.stands in (
+        went_both Means w (unwritten events) (shown_events events v) (held kept s1) (held kept s2) t t u first later.0,
         later.1 ∙ ap (λ (was : Bool). was || is_refused (shown_events events v)) (sym (unwritten_refused events)) ∙ sym (refused_append (unwritten events) (shown_events events v)),
-      )
+      )) (fed w at)
 
   -- or the run stopped after it
   pub shown_stopped : (input : Option (List ℕ)) → ReadsAll kept s0 s1 input (Some []) (Some lines) fed_at refused
       → ((fed : List (Event World)) → KeepsRefusals fed lines refused → StoppedIn kept s1 s2 t u (shown_events fed)) → StopsReading kept s0 s2 input t u fed_events
-  shown_stopped None fed stopped = λ w at. tt
-  shown_stopped (Some bytes) fed stopped = λ w at.
+  shown_stopped input fed stopped = λ w at.
+      of_input_also input (HasFed w) (λ bytes. Stopped Means (fed_events bytes w) w (held kept s2) t u)
+      (λ bytes here.
       let events = fed_at bytes w in
-      let first = went_unwritten (Stands (names s0)) events w (held kept s1) (Some []) (Some lines) t (fed w at).0 in
+      let first = went_unwritten Means events w (held kept s1) (Some []) (Some lines) t here.0 in
       let v = last_world w (unwritten events) in
-      stopped_in_second (Stands (names s0)) w (unwritten events) (shown_events events v) (held kept s1) (held kept s2) t t u first
-      (stopped_since kept s0 s1 s2 same t u (shown_events events) (stopped events (known bytes fed w at)) v first.stands)
+      stopped_in_second Means w (unwritten events) (shown_events events v) (held kept s1) (held kept s2) t t u first
+      (stopped_since kept s0 s1 s2 same t u (shown_events events) (stopped events (known w bytes here)) v first.stands)) (fed w at)

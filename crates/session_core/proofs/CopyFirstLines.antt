@@ -18,7 +18,8 @@ use Rattle.run_commands.specs.parts.Parts.{then_events}
 use Rattle.run_commands.specs.feed.FeedEvents.{refused_events}
 use Rattle.run_commands.specs.declared.feed.feed.Feed.{Feed}
 use Rattle.session_core.specs.copy.fed.FedInput.{lines_events}
-use Rattle.session_core.specs.copy.fed.Lines.{short_line_events, short_line_after, next_events, next_after, end_events}
+use Rattle.session_core.specs.FedLines.{short_line_events, short_line_after}
+use Rattle.session_core.specs.copy.fed.Lines.{next_events, next_after, end_events}
 
 -- the events at a line, and then those at the lines after it
 abbrev pub line_and_more : Option Feed → ℕ → Next → List ℕ → List (List ℕ) → World → List (Event World)

@@ -5,11 +5,11 @@ use Rattle.std.specs.Option.{IfSome}
 use Rattle.std.proofs.lemmas.Bool.{true≢false}
 use Rattle.keep_core.specs.Contents.{Contents}
 use Rattle.keep_core.specs.Kept.{Kept}
-use Rattle.line_input.specs.Input.{ReadsLine}
+use Rattle.line_input.specs.Input.{ReadsLine, IsLineText}
 use Rattle.line_input.specs.declared.input.Next.{Next}
 use Rattle.line_input.specs.declared.input.Next.TheVariants.{End, Line, LongLine}
 use Rattle.repl_model.specs.World.{World}
-use Rattle.run_core.specs.Runs.{Event, last_world, Went, Stopped, is_refused}
+use Rattle.run_core.specs.Runs.{Event, Went, Stopped, is_refused}
 use Rattle.site_store.specs.Views.{names, held}
 use Rattle.site_store.specs.declared.sites.Sites.{Sites}
 use Rattle.world_store.specs.Stands.{Stands}
@@ -17,6 +17,7 @@ use Rattle.run_commands.specs.parts.Parts.{StoppedIn}
 use Rattle.run_commands.specs.parts.laws.Parts.{stopped_since}
 use Rattle.run_commands.specs.feed.Feeds.{IsFeed}
 use Rattle.run_commands.specs.declared.feed.feed.Feed.{Feed}
+use Rattle.session_core.specs.Inputs.{OfInput}
 use Rattle.session_core.specs.copy.fed.FedInput.{input_events}
 use Rattle.session_core.specs.copy.fed.Feeding.{GoesOn}
 use Rattle.session_core.specs.copy.fed.Lines.{is_end, next_events, next_after, end_events, HappenedAfter, Feeds}
@@ -61,7 +62,7 @@ module _ {K : Type 0} (kept : K → Kept) (s0 s1 s2 : Sites K) (same : names s1 
   still_stands left goes w at = stands_now Means server input left w (held kept s1) t u feed number (goes w at)
 
   -- the run stopped between two lines
-  pub stopped_here : (left : Option (List ℕ)) → Goes left → (w : World) → Means (held kept s0) w → IfSome input (λ bytes. Stopped Means (input_events server bytes w) w (held kept s1) t u)
+  pub stopped_here : (left : Option (List ℕ)) → Goes left → (w : World) → Means (held kept s0) w → OfInput input (λ bytes. Stopped Means (input_events server bytes w) w (held kept s1) t u)
   stopped_here left goes w at = stops_here Means server input left w (held kept s1) t u feed number (goes w at)
 
   -- what happened, by the names that the servers had at the beginning
@@ -69,19 +70,19 @@ module _ {K : Type 0} (kept : K → Kept) (s0 s1 s2 : Sites K) (same : names s1 
   happened_after was events any happened = subst (λ (n : List (List ℕ)). (v : World) → Stands n (held kept s1) v → Went (Stands n) (events v) v (held kept s2) u u2 × (any ≡ (was || is_refused (events v)))) same happened
 
   module _ (before now : Option (List ℕ)) (goes : Goes before) (next : Next) (line : List ℕ) (reads : ReadsLine next line before now) where
-    module _ (more : next ≢ End) where
+    module _ (more : next ≢ End) (text : IsLineText next line) where
       -- after a line the run goes on
       pub line_fed : (after : Option Feed) → Feeds kept s1 s2 u u2 (is_none feed) (next_events feed number next line) (next_after feed number next line) number after
           → (w : World) → Means (held kept s0) w → GoesOn Means server input w after (number + 1) now (held kept s2) t u2
       line_fed after feeds w at =
-          takes_line Means server w (held kept s1) (held kept s2) t u u2 feed number next line more input before now after (goes w at) reads
+          takes_line Means server w (held kept s1) (held kept s2) t u u2 feed number next line more text input before now after (goes w at) reads
           (subst (λ (n : List (List ℕ)). (v : World) → Stands n (held kept s1) v → after ≡ next_after feed number next line v) same feeds.after_it)
           (happened_after (is_none feed) (next_events feed number next line) (is_none after) feeds.happened)
 
       -- or it stopped at the line
-      pub line_stopped : StoppedIn kept s1 s2 u u2 (next_events feed number next line) → (w : World) → Means (held kept s0) w → IfSome input (λ bytes. Stopped Means (input_events server bytes w) w (held kept s2) t u2)
+      pub line_stopped : StoppedIn kept s1 s2 u u2 (next_events feed number next line) → (w : World) → Means (held kept s0) w → OfInput input (λ bytes. Stopped Means (input_events server bytes w) w (held kept s2) t u2)
       line_stopped stopped w at =
-          stops_at_line Means server w (held kept s1) (held kept s2) t u u2 feed number next line more input before now (goes w at) reads (stopped_since kept s0 s1 s2 same u u2 (next_events feed number next line) stopped)
+          stops_at_line Means server w (held kept s1) (held kept s2) t u u2 feed number next line more text input before now (goes w at) reads (stopped_since kept s0 s1 s2 same u u2 (next_events feed number next line) stopped)
 
     module _ (ended : next ≡ End) where
       -- that was the end
@@ -90,17 +91,11 @@ module _ {K : Type 0} (kept : K → Kept) (s0 s1 s2 : Sites K) (same : names s1 
 
       -- after the end of the feed the whole run happened
       pub end_fed : (any : Bool) → HappenedAfter kept s1 s2 u u2 (is_none feed) (end_events feed) any
-          → (w : World) → Means (held kept s0) w → IfSome input (λ bytes. Went Means (input_events server bytes w) w (held kept s2) t u2 × (any ≡ is_refused (input_events server bytes w)))
+          → (w : World) → Means (held kept s0) w → OfInput input (λ bytes. Went Means (input_events server bytes w) w (held kept s2) t u2 × (any ≡ is_refused (input_events server bytes w)))
       end_fed any happened w at =
           takes_end Means server w (held kept s1) (held kept s2) t u u2 feed number line input before now any (goes w at) at_end (happened_after (is_none feed) (end_events feed) any happened)
 
-      -- and the servers stand for a world
-      pub end_stands : (any : Bool) → HappenedAfter kept s1 s2 u u2 (is_none feed) (end_events feed) any → (w : World) → Means (held kept s0) w → (v : World) × Means (held kept s2) v
-      end_stands any happened w at =
-          let now = still_stands before goes w at in
-          (last_world now.0 (end_events feed now.0), (happened_after (is_none feed) (end_events feed) any happened now.0 now.1).0.stands)
-
       -- or it stopped there
-      pub end_stopped : StoppedIn kept s1 s2 u u2 (end_events feed) → (w : World) → Means (held kept s0) w → IfSome input (λ bytes. Stopped Means (input_events server bytes w) w (held kept s2) t u2)
+      pub end_stopped : StoppedIn kept s1 s2 u u2 (end_events feed) → (w : World) → Means (held kept s0) w → OfInput input (λ bytes. Stopped Means (input_events server bytes w) w (held kept s2) t u2)
       end_stopped stopped w at =
           stops_at_end Means server w (held kept s1) (held kept s2) t u u2 feed number line input before now (goes w at) at_end (stopped_since kept s0 s1 s2 same u u2 (end_events feed) stopped)

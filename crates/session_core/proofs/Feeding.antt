@@ -13,10 +13,13 @@ use Rattle.session_core.specs.Answers.{Answers}
 use Rattle.script_lines.specs.Script.{next_kind, line_number, waiting}
 use Rattle.script_lines.specs.declared.kind.LineKind.{LineKind}
 use Rattle.script_lines.specs.declared.script.Script.{Script}
+use Rattle.repl_commands.specs.declared.command.Command.{Command}
 use Rattle.script_text.specs.Asked.{takes_body}
 use Rattle.run_commands.specs.feed.Feeds.{IsFeed}
 use Rattle.run_commands.specs.declared.feed.feed.Feed.{Feed}
-use Rattle.session_core.specs.Bodies.{IfFeed, KeepsBodies, unfed, after_long_body}
+use Rattle.session_core.specs.Bodies.{IfFeed, KeepsBodies, unfed, after_bodiless, after_long_body}
+use Rattle.session_core.specs.Commands.{talk_of}
+use Rattle.session_core.specs.copy.fed.Lines.{Feeds}
 use Rattle.session_core.specs.declared.bodies.Bodies.{Bodies}
 use Rattle.session_core.specs.declared.bodies.Bodies.TheVariants.{Refused, Skipped, Gathered, Fed}
 
@@ -59,6 +62,14 @@ keeps_unfed number text = by_form (takes_body text)
     by_form true = tt
     by_form false = tt
 
+-- nor after a command that takes no body
+pub keeps_bodiless : (number : ℕ) (command : Command) (text : List ℕ) → KeepsBodies number (after_bodiless command text)
+keeps_bodiless number command text = by_form (is_some (talk_of command))
+  where
+    by_form : (done : Bool) → KeepsBodies number (if done then unfed text else Skipped)
+    by_form true = keeps_unfed number text
+    by_form false = tt
+
 -- nor after a body line over the limit
 pub keeps_long : (number : ℕ) (bodies : Bodies) → KeepsBodies number (after_long_body bodies)
 keeps_long number Refused = tt
@@ -75,3 +86,9 @@ module _ {K : Type 0} (kept : K → Kept) (s0 s1 : Sites K) (t u : Option (List 
     bodies = λ w at. same ∙ ap (λ (f : Option Feed). option_map_or Fed f Skipped) (is w at);
     keeps = subst (KeepsBodies next) (sym same) keeps;
   }
+
+-- the same of the feed after a line
+pub answers_line : {K : Type 0} (kept : K → Kept) (s0 s1 : Sites K) (t u : Option (List ℕ)) (events : World → List (Event World)) (after : World → Option Feed) (number : ℕ) (feed : Option Feed) (bodies : Bodies)
+    → Feeds kept s0 s1 t u false events after number feed → bodies ≡ option_map_or Fed feed Skipped
+    → Answers kept s0 s1 t u events (λ w. option_map_or Fed (after w) Skipped) (number + 1) (record { refused = is_none feed; bodies = bodies })
+answers_line kept s0 s1 t u events after number feed bodies feeds same = answers_fed kept s0 s1 t u events feed feeds.happened after (number + 1) bodies same feeds.after_it (keeps_fed number feed feeds.fed)

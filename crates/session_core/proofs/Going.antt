@@ -1,23 +1,27 @@
 -- How a run of a script goes on, line by line.
-use Rattle.std.proofs.Common.{◌≡◌, ℕ, List, [], ◌∷◌, ◌++◌, refl, sym, ap, ap₂, subst, ◌∙◌, Bool, false}
+use Rattle.std.proofs.Common.{◌≡◌, ℕ, ◌+◌, List, [], ◌∷◌, ◌++◌, append_assoc, refl, sym, ap, ap₂, subst, ◌∙◌, Bool, false}
 use Rattle.std.specs.Prelude.{Option, Some, None, ◌||◌}
 use Rattle.std.specs.Option.{option_map, IfSome}
+use Rattle.std.specs.Str.Lines.{lines}
 use Rattle.std.proofs.lemmas.List.{append-nil}
 use Rattle.keep_core.specs.Contents.{Contents}
 use Rattle.keep_core.specs.Revealed.{Takes}
 use Rattle.keep_core.specs.laws.Revealed.{takes_nothing}
 use Rattle.repl_model.specs.World.{World}
 use Rattle.run_core.specs.Runs.{Event, last_world, lines_of, is_refused, Going, Went, Stopped}
-use Rattle.run_core.specs.laws.Runs.{refused_append, stopped_before, went_both, stopped_in_second, goes_on, done_after, stops_in, no_part}
-use Rattle.script_lines.specs.Lines.{ScriptLine, script_of}
+use Rattle.run_core.specs.laws.Runs.{refused_append, went_both, stopped_in_second, goes_on, done_after, stops_in, no_part}
+use Rattle.script_lines.specs.Lines.{ScriptLine, script_from, script_of}
 use Rattle.script_lines.specs.Script.{next_kind, line_number, line_text, next_line, line_of, lines_left}
+use Rattle.script_lines.specs.laws.MadeLines.{MakesLine}
 use Rattle.script_lines.specs.declared.kind.LineKind.{LineKind}
 use Rattle.script_lines.specs.declared.script.Script.{Script}
 use Rattle.run_commands.specs.parts.Parts.{then_events}
 use Rattle.session_core.specs.Talk.{line_events, bodies_after, end_events, talk, script_events}
+use Rattle.session_core.specs.Inputs.{OfInput}
 use Rattle.session_core.specs.Lines.{IsGoing, GoesOn}
 use Rattle.session_core.specs.declared.bodies.Bodies.{Bodies}
 use Rattle.session_core.specs.declared.bodies.Bodies.TheVariants.{Refused}
+use Rattle.session_core.proofs.ReadInputs.{nothing_read}
 
 -- the line that was read and not taken is the first that is left
 waits : (s : Script) (kind : LineKind) (number : ℕ) (text : List ℕ) (left now : Option (List (ℕ × ScriptLine))) → next_kind s ≡ Some kind → number ≡ line_number s → text ≡ line_text s
@@ -28,136 +32,179 @@ waits s kind number text left now is same_number same_text e =
 
 -- at the end of the source no line is left
 pub none_left : (Means : List (Option Contents) → World → Type 0) (input before : Option (List ℕ)) (s t : Script) (now : Option (List ℕ)) (w : World) (bodies : Bodies) (h : List (Option Contents)) (taken later : Option (List ℕ)) (any : Bool)
-    → GoesOn Means input w bodies (lines_left s before) h taken later any → lines_left t now ≡ lines_left s before → IfSome before (λ _. (now ≡ Some []) × (lines_left t now ≡ Some [])) → IfSome input (λ _. lines_left s before ≡ Some [])
+    → GoesOn Means input w bodies (line_number s) (lines_left s before) h taken later any → lines_left t now ≡ lines_left s before → IfSome before (λ _. (now ≡ Some []) × (lines_left t now ≡ Some [])) → IfSome input (λ _. lines_left s before ≡ Some [])
 none_left Means None before s t now w bodies h taken later any goes same end = tt
 none_left Means (Some input) None s t now w bodies h taken later any goes same end = absurd goes
 none_left Means (Some input) (Some bytes) s t now w bodies h taken later any goes same end = sym same ∙ end.1
 
 module _ (Means : List (Option Contents) → World → Type 0) where
-  -- nothing happened yet
-  pub begins : (input : Option (List ℕ)) (left : Option (List (ℕ × ScriptLine))) (w : World) (h : List (Option Contents)) (t : Option (List ℕ)) → left ≡ option_map script_of input → Means h w → GoesOn Means input w Refused left h t t false
-  begins None left w h t e at = (e, (w, at))
-  begins (Some input) left w h t e at = subst (λ (l : Option (List (ℕ × ScriptLine))). GoesOn Means (Some input) w Refused l h t t false) (sym e) (record {
-    going = record { done = []; split = refl; stands = at; bytes = takes_nothing t };
-    refused = refl;
-  })
+  -- ---- the beginning
 
-  -- the servers stand for a world
-  pub stands_now : (input : Option (List ℕ)) (left : Option (List (ℕ × ScriptLine))) (w : World) (h : List (Option Contents)) (t u : Option (List ℕ)) (bodies : Bodies) (any : Bool) → GoesOn Means input w bodies left h t u any → (v : World) × Means h v
-  stands_now None left w h t u bodies any goes = goes.1
-  stands_now (Some input) None w h t u bodies any goes = absurd goes
-  stands_now (Some input) (Some left) w h t u bodies any goes = (last_world w goes.going.done, goes.going.stands)
+  module _ (w : World) (h : List (Option Contents)) (t : Option (List ℕ)) (at : Means h w) where
+    -- nothing happened yet
+    all_left : (input : List ℕ) → IsGoing Means input w Refused (script_of input) h t t false
+    all_left input = record {
+      going = record { done = []; split = refl; stands = at; bytes = takes_nothing t };
+      refused = refl;
+    }
+
+    -- and no line was read
+    pub begins : (input : Option (List ℕ)) (number : ℕ) (left : Option (List (ℕ × ScriptLine))) → number ≡ 0 → left ≡ option_map script_of input → GoesOn Means input w Refused number left h t t false
+    begins None number left none e = ([], λ rest. subst (λ (n : ℕ). IsGoing Means rest w Refused (script_from (n + 1) (lines rest)) h t t false) (sym none) (all_left rest))
+    begins (Some input) number left none e = subst (λ (l : Option (List (ℕ × ScriptLine))). GoesOn Means (Some input) w Refused number l h t t false) (sym e) (all_left input)
+
+    -- the run stopped before its first line
+    pub stops_first : (input : Option (List ℕ)) → OfInput input (λ bytes. Stopped Means (script_events bytes w) w h t t)
+    stops_first input = nothing_read Means input script_events w h t at
+
+  -- ---- between two lines
+
+  module _ (w : World) (h : List (Option Contents)) (t u : Option (List ℕ)) (bodies : Bodies) (any : Bool) where
+    -- the run stopped with these lines left
+    stops_with : (input : List ℕ) (left : List (ℕ × ScriptLine)) → IsGoing Means input w bodies left h t u any → Stopped Means (script_events input w) w h t u
+    stops_with input left goes =
+        let going = goes.going in
+        record {
+          done = going.done;
+          rest = talk bodies left (last_world w going.done);
+          part = [];
+          split = going.split;
+          stands = going.stands;
+          bytes = subst (Takes t u) (sym (append-nil (lines_of going.done))) going.bytes;
+          is_part = no_part (talk bodies left (last_world w going.done));
+        }
+
+    module _ (input : Option (List ℕ)) (number : ℕ) (left : Option (List (ℕ × ScriptLine))) (goes : GoesOn Means input w bodies number left h t u any) where
+      -- the servers stand for a world
+      pub stands_now : (v : World) × Means h v
+      stands_now = pick input left goes
+        where
+          pick : (input : Option (List ℕ)) (left : Option (List (ℕ × ScriptLine))) → GoesOn Means input w bodies number left h t u any → (v : World) × Means h v
+          pick None left goes = let going = (goes.1 []).going in (last_world w going.done, going.stands)
+          pick (Some input) None goes = absurd goes
+          pick (Some input) (Some left) goes = (last_world w goes.going.done, goes.going.stands)
+
+      -- the run stopped between two lines
+      pub stops_here : OfInput input (λ bytes. Stopped Means (script_events bytes w) w h t u)
+      stops_here = pick input left goes
+        where
+          pick : (input : Option (List ℕ)) (left : Option (List (ℕ × ScriptLine))) → GoesOn Means input w bodies number left h t u any → OfInput input (λ bytes. Stopped Means (script_events bytes w) w h t u)
+          pick None left goes = (goes.0 ++ [], stops_with (goes.0 ++ []) (script_from (number + 1) (lines [])) (goes.1 []))
+          pick (Some input) None goes = absurd goes
+          pick (Some input) (Some left) goes = stops_with input left goes
 
   -- the line that waits is the first that is left
-  pub line_first : (input : Option (List ℕ)) (w : World) (h : List (Option Contents)) (t u : Option (List ℕ)) (bodies : Bodies) (any : Bool) (s : Script) (kind : LineKind) (number : ℕ) (text : List ℕ) (before left now : Option (List (ℕ × ScriptLine)))
-      → GoesOn Means input w bodies before h t u any → left ≡ before → next_kind s ≡ Some kind → number ≡ line_number s → text ≡ line_text s → left ≡ option_map (λ lines. next_line s ++ lines) now
-      → GoesOn Means input w bodies (option_map (λ lines. ((number, line_of kind text) ∷ []) ++ lines) now) h t u any
-  line_first input w h t u bodies any s kind number text before left now goes same is same_number same_text e =
-      subst (λ (l : Option (List (ℕ × ScriptLine))). GoesOn Means input w bodies l h t u any) (sym same ∙ waits s kind number text left now is same_number same_text e) goes
+  pub line_first : (input : Option (List ℕ)) (w : World) (h : List (Option Contents)) (t u : Option (List ℕ)) (bodies : Bodies) (any : Bool) (last : ℕ) (s : Script) (kind : LineKind) (number : ℕ) (text : List ℕ) (before left now : Option (List (ℕ × ScriptLine)))
+      → GoesOn Means input w bodies last before h t u any → left ≡ before → next_kind s ≡ Some kind → number ≡ line_number s → text ≡ line_text s → left ≡ option_map (λ lines. next_line s ++ lines) now
+      → GoesOn Means input w bodies last (option_map (λ lines. ((number, line_of kind text) ∷ []) ++ lines) now) h t u any
+  line_first input w h t u bodies any last s kind number text before left now goes same is same_number same_text e =
+      subst (λ (l : Option (List (ℕ × ScriptLine))). GoesOn Means input w bodies last l h t u any) (sym same ∙ waits s kind number text left now is same_number same_text e) goes
 
-  module _ (input : Option (List ℕ)) (w : World) (h h2 : List (Option Contents)) (t u u2 : Option (List ℕ)) (bodies : Bodies) (any : Bool) (number : ℕ) (line : ScriptLine) where
+  -- ---- at a line
+
+  module _ (w : World) (h h2 : List (Option Contents)) (t u u2 : Option (List ℕ)) (bodies : Bodies) (any : Bool) (number : ℕ) (line : ScriptLine) where
     -- the events of the line
     abbrev events : World → List (Event World)
     events v = line_events bodies number line v
 
-    -- a line was taken and answered, and the program does with body lines what a run does
-    pub takes_line : (next : Bodies) (left : Option (List (ℕ × ScriptLine))) (was : Bool) → GoesOn Means input w bodies (option_map (λ lines. ((number, line) ∷ []) ++ lines) left) h t u any
+    -- the first line that is left was taken and answered, and the program does with body lines what a run does
+    takes_first : (input : List ℕ) (left : List (ℕ × ScriptLine)) (next : Bodies) (was : Bool) → IsGoing Means input w bodies ((number, line) ∷ left) h t u any
         → ((v : World) → Means h v → next ≡ bodies_after bodies number line v)
         → ((v : World) → Means h v → Went Means (events v) v h2 u u2 × (was ≡ is_refused (events v)))
-        → GoesOn Means input w next left h2 t u2 (any || was)
-    takes_line next left was goes after happened = pick input left goes
-      where
-        pick : (input : Option (List ℕ)) (left : Option (List (ℕ × ScriptLine))) → GoesOn Means input w bodies (option_map (λ lines. ((number, line) ∷ []) ++ lines) left) h t u any → GoesOn Means input w next left h2 t u2 (any || was)
-        pick None None goes = let v = goes.1.0 in (refl, (last_world v (events v), (happened v goes.1.1).0.stands))
-        pick None (Some left) goes = absurd (some_lines goes.0)
-          where
-            some_lines : ◌≡◌ {A = Option (List (ℕ × ScriptLine))} (Some (((number, line) ∷ []) ++ left)) None → ⊥
-            some_lines e = cc
-        pick (Some input) None goes = absurd goes
-        pick (Some input) (Some left) goes =
-            let was_going = goes.going in
-            let v = last_world w was_going.done in
-            let here = happened v was_going.stands in
-            let going : Going Means (script_events input w) w (then_events events (talk next left)) h t u = record {
-              done = was_going.done;
-              split = was_going.split ∙ ap (λ (b : Bodies). was_going.done ++ then_events events (talk b left) v) (sym (after v was_going.stands));
-              stands = was_going.stands;
-              bytes = was_going.bytes;
-            } in
-            record {
-              going = goes_on Means (script_events input w) w h h2 t u u2 events (talk next left) going here.0;
-              refused = ap₂ (λ (a b : Bool). a || b) goes.refused here.1 ∙ sym (refused_append was_going.done (events v))
-                  ∙ ap is_refused (sym (done_after Means (script_events input w) w h h2 t u u2 events (talk next left) going here.0));
-            }
+        → IsGoing Means input w next left h2 t u2 (any || was)
+    takes_first input left next was goes after happened =
+        let was_going = goes.going in
+        let v = last_world w was_going.done in
+        let here = happened v was_going.stands in
+        let going : Going Means (script_events input w) w (then_events events (talk next left)) h t u = record {
+          done = was_going.done;
+          split = was_going.split ∙ ap (λ (b : Bodies). was_going.done ++ then_events events (talk b left) v) (sym (after v was_going.stands));
+          stands = was_going.stands;
+          bytes = was_going.bytes;
+        } in
+        record {
+          going = goes_on Means (script_events input w) w h h2 t u u2 events (talk next left) going here.0;
+          refused = ap₂ (λ (a b : Bool). a || b) goes.refused here.1 ∙ sym (refused_append was_going.done (events v))
+              ∙ ap is_refused (sym (done_after Means (script_events input w) w h h2 t u u2 events (talk next left) going here.0));
+        }
 
-    -- the run stopped in the answer to a line
-    pub stops_at_line : (left : Option (List (ℕ × ScriptLine))) → GoesOn Means input w bodies (option_map (λ lines. ((number, line) ∷ []) ++ lines) left) h t u any
-        → ((v : World) → Means h v → Stopped Means (events v) v h2 u u2)
-        → IfSome input (λ bytes. Stopped Means (script_events bytes w) w h2 t u2)
-    stops_at_line left goes stopped = pick input left goes
-      where
-        pick : (input : Option (List ℕ)) (left : Option (List (ℕ × ScriptLine))) → GoesOn Means input w bodies (option_map (λ lines. ((number, line) ∷ []) ++ lines) left) h t u any → IfSome input (λ bytes. Stopped Means (script_events bytes w) w h2 t u2)
-        pick None left goes = tt
-        pick (Some input) None goes = absurd goes
-        pick (Some input) (Some left) goes =
-            let was_going = goes.going in
-            let v = last_world w was_going.done in
-            let later = talk (bodies_after bodies number line v) left in
-            let going : Going Means (script_events input w) w (then_events events later) h t u = record {
-              done = was_going.done;
-              split = was_going.split;
-              stands = was_going.stands;
-              bytes = was_going.bytes;
-            } in
-            stops_in Means (script_events input w) w h h2 t u u2 events later going (stopped v was_going.stands)
+    -- or the run stopped in its answer
+    stops_in_first : (input : List ℕ) (left : List (ℕ × ScriptLine)) → IsGoing Means input w bodies ((number, line) ∷ left) h t u any
+        → ((v : World) → Means h v → Stopped Means (events v) v h2 u u2) → Stopped Means (script_events input w) w h2 t u2
+    stops_in_first input left goes stopped =
+        let was_going = goes.going in
+        let v = last_world w was_going.done in
+        let later = talk (bodies_after bodies number line v) left in
+        let going : Going Means (script_events input w) w (then_events events later) h t u = record {
+          done = was_going.done;
+          split = was_going.split;
+          stands = was_going.stands;
+          bytes = was_going.bytes;
+        } in
+        stops_in Means (script_events input w) w h h2 t u u2 events later going (stopped v was_going.stands)
 
-  -- the run stopped between two lines
-  pub stops_here : (input : Option (List ℕ)) (left : Option (List (ℕ × ScriptLine))) (w : World) (h : List (Option Contents)) (t u : Option (List ℕ)) (bodies : Bodies) (any : Bool)
-      → GoesOn Means input w bodies left h t u any → IfSome input (λ bytes. Stopped Means (script_events bytes w) w h t u)
-  stops_here None left w h t u bodies any goes = tt
-  stops_here (Some input) None w h t u bodies any goes = absurd goes
-  stops_here (Some input) (Some left) w h t u bodies any goes =
-      let going = goes.going in
-      record {
-        done = going.done;
-        rest = talk bodies left (last_world w going.done);
-        part = [];
-        split = going.split;
-        stands = going.stands;
-        bytes = subst (Takes t u) (sym (append-nil (lines_of going.done))) going.bytes;
-        is_part = no_part (talk bodies left (last_world w going.done));
-      }
+    module _ (last : ℕ) (makes : MakesLine last number line) where
+      -- bytes of which the lines up to this one are made have it as the first that is left
+      made_first : (goes : (bytes : List ℕ) × ((rest : List ℕ) → IsGoing Means (bytes ++ rest) w bodies (script_from (last + 1) (lines rest)) h t u any)) (rest : List ℕ)
+          → IsGoing Means (goes.0 ++ (makes.bytes ++ rest)) w bodies ((number, line) ∷ script_from (number + 1) (lines rest)) h t u any
+      made_first goes rest = subst (λ (left : List (ℕ × ScriptLine)). IsGoing Means (goes.0 ++ (makes.bytes ++ rest)) w bodies left h t u any) (makes.made rest) (goes.1 (makes.bytes ++ rest))
 
-  -- the run stopped before its first line
-  pub stops_first : (input : Option (List ℕ)) (w : World) (h : List (Option Contents)) (t : Option (List ℕ)) → Means h w → IfSome input (λ bytes. Stopped Means (script_events bytes w) w h t t)
-  stops_first None w h t at = tt
-  stops_first (Some input) w h t at = stopped_before Means w (script_events input w) h t at
+      -- a line was taken and answered
+      pub takes_line : (input : Option (List ℕ)) (left : Option (List (ℕ × ScriptLine))) (next : Bodies) (was : Bool) → GoesOn Means input w bodies last (option_map (λ lines. ((number, line) ∷ []) ++ lines) left) h t u any
+          → ((v : World) → Means h v → next ≡ bodies_after bodies number line v)
+          → ((v : World) → Means h v → Went Means (events v) v h2 u u2 × (was ≡ is_refused (events v)))
+          → GoesOn Means input w next number left h2 t u2 (any || was)
+      takes_line None left next was goes after happened = (
+        goes.0 ++ makes.bytes,
+        λ rest. subst (λ (bytes : List ℕ). IsGoing Means bytes w next (script_from (number + 1) (lines rest)) h2 t u2 (any || was)) (sym (append_assoc goes.0 makes.bytes rest))
+            (takes_first (goes.0 ++ (makes.bytes ++ rest)) (script_from (number + 1) (lines rest)) next was (made_first goes rest) after happened),
+      )
+      takes_line (Some input) None next was goes after happened = absurd goes
+      takes_line (Some input) (Some left) next was goes after happened = takes_first input left next was goes after happened
 
-  module _ (input : Option (List ℕ)) (left : Option (List (ℕ × ScriptLine))) (w : World) (h h2 : List (Option Contents)) (t u u2 : Option (List ℕ)) (bodies : Bodies) (any : Bool) (goes : GoesOn Means input w bodies left h t u any) (none : IfSome input (λ _. left ≡ Some [])) where
+      -- the run stopped in the answer to a line
+      pub stops_at_line : (input : Option (List ℕ)) (left : Option (List (ℕ × ScriptLine))) → GoesOn Means input w bodies last (option_map (λ lines. ((number, line) ∷ []) ++ lines) left) h t u any
+          → ((v : World) → Means h v → Stopped Means (events v) v h2 u u2)
+          → OfInput input (λ bytes. Stopped Means (script_events bytes w) w h2 t u2)
+      stops_at_line None left goes stopped = (goes.0 ++ (makes.bytes ++ []), stops_in_first (goes.0 ++ (makes.bytes ++ [])) (script_from (number + 1) (lines [])) (made_first goes []) stopped)
+      stops_at_line (Some input) None goes stopped = absurd goes
+      stops_at_line (Some input) (Some left) goes stopped = stops_in_first input left goes stopped
+
+  -- ---- at the end
+
+  module _ (w : World) (h h2 : List (Option Contents)) (t u u2 : Option (List ℕ)) (bodies : Bodies) (any : Bool) where
     -- no line was left, and the last body was ended
-    pub takes_end : (was : Bool) → ((v : World) → Means h v → Went Means (end_events bodies v) v h2 u u2 × (was ≡ is_refused (end_events bodies v)))
-        → IfSome input (λ bytes. Went Means (script_events bytes w) w h2 t u2 × ((any || was) ≡ is_refused (script_events bytes w)))
-    takes_end was happened = pick input left goes none
-      where
-        pick : (input : Option (List ℕ)) (left : Option (List (ℕ × ScriptLine))) → GoesOn Means input w bodies left h t u any → IfSome input (λ _. left ≡ Some []) → IfSome input (λ bytes. Went Means (script_events bytes w) w h2 t u2 × ((any || was) ≡ is_refused (script_events bytes w)))
-        pick None left goes none = tt
-        pick (Some input) left goes none =
-            let ends : IsGoing Means input w bodies [] h t u any = subst (λ (l : Option (List (ℕ × ScriptLine))). GoesOn Means (Some input) w bodies l h t u any) none goes in
-            let going = ends.going in
-            let v = last_world w going.done in
-            let here = happened v going.stands in (
-              subst (λ (events : List (Event World)). Went Means events w h2 t u2) (sym going.split) (went_both Means w going.done (end_events bodies v) h h2 t u u2 (record { stands = going.stands; bytes = going.bytes }) here.0),
-              ap₂ (λ (a b : Bool). a || b) ends.refused here.1 ∙ sym (refused_append going.done (end_events bodies v)) ∙ ap is_refused (sym going.split),
-            )
+    takes_last : (input : List ℕ) (was : Bool) → IsGoing Means input w bodies [] h t u any → ((v : World) → Means h v → Went Means (end_events bodies v) v h2 u u2 × (was ≡ is_refused (end_events bodies v)))
+        → Went Means (script_events input w) w h2 t u2 × ((any || was) ≡ is_refused (script_events input w))
+    takes_last input was ends happened =
+        let going = ends.going in
+        let v = last_world w going.done in
+        let here = happened v going.stands in (
+          subst (λ (events : List (Event World)). Went Means events w h2 t u2) (sym going.split) (went_both Means w going.done (end_events bodies v) h h2 t u u2 (record { stands = going.stands; bytes = going.bytes }) here.0),
+          ap₂ (λ (a b : Bool). a || b) ends.refused here.1 ∙ sym (refused_append going.done (end_events bodies v)) ∙ ap is_refused (sym going.split),
+        )
 
-    -- no line was left, and the run stopped at the end of the last body
-    pub stops_at_end : ((v : World) → Means h v → Stopped Means (end_events bodies v) v h2 u u2) → IfSome input (λ bytes. Stopped Means (script_events bytes w) w h2 t u2)
-    stops_at_end stopped = pick input left goes none
-      where
-        pick : (input : Option (List ℕ)) (left : Option (List (ℕ × ScriptLine))) → GoesOn Means input w bodies left h t u any → IfSome input (λ _. left ≡ Some []) → IfSome input (λ bytes. Stopped Means (script_events bytes w) w h2 t u2)
-        pick None left goes none = tt
-        pick (Some input) left goes none =
-            let ends : IsGoing Means input w bodies [] h t u any = subst (λ (l : Option (List (ℕ × ScriptLine))). GoesOn Means (Some input) w bodies l h t u any) none goes in
-            let going = ends.going in
-            let v = last_world w going.done in
-            subst (λ (events : List (Event World)). Stopped Means events w h2 t u2) (sym going.split) (stopped_in_second Means w going.done (end_events bodies v) h h2 t u u2 (record { stands = going.stands; bytes = going.bytes }) (stopped v going.stands))
+    -- or the run stopped at its end
+    stops_in_last : (input : List ℕ) → IsGoing Means input w bodies [] h t u any → ((v : World) → Means h v → Stopped Means (end_events bodies v) v h2 u u2) → Stopped Means (script_events input w) w h2 t u2
+    stops_in_last input ends stopped =
+        let going = ends.going in
+        let v = last_world w going.done in
+        subst (λ (events : List (Event World)). Stopped Means events w h2 t u2) (sym going.split) (stopped_in_second Means w going.done (end_events bodies v) h h2 t u u2 (record { stands = going.stands; bytes = going.bytes }) (stopped v going.stands))
+
+    module _ (input : Option (List ℕ)) (number : ℕ) (left : Option (List (ℕ × ScriptLine))) (goes : GoesOn Means input w bodies number left h t u any) (none : IfSome input (λ _. left ≡ Some [])) where
+      -- at the end of the input the whole run happened
+      pub takes_end : (was : Bool) → ((v : World) → Means h v → Went Means (end_events bodies v) v h2 u u2 × (was ≡ is_refused (end_events bodies v)))
+          → OfInput input (λ bytes. Went Means (script_events bytes w) w h2 t u2 × ((any || was) ≡ is_refused (script_events bytes w)))
+      takes_end was happened = pick input goes none
+        where
+          pick : (input : Option (List ℕ)) → GoesOn Means input w bodies number left h t u any → IfSome input (λ _. left ≡ Some []) → OfInput input (λ bytes. Went Means (script_events bytes w) w h2 t u2 × ((any || was) ≡ is_refused (script_events bytes w)))
+          pick None goes none = (goes.0 ++ [], takes_last (goes.0 ++ []) was (goes.1 []) happened)
+          pick (Some input) goes none = takes_last input was (subst (λ (l : Option (List (ℕ × ScriptLine))). GoesOn Means (Some input) w bodies number l h t u any) none goes) happened
+
+      -- or it stopped there
+      pub stops_at_end : ((v : World) → Means h v → Stopped Means (end_events bodies v) v h2 u u2) → OfInput input (λ bytes. Stopped Means (script_events bytes w) w h2 t u2)
+      stops_at_end stopped = pick input goes none
+        where
+          pick : (input : Option (List ℕ)) → GoesOn Means input w bodies number left h t u any → IfSome input (λ _. left ≡ Some []) → OfInput input (λ bytes. Stopped Means (script_events bytes w) w h2 t u2)
+          pick None goes none = (goes.0 ++ [], stops_in_last (goes.0 ++ []) (goes.1 []) stopped)
+          pick (Some input) goes none = stops_in_last input (subst (λ (l : Option (List (ℕ × ScriptLine))). GoesOn Means (Some input) w bodies number l h t u any) none goes) stopped

@@ -10,3 +10,4 @@ mod CopyGoing
 mod CopyLines
 mod CopyReading
 mod CopyRefusals
+mod ReadInputs

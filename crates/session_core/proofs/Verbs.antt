@@ -10,7 +10,7 @@ use Rattle.repl_commands.specs.declared.command.Command.TheVariants.{Load, Feed,
 use Rattle.repl_model.specs.World.{World}
 use Rattle.script_text.specs.Commands.{command_words}
 use Rattle.script_text.specs.Asked.{asks}
-use Rattle.session_core.specs.Bodies.{after_asked, unfed}
+use Rattle.session_core.specs.Bodies.{after_asked, after_bodiless}
 use Rattle.session_core.specs.Commands.{talk_of, is_carried_out_verb, takes_no_body}
 
 -- each of these words is the first of a command that is carried out
@@ -124,26 +124,26 @@ no_body (ShowTrail server set) load feed = tt
 no_body (ShowRejected server set) load feed = tt
 
 -- after a command that takes no body, no body is read
-pub after_bodiless : (text : List ℕ) (command : Command) (w : World) → takes_no_body command → unfed text ≡ after_asked text (asks command) w
-after_bodiless text Load w bodiless = absurd bodiless
-after_bodiless text (Feed server) w bodiless = absurd bodiless
-after_bodiless text (Capture server units every) w bodiless = refl
-after_bodiless text (CaptureCold server) w bodiless = refl
-after_bodiless text (Prune server minutes) w bodiless = refl
-after_bodiless text (PruneNormal server) w bodiless = refl
-after_bodiless text (Step set) w bodiless = refl
-after_bodiless text (Apply set) w bodiless = refl
-after_bodiless text (Refresh set) w bodiless = refl
-after_bodiless text (Stop server table) w bodiless = refl
-after_bodiless text (Generate server table seed units changes) w bodiless = refl
-after_bodiless text (Rounds qual) w bodiless = refl
-after_bodiless text (Audit set) w bodiless = refl
-after_bodiless text (StatusServer server) w bodiless = refl
-after_bodiless text (StatusSet set) w bodiless = refl
-after_bodiless text (ShowSource server table) w bodiless = refl
-after_bodiless text (ShowCd server table) w bodiless = refl
-after_bodiless text (ShowUow server) w bodiless = refl
-after_bodiless text (ShowLog server) w bodiless = refl
-after_bodiless text (ShowTarget server table) w bodiless = refl
-after_bodiless text (ShowTrail server set) w bodiless = refl
-after_bodiless text (ShowRejected server set) w bodiless = refl
+pub no_body_after : (text : List ℕ) (command : Command) (w : World) → takes_no_body command → after_bodiless command text ≡ after_asked text (asks command) w
+no_body_after text Load w bodiless = absurd bodiless
+no_body_after text (Feed server) w bodiless = absurd bodiless
+no_body_after text (Capture server units every) w bodiless = refl
+no_body_after text (CaptureCold server) w bodiless = refl
+no_body_after text (Prune server minutes) w bodiless = refl
+no_body_after text (PruneNormal server) w bodiless = refl
+no_body_after text (Step set) w bodiless = refl
+no_body_after text (Apply set) w bodiless = refl
+no_body_after text (Refresh set) w bodiless = refl
+no_body_after text (Stop server table) w bodiless = refl
+no_body_after text (Generate server table seed units changes) w bodiless = refl
+no_body_after text (Rounds qual) w bodiless = refl
+no_body_after text (Audit set) w bodiless = refl
+no_body_after text (StatusServer server) w bodiless = refl
+no_body_after text (StatusSet set) w bodiless = refl
+no_body_after text (ShowSource server table) w bodiless = refl
+no_body_after text (ShowCd server table) w bodiless = refl
+no_body_after text (ShowUow server) w bodiless = refl
+no_body_after text (ShowLog server) w bodiless = refl
+no_body_after text (ShowTarget server table) w bodiless = refl
+no_body_after text (ShowTrail server set) w bodiless = refl
+no_body_after text (ShowRejected server set) w bodiless = refl

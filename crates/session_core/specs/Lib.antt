@@ -1,6 +1,8 @@
 pub mod Answers
 pub mod Bodies
 pub mod Commands
+pub mod FedLines
+pub mod Inputs
 pub mod Lines
 pub mod Session
 pub mod Talk

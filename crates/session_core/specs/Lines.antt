@@ -1,9 +1,10 @@
 -- Words for the parts of a run of a script.
-use Rattle.std.specs.Prelude.{◌≡◌, ℕ, Bool, List, Option, Some, None}
+use Rattle.std.specs.Prelude.{◌≡◌, ℕ, ◌+◌, Bool, List, ◌++◌, Option, Some, None}
+use Rattle.std.specs.Str.Lines.{lines}
 use Rattle.keep_core.specs.Contents.{Contents}
 use Rattle.repl_model.specs.World.{World}
 use Rattle.run_core.specs.Runs.{Going, is_refused}
-use Rattle.script_lines.specs.Lines.{ScriptLine}
+use Rattle.script_lines.specs.Lines.{ScriptLine, script_from}
 use Rattle.session_core.specs.Talk.{script_events, talk}
 use Rattle.session_core.specs.declared.bodies.Bodies.{Bodies}
 
@@ -13,8 +14,9 @@ pub record IsGoing (Means : List (Option Contents) → World → Type 0) (input 
   pub going : Going Means (script_events input w) w (talk bodies left) held before now
   pub refused : any ≡ is_refused going.done
 
--- the same, if the source reveals its bytes; in any case the servers stand for some world
-abbrev pub GoesOn : (List (Option Contents) → World → Type 0) → Option (List ℕ) → World → Bodies → Option (List (ℕ × ScriptLine)) → List (Option Contents) → Option (List ℕ) → Option (List ℕ) → Bool → Type 0
-GoesOn Means None w bodies left held before now any = (left ≡ None) × ((v : World) × Means held v)
-GoesOn Means (Some input) w bodies None held before now any = ⊥
-GoesOn Means (Some input) w bodies (Some left) held before now any = IsGoing Means input w bodies left held before now any
+-- The same, if the source reveals its bytes. If it doesn't, there are some bytes of which the lines are the ones that were
+-- taken, up to the line with this number: whatever follows these bytes, its lines are left.
+abbrev pub GoesOn : (List (Option Contents) → World → Type 0) → Option (List ℕ) → World → Bodies → ℕ → Option (List (ℕ × ScriptLine)) → List (Option Contents) → Option (List ℕ) → Option (List ℕ) → Bool → Type 0
+GoesOn Means None w bodies number left held before now any = (bytes : List ℕ) × ((rest : List ℕ) → IsGoing Means (bytes ++ rest) w bodies (script_from (number + 1) (lines rest)) held before now any)
+GoesOn Means (Some input) w bodies number None held before now any = ⊥
+GoesOn Means (Some input) w bodies number (Some left) held before now any = IsGoing Means input w bodies left held before now any

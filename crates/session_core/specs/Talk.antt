@@ -10,7 +10,8 @@ use Rattle.run_commands.specs.parts.Parts.{then_events}
 use Rattle.run_commands.specs.parts.Refusing.{refused}
 use Rattle.session_core.specs.Commands.{command_line_events}
 use Rattle.run_commands.specs.load.LoadEvents.{load_text_events}
-use Rattle.run_commands.specs.feed.FeedEvents.{feed_line_events, feed_end_events, refused_events}
+use Rattle.run_commands.specs.feed.FeedEvents.{feed_end_events, refused_events}
+use Rattle.session_core.specs.FedLines.{short_line_events}
 use Rattle.session_core.specs.declared.bodies.Bodies.{Bodies}
 use Rattle.session_core.specs.declared.bodies.Bodies.TheVariants.{Refused, Skipped, Gathered, Fed}
 
@@ -25,12 +26,13 @@ end_events (Fed feed) w = feed_end_events feed w
 
 -- ---- one line
 
--- what a run does at a body line with its number: it is refused, or skipped or gathered, or it is a line of a feed
+-- what a run does at a body line with its number: it is refused, or skipped or gathered, or it is a line of a feed, of which
+-- a blank one is skipped
 abbrev pub body_events : Bodies → ℕ → List ℕ → World → List (Event World)
 body_events Refused number text w = refused (refusals.BadLine number)
 body_events Skipped number text w = []
 body_events (Gathered gathered) number text w = []
-body_events (Fed feed) number text w = feed_line_events feed number text w
+body_events (Fed feed) number text w = short_line_events feed number text w
 
 -- at one over the limit: it is refused, unless it is skipped
 abbrev pub long_body_events : Bodies → ℕ → World → List (Event World)

@@ -14,9 +14,10 @@ ghost use Rattle.session_core.specs.Bodies.{after_long_body as after_long_body_l
 ghost use Rattle.session_core.specs.Talk.{end_events, body_events, long_body_events};
 
 use crate::bodies::{Answer, Bodies, after_long_body, fed, gather, without_mark};
+use crate::fed_lines::feed_short_line;
 use keep_core::{Keeper, Sink};
 use repl_types::Refusal;
-use run_commands::feed::{end_feed, feed_line, refuse_line};
+use run_commands::feed::{end_feed, refuse_line};
 use run_commands::load::load_text;
 use run_commands::parts::{RunError, refuse};
 use site_store::Sites;
@@ -48,7 +49,8 @@ pub fn end_bodies<K: Keeper, O: Sink>(
     }
 }
 
-/// Answers a body line: refuses it, or takes it for the load or the feed that it belongs to.
+/// Answers a body line: refuses it, or takes it for the load or the feed that it belongs to. A
+/// blank line of a feed is skipped.
 pub fn answer_body<K: Keeper, O: Sink>(
     alloc: Global,
     sites: &mut Sites<K>,
@@ -85,7 +87,7 @@ pub fn answer_body<K: Keeper, O: Sink>(
             bodies: Bodies::Gathered(gather(text, line)?),
         }),
         Bodies::Fed(feed) => {
-            let after = feed_line(alloc, sites, output, feed, number, line)?;
+            let after = feed_short_line(alloc, sites, output, feed, number, line)?;
             Ok(Answer {
                 refused: after.is_none(),
                 bodies: fed(after),

@@ -1,6 +1,6 @@
 //! The lines that ask for commands.
 
-ghost use Rattle.std.specs.Prelude.{◌≡◌, ◌≤◌, IfOk, IfErr, OnErr};
+ghost use Rattle.std.specs.Prelude.{◌≡◌, ◌≤◌, is_some, IfOk, IfErr, OnErr};
 ghost use Rattle.std.specs.Option.{option_map_or};
 ghost use Rattle.script_text.specs.Asked.{asked_by};
 ghost use Rattle.site_store.specs.Servers.{AllClosed};
@@ -10,9 +10,10 @@ ghost use Rattle.run_commands.specs.parts.Causes.{PartHasCause};
 ghost use Rattle.session_core.specs.Commands.{begins_with_carried_out_verb as begins_with_lem};
 ghost use Rattle.session_core.specs.Commands.{bad_line_refusal as bad_line_refusal_lem};
 ghost use Rattle.session_core.specs.Commands.{command_events, command_line_events};
-ghost use Rattle.session_core.specs.Commands.{takes_no_body};
+ghost use Rattle.session_core.specs.Commands.{takes_no_body, talk_of};
 ghost use Rattle.session_core.specs.Answers.{Answers};
 ghost use Rattle.session_core.specs.Bodies.{after_asked, unfed as unfed_lem};
+ghost use Rattle.session_core.specs.Bodies.{after_bodiless as after_bodiless_lem};
 ghost use Rattle.session_core.specs.declared.bodies.Bodies.TheVariants.{Fed as FedBody, Skipped};
 ghost use Rattle.run_commands.specs.parts.Parts.{Happened, StoppedIn};
 ghost use Rattle.run_commands.specs.parts.Refusing.{refused as refused_lem};
@@ -63,6 +64,47 @@ fn bad_line_refusal(number: u64, line: &[u8]) -> Refusal
         return Refusal::BadLine { line: number };
     }
     Refusal::UnknownCommand { line: number }
+}
+
+/// Whether a command is carried out.
+fn is_carried_out(command: &Command) -> bool
+    ensures { result ≡ is_some (talk_of command.now) }
+{
+    match command {
+        Command::CaptureCold { .. }
+        | Command::Prune { .. }
+        | Command::PruneNormal { .. }
+        | Command::Refresh { .. }
+        | Command::Stop { .. }
+        | Command::Generate { .. }
+        | Command::Rounds { .. }
+        | Command::Audit { .. }
+        | Command::ShowTrail { .. }
+        | Command::ShowRejected { .. } => false,
+        Command::Load
+        | Command::Feed { .. }
+        | Command::Capture { .. }
+        | Command::Step { .. }
+        | Command::Apply { .. }
+        | Command::StatusServer { .. }
+        | Command::StatusSet { .. }
+        | Command::ShowSource { .. }
+        | Command::ShowCd { .. }
+        | Command::ShowUow { .. }
+        | Command::ShowLog { .. }
+        | Command::ShowTarget { .. } => true,
+    }
+}
+
+/// What a run does with body lines after the line of a command that takes no body: with one that
+/// isn't carried out they are skipped.
+fn after_bodiless(command: &Command, line: &[u8]) -> Bodies
+    ensures { result ≡ after_bodiless_lem command.now line.now }
+{
+    if is_carried_out(command) {
+        return unfed(line);
+    }
+    Bodies::Skipped
 }
 
 /// Carries out a command that takes no body, the one of the line with this number.
@@ -145,7 +187,8 @@ fn run_unfed<K: Keeper, O: Sink>(
     requires closed { AllClosed (work K.kept sites.old) }
     requires bodiless { takes_no_body command }
     ensures ok { IfOk result (Answers K.kept sites.old sites.new (O.taken output.old)
-        (O.taken output.new) (command_events number command) (λ w. unfed_lem line.now) 1) }
+        (O.taken output.new) (command_events number command)
+        (λ w. after_bodiless_lem command line.now) 1) }
     ensures stopped { OnErr result (StoppedIn K.kept sites.old sites.new (O.taken output.old)
         (O.taken output.new) (command_events number command)) }
     ensures servers { KeepsServers K.kept sites.old sites.new }
@@ -153,11 +196,9 @@ fn run_unfed<K: Keeper, O: Sink>(
         (O.faults output.new)) }
     ensures counts { O.faults output.old ≤ O.faults output.new }
 {
+    let bodies = after_bodiless(&command, line);
     let refused = run_command(alloc, sites, output, number, command)?;
-    Ok(Answer {
-        refused,
-        bodies: unfed(line),
-    })
+    Ok(Answer { refused, bodies })
 }
 
 /// Refuses a line that asks for no command. Nothing is done at the servers.

@@ -1,6 +1,6 @@
 //! The run of a script, line by line.
 
-ghost use Rattle.std.specs.Prelude.{◌≡◌, ◌≤◌, ◌+◌, IfOk, IfErr, IfSome, OnErr};
+ghost use Rattle.std.specs.Prelude.{◌≡◌, ◌≤◌, ◌+◌, IfOk, IfErr, OnErr};
 ghost use Rattle.line_input.specs.Limits.{input_limit};
 ghost use Rattle.repl_model.specs.World.{World};
 ghost use Rattle.run_core.specs.Runs.{Went, Stopped, is_refused};
@@ -15,6 +15,7 @@ ghost use Rattle.run_commands.specs.parts.ExitStatus.{status_of_error};
 ghost use Rattle.run_commands.specs.parts.Parts.{StoppedIn};
 ghost use Rattle.session_core.specs.Answers.{Answers};
 ghost use Rattle.session_core.specs.Bodies.{KeepsBodies};
+ghost use Rattle.session_core.specs.Inputs.{OfInput};
 ghost use Rattle.session_core.specs.Talk.{line_events, bodies_after, script_events};
 
 use crate::bodies::{Answer, Bodies};
@@ -126,19 +127,19 @@ pub fn run_script<K: Keeper, I: Source, O: Sink>(
 ) -> Result<bool, RunError>
     requires { AllClosed (work K.kept sites.old) }
     ensures ok { IfOk result (λ refused. (w : World)
-        → Stands (names sites.old) (held K.kept sites.old) w → IfSome (I.left input.old) (λ bytes.
+        → Stands (names sites.old) (held K.kept sites.old) w → OfInput (I.left input.old) (λ bytes.
         Went (Stands (names sites.old)) (script_events bytes w) w (held K.kept sites.new)
         (O.taken output.old) (O.taken output.new)
         × (refused ≡ is_refused (script_events bytes w)))) }
     ensures stopped { OnErr result ((w : World)
-        → Stands (names sites.old) (held K.kept sites.old) w → IfSome (I.left input.old) (λ bytes.
+        → Stands (names sites.old) (held K.kept sites.old) w → OfInput (I.left input.old) (λ bytes.
         Stopped (Stands (names sites.old)) (script_events bytes w) w (held K.kept sites.new)
         (O.taken output.old) (O.taken output.new))) }
     ensures ended { HasEnded (I.left input.old) (I.left input.new) (I.faults input.old)
         (I.faults input.new) (O.faults output.old) (O.faults output.new) result }
-    ensures servers { IfErr result (λ e.
+    ensures servers { KeepsServers K.kept sites.old sites.new }
+    ensures cause { IfErr result (λ e.
         BlamesServers K.kept sites.old sites.new (status_of_error e)) }
-    ensures closed { AllClosed (work K.kept sites.new) }
 {
     let mut script = Script::new(alloc)?;
     let mut bodies = Bodies::Refused;

@@ -3,3 +3,4 @@ pub mod Numbered
 pub mod Standing
 pub mod Contents
 pub mod ReadingOne
+mod Written

@@ -1,7 +1,7 @@
 //! The reply of `status` of a server.
 
 ghost use Rattle.std.specs.Prelude.{◌≡◌, ◌<◌, ◌≤◌, length, OnOk, OnErr, IfOk, IfErr};
-ghost use Rattle.keep_core.specs.Revealed.{Takes, TakesPrefix};
+ghost use Rattle.keep_core.specs.Revealed.{Rises, Takes, TakesPrefix};
 ghost use Rattle.repl_model.specs.World.{World};
 ghost use Rattle.site_store.specs.Servers.{AllClosed};
 ghost use Rattle.site_store.specs.Views.{names, held, work};
@@ -45,9 +45,38 @@ fn status_text<K: Keeper>(
     Ok(text)
 }
 
+/// How many bytes the first line of a text has, its line feed among them; all, if it has none.
+fn first_line(text: &[u8]) -> usize
+    ensures some { 0 < length text.now → 0 < result }
+    ensures within { result ≤ length text.now }
+{
+    match text.iter().position(|byte| *byte == b'\n') {
+        Some(place) => place + 1,
+        None => text.len(),
+    }
+}
+
+/// Writes the lines of a text one after another. After an error a prefix of the text was taken.
+fn write_lines<O: Sink>(output: &mut O, text: &[u8]) -> Result<(), ReadError>
+    ensures ok { OnOk result (Takes (O.taken output.old) (O.taken output.new) text.now) }
+    ensures err { OnErr result (TakesPrefix (O.taken output.old) (O.taken output.new) text.now) }
+    ensures cause { result ≡ Err ReadError.Failed
+        → Rises (O.faults output.old) (O.faults output.new) }
+    ensures counts { O.faults output.old ≤ O.faults output.new }
+{
+    let mut at = 0;
+    while at < text.len() {
+        let rest = &text[at..];
+        let count = first_line(rest);
+        write_line(output, &rest[..count])?;
+        at += count;
+    }
+    Ok(())
+}
+
 /// Writes the reply of `status` of a server: the lines of its registrations, in the order of its
 /// tables, the lines of the sets whose source it is, in order, and the line that says how far its
-/// log is. All is read before the first byte is written, and nothing is changed.
+/// log is, one after another. All is read before the first byte is written, and nothing is changed.
 pub fn show_server<K: Keeper, O: Sink>(
     sites: &mut Sites<K>,
     alloc: Global,
@@ -73,7 +102,7 @@ pub fn show_server<K: Keeper, O: Sink>(
     ensures counts { O.faults output.old ≤ O.faults output.new }
 {
     let text = status_text(sites, alloc, server)?;
-    match write_line(output, &text) {
+    match write_lines(output, &text) {
         Ok(()) => Ok(()),
         Err(ReadError::Memory) => Err(ShowError::Fault(Fault::Memory)),
         Err(ReadError::Failed) => Err(ShowError::Output),

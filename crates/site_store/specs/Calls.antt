@@ -6,6 +6,7 @@ use Rattle.repl_types.specs.declared.status.DamageCause.{DamageCause}
 use Rattle.repl_types.specs.declared.status.DamageCause.TheVariants as causes
 use Rattle.faults.specs.declared.fault.Fault.{Fault}
 use Rattle.faults.specs.declared.fault.Fault.TheVariants as faults
+use Rattle.keep_core.specs.Contents.{Contents}
 use Rattle.keep_core.specs.Kept.{Kept}
 use Rattle.keep_core.specs.Revealed.{count_max, Rises}
 use Rattle.site_store.specs.Servers.{AllClosed}
@@ -110,11 +111,12 @@ pub record Commits {K : Type 0} (kept : K → Kept) (old new : Sites K) (s : ℕ
   pub held : held kept new ≡ slice_set (held kept old) s (sees kept old s)
   pub work : work kept new ≡ slice_set (work kept old) s None
 
--- What each part of a run leaves of the servers, at Ok and at an error: their names stay, no count of faults falls,
--- and no transaction is open.
+-- What each part of a run leaves of the servers, at Ok and at an error: their names stay, no count of faults falls, nor
+-- one of reads that is below its maximum, and no transaction is open.
 pub record KeepsServers {K : Type 0} (kept : K → Kept) (old new : Sites K) : Type 0 where
   pub names : names new ≡ names old
   pub faults : NoneFell (fault_counts kept old) (fault_counts kept new)
+  pub reads : (a : Area) → NoneBack (reads_in kept a old) (reads_in kept a new)
   pub closed : AllClosed (work kept new)
 
 -- ---- faults
@@ -141,6 +143,11 @@ Blames kept old new damage (faults.Refused refusal) = ⊥
 -- out of memory, or this fault
 abbrev pub IsMemoryOr : Fault → Fault → Type 0
 IsMemoryOr fault e = (e ≡ faults.Memory) ⊎ (e ≡ fault)
+
+-- What is held after a call of one commit failed: what was held; or if the keeper of a server failed, that server may hold
+-- something else, which the failed commit took.
+abbrev pub HoldsOrInDoubt : {K : Type 0} → (K → Kept) → Sites K → Sites K → Fault → Type 0
+HoldsOrInDoubt kept old new e = (held kept new ≡ held kept old) ⊎ ((s : ℕ) × (saw : Option Contents) × (e ≡ faults.Keeper s) × (held kept new ≡ slice_set (held kept old) s saw))
 
 -- A call failed: no server has a transaction open, each holds what it held, and somebody is to blame.
 pub record Fails {K : Type 0} (kept : K → Kept) (old new : Sites K) (most : Bounds) (damage : ℕ → Area → DamageCause → Type 0) (e : Fault) : Type 0 where

@@ -7,6 +7,7 @@ use Rattle.std.proofs.lemmas.Option.{same_Some}
 use Rattle.repl_types.specs.declared.area.Area.{Area}
 use Rattle.repl_types.specs.declared.area.Area.TheVariants as areas
 use Rattle.repl_types.specs.declared.record.LogRecord.{LogRecord}
+use Rattle.repl_types.specs.declared.status.DamageCause.{DamageCause}
 use Rattle.faults.specs.declared.call_errors.AppendError.{AppendError}
 use Rattle.faults.specs.declared.call_errors.AppendError.TheVariants as errors
 use Rattle.faults.specs.declared.fault.Fault.{Fault}
@@ -31,20 +32,23 @@ use Rattle.log_worlds.specs.StaysSound.{UsersRecordsStaySound}
 use Rattle.rows_in_order.specs.laws.Written.{put_here, put_other_table}
 use Rattle.site_store.specs.declared.sites.Sites.{Sites}
 use Rattle.site_store.specs.Servers.{AllClosed}
-use Rattle.site_store.specs.Views.{names, held, work, sees, IsOpenAt}
-use Rattle.site_store.specs.Calls.{Bounds, no_access, Passes, Begins, ClosesOne, KeepsServers, Blames}
+use Rattle.site_store.specs.Views.{names, held, work, reads_in, sees, IsOpenAt}
+use Rattle.site_store.specs.Calls.{Bounds, no_access, both, Passes, Begins, ClosesOne, KeepsServers, Blames}
+use Rattle.site_store.specs.laws.Counts.{at_most_itself, none_back_then, passes_then}
 use Rattle.site_store.specs.Damage.{Shows, IsUndamaged, IsNoDamage}
 use Rattle.site_store.specs.laws.Damage.{no_damage}
 use Rattle.site_store.specs.laws.Transactions.{begun_sees, took, closed_again}
 use Rattle.server_steps.specs.Calls.{GoesOn}
-use Rattle.server_steps.specs.laws.Faults.{stops_as, stops_after}
+use Rattle.server_steps.specs.laws.Faults.{stops_as, stops_after, blames_after}
 use Rattle.server_steps.specs.laws.Steps.{goes_then}
 use Rattle.stored_defs.specs.Known.{server_in}
 use Rattle.stored_defs.specs.laws.Standing.{all_at_place, same_count, keeps_at, seen_at}
 use Rattle.world_store.specs.Stands.{shown, Holds, Stands}
-use Rattle.source_log.specs.Appending.{taken, error_at, append_error, stop_at, HasTaken, TakesAll, PutsEnd, CommitsEnd, MayCommitEnd, StandGrown, HasAppended, HasNotAppended}
+use Rattle.source_log.specs.Appending.{taken, error_at, append_error, stop_at, HasTaken, TakesAll, PutsEnd, CommitsEnd, MayCommitEnd, StandGrown, HasAppended, HasNotAppended, BlamesFault, BlamesOrStops}
 use Rattle.source_log.specs.Rules.{all_rules, ShowsDamage, BreaksFirst}
 use Rattle.source_log.specs.Storing.{IsKept, StoresWhole, MayAppend}
+use Rattle.source_log.specs.declared.outcome.Outcome.{Outcome}
+use Rattle.source_log.specs.declared.outcome.Outcome.TheVariants as outcomes
 use Rattle.source_log.specs.declared.progress.Progress.{Progress}
 use Rattle.source_log.proofs.Drops.{take_whole}
 use Rattle.source_log.specs.laws.Whole.{held_whole, end_put}
@@ -64,6 +68,10 @@ ok_as (Err e) also p = tt
 pub err_as : {T E : Type 0} {P Q : E → Type 0} (r : Result T E) → ((e : E) → P e → Q e) → IfErr r P → IfErr r Q
 err_as (Ok x) also p = tt
 err_as (Err e) also p = also e p
+
+-- no error is no error
+no_stop : (e : AppendError) → ◌≡◌ {A = Option AppendError} None (Some e) → ⊥
+no_stop e told = cc
 
 -- ---- which records were taken
 
@@ -116,6 +124,20 @@ no_write_damages kept s1 s2 (faults.Keeper s) h = tt
 no_write_damages kept s1 s2 (faults.Damaged s a cause) h = h.1
 no_write_damages kept s1 s2 (faults.Refused refusal) h = h
 
+-- it blames no damage
+write_blames : {K : Type 0} (kept : K → Kept) (s1 s2 : Sites K) (D : ℕ → Area → DamageCause → Type 0) (e : Fault) → Blames kept s1 s2 (λ s a cause. ⊥) e → Blames kept s1 s2 D e
+write_blames kept s1 s2 D faults.Memory h = tt
+write_blames kept s1 s2 D (faults.Keeper s) h = h
+write_blames kept s1 s2 D (faults.Damaged s a cause) h = absurd h.1
+write_blames kept s1 s2 D (faults.Refused refusal) h = h
+
+-- a fault stays blamed after other calls
+blames_later : {K : Type 0} (kept : K → Kept) (s0 s1 s2 : Sites K) (x : Bounds) (D : ℕ → Area → DamageCause → Type 0) (e : Fault) → Passes kept s1 s2 x → Blames kept s0 s1 D e → Blames kept s0 s2 D e
+blames_later kept s0 s1 s2 x D faults.Memory p h = tt
+blames_later kept s0 s1 s2 x D (faults.Keeper s) p h = λ lt. let le = p.faults s in omega (arith, le, h (omega (arith, le, lt)))
+blames_later kept s0 s1 s2 x D (faults.Damaged s a cause) p h = ((λ read lt. let le = p.reads a s lt in omega (arith, le, h.0 read (omega (arith, le, lt)))), h.1)
+blames_later kept s0 s1 s2 x D (faults.Refused refusal) p h = h
+
 -- ---- the servers
 
 module _ {K : Type 0} (kept : K → Kept) (s0 s1 s2 : Sites K) (closed : AllClosed (work kept s0)) (n : ℕ) (begun : Begins kept s0 s1 n) where
@@ -131,6 +153,12 @@ module _ {K : Type 0} (kept : K → Kept) (s0 s1 s2 : Sites K) (closed : AllClos
       let within : n < length (work kept s0) = rw length-map (simp length-map at lt) in
       stops_after kept s0 s1 s2 no_access (ShowsDamage kept s0 n) e begun.passes begun.held (stops_as kept s1 s2 (ShowsDamage kept s1 n) (ShowsDamage kept s0 n) e (λ s a cause h. (h.0, subst (Shows all_rules a cause) (begun_sees kept s0 s1 n within (closed n) begun s) h.1)) stops)
 
+  -- once the transaction is closed again, each server holds what it held
+  pub blames_broken : (e : Fault) → n < length (names s0) → BreaksFirst kept s1 s2 n e → (s3 : Sites K) → Passes kept s2 s3 no_access → held kept s3 ≡ held kept s2 → BlamesFault kept s0 s3 (ShowsDamage kept s0 n) e
+  blames_broken e lt stops s3 passes same =
+      let since = stops_begun e lt stops in
+      record { blames = blames_later kept s0 s2 s3 no_access (ShowsDamage kept s0 n) e passes since.blames; holds = inl (same ∙ since.held) }
+
   module _ (records : List LogRecord) (progress : Progress) (open_at : IsOpenAt (work kept s1) n) (goes : GoesOn kept s1 s2 n (TakesAll records progress)) (s3 : Sites K) where
     -- after the transaction was ended, the servers are kept
     pub keeps_ended : (progress.taken ≡ 0 → ClosesOne kept s2 s3 n) → ((0 < progress.taken) → CommitsEnd kept s2 s3 n progress.end) → KeepsServers kept s0 s3
@@ -140,6 +168,7 @@ module _ {K : Type 0} (kept : K → Kept) (s0 s1 s2 : Sites K) (closed : AllClos
         keeps s4 P on x passes ends = record {
           names = passes.names ∙ on.works.passes.names ∙ begun.passes.names;
           faults = λ q. omega (arith, passes.faults q, on.works.passes.faults q, begun.passes.faults q);
+          reads = λ a. none_back_then (reads_in kept a s0) (reads_in kept a s4) (reads_in kept a s3) (none_back_then (reads_in kept a s0) (reads_in kept a s1) (reads_in kept a s4) (begun.passes.reads a) (on.works.passes.reads a)) (passes.reads a);
           closed = closed_again kept s0 s1 s4 n P begun on.works.works (work kept s3) closed ends;
         }
 
@@ -148,6 +177,30 @@ module _ {K : Type 0} (kept : K → Kept) (s0 s1 s2 : Sites K) (closed : AllClos
         pick (suc t) is =
             let ended = some (omega (arith, is)) in
             keeps ended.before (λ c e. (d : Contents) × TakesAll records progress c d × PutsEnd progress.end d e) (goes_then kept s1 s2 ended.before n (TakesAll records progress) (PutsEnd progress.end) (λ c e. (d : Contents) × TakesAll records progress c d × PutsEnd progress.end d e) open_at goes ended.puts (λ c d e all put. (d, all, put))) no_access ended.commits.passes ended.commits.work
+
+    -- if none was taken, each server holds what it held
+    pub holds_none : (progress.taken ≡ 0 → ClosesOne kept s2 s3 n) → progress.taken ≡ 0 → held kept s3 ≡ held kept s0
+    holds_none none is = (none is).held ∙ goes.works.held ∙ begun.held
+
+    -- a refusal names how many were taken, so if it names none, each server holds what it held
+    pub stops_holding : (progress.taken ≡ 0 → ClosesOne kept s2 s3 n) → (D : ℕ → Area → DamageCause → Type 0) (e : AppendError) → stop_at progress.taken progress.outcome ≡ Some e → BlamesOrStops kept s0 s3 D e
+    stops_holding none D e told = pick progress.outcome e told
+      where
+        pick : (o : Outcome) (e : AppendError) → stop_at progress.taken o ≡ Some e → BlamesOrStops kept s0 s3 D e
+        pick outcomes.Taken e told = absurd (no_stop e told)
+        pick outcomes.NotApplicable e told = subst (BlamesOrStops kept s0 s3 D) (same_Some (errors.NotApplicable progress.taken) e told) (holds_none none)
+        pick outcomes.Full e told = subst (BlamesOrStops kept s0 s3 D) (same_Some (errors.LogFull progress.taken) e told) (holds_none none)
+
+    -- after its commit failed, each server holds what it held, or at a fault of the server's keeper this one what it saw
+    pub blames_doubted : (D : ℕ → Area → DamageCause → Type 0) (e : Fault) → MayCommitEnd kept s2 s3 n progress.end e → BlamesFault kept s0 s3 D e
+    blames_doubted D e may_be =
+        record {
+          blames = blames_after kept s0 s2 s3 (both no_access goes.most) D e (passes_then kept s0 s1 s2 no_access goes.most (both no_access goes.most) begun.passes goes.works.passes (at_most_itself (both no_access goes.most))) (write_blames kept s2 s3 D e may_be.blames);
+          holds = elim may_be.held [
+            | inl same ↦ inl (same ∙ goes.works.held ∙ begun.held)
+            | inr took ↦ inr (n, sees kept took.1.before n, took.0, took.1.held ∙ ap (λ (l : List (Option Contents)). set l n (sees kept took.1.before n)) (took.1.puts.works.held ∙ goes.works.held ∙ begun.held))
+          ];
+        }
 
 -- ---- a world
 
@@ -259,12 +312,12 @@ module _ {K : Type 0} (kept : K → Kept) (s0 : Sites K) (closed : AllClosed (wo
           pick (suc t) is = let ended = some (omega (arith, is)) in stands_committed sound logged others may ended.before open_at ended.puts (held kept s3) ended.commits.held
 
       -- after its commit failed, they stand for the world as before, or for that
-      pub stands_doubted : (e : Fault) → MayCommitEnd kept s2 s3 n progress.end e → IsNoDamage e × (Stands (names s0) (held kept s3) w ⊎ StandGrown kept s0 s3 n (taken server records) w)
+      pub stands_doubted : (e : Fault) → MayCommitEnd kept s2 s3 n progress.end e → IsNoDamage e × (Stands (names s0) (held kept s3) w ⊎ ((e ≡ faults.Keeper n) × StandGrown kept s0 s3 n (taken server records) w))
       stands_doubted e may_be = (
         no_write_damages kept s2 s3 e may_be.blames,
         elim may_be.held [
           | inl same ↦ inl (subst (λ (h : List (Option Contents)). Stands (names s0) h w) (sym (same ∙ goes.works.held ∙ begun.held)) stands)
-          | inr took ↦ inr (stands_committed sound logged others may took.1.before open_at took.1.puts (held kept s3) took.1.held)
+          | inr took ↦ inr (took.0, stands_committed sound logged others may took.1.before open_at took.1.puts (held kept s3) took.1.held)
         ],
       )
 

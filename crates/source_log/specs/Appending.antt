@@ -23,7 +23,7 @@ use Rattle.log_store.specs.LongerServers.{is_of_log}
 use Rattle.site_store.specs.declared.sites.Sites.{Sites}
 use Rattle.site_store.specs.Servers.{AllClosed}
 use Rattle.site_store.specs.Views.{names, held, work, sees}
-use Rattle.site_store.specs.Calls.{Bounds, Passes, Commits, Blames}
+use Rattle.site_store.specs.Calls.{Bounds, Passes, Commits, Blames, HoldsOrInDoubt}
 use Rattle.site_store.specs.Damage.{IsNoDamage}
 use Rattle.server_steps.specs.Calls.{GoesOn}
 use Rattle.stored_defs.specs.Known.{server_in}
@@ -108,25 +108,27 @@ module _ {K : Type 0} (kept : K → Kept) (old new : Sites K) where
     pub stands : StandGrown server records w
     pub last : position ≡ length (with_more records (server_in w server)).log
 
-  -- Not all were: only those before the first that isn't taken; or after a fault, which isn't damage, none, or, if a commit
-  -- took place that failed, these.
+  -- Not all were: only those before the first that isn't taken; or after a fault, which isn't damage, none, or, if the
+  -- server's keeper failed at the commit and this took place, these.
   abbrev pub HasNotAppended : ℕ → List LogRecord → World → AppendError → Type 0
-  HasNotAppended server records w (errors.Fault e) = IsNoDamage e × (Stands (names old) (held kept new) w ⊎ StandGrown server (taken (server_in w server) records) w)
+  HasNotAppended server records w (errors.Fault e) = IsNoDamage e × (Stands (names old) (held kept new) w ⊎ ((e ≡ faults.Keeper server) × StandGrown server (taken (server_in w server) records) w))
   HasNotAppended server records w (errors.NotApplicable place) = (append_error (server_in w server) records ≡ Some (errors.NotApplicable place)) × StandGrown server (taken (server_in w server) records) w
   HasNotAppended server records w (errors.LogFull place) = (append_error (server_in w server) records ≡ Some (errors.LogFull place)) × StandGrown server (taken (server_in w server) records) w
 
-  -- who is to blame for a fault; if damage is shown, the servers hold what they held
-  abbrev pub BlamesFault : (ℕ → Area → DamageCause → Type 0) → Fault → Type 0
-  BlamesFault damage (faults.Refused refusal) = ⊥
-  BlamesFault damage faults.Memory = Unit {0}
-  BlamesFault damage (faults.Keeper server) = Blames kept old new damage (faults.Keeper server)
-  BlamesFault damage (faults.Damaged server area cause) = Blames kept old new damage (faults.Damaged server area cause) × (held kept new ≡ held kept old)
+  -- Who is to blame for a fault, and what is held then.
+  pub record BlamesFault (damage : ℕ → Area → DamageCause → Type 0) (e : Fault) : Type 0 where
+    pub blames : Blames kept old new damage e
+    pub holds : HoldsOrInDoubt kept old new e
 
-  -- who is to blame if records weren't appended: nobody if one isn't taken
+  -- if no record was taken, each server holds what it held
+  abbrev pub HoldsIfNone : ℕ → Type 0
+  HoldsIfNone place = place ≡ 0 → held kept new ≡ held kept old
+
+  -- who is to blame if not all records were appended, and what is held then: nobody is if one isn't taken
   abbrev pub BlamesOrStops : (ℕ → Area → DamageCause → Type 0) → AppendError → Type 0
   BlamesOrStops damage (errors.Fault e) = BlamesFault damage e
-  BlamesOrStops damage (errors.NotApplicable place) = Unit {0}
-  BlamesOrStops damage (errors.LogFull place) = Unit {0}
+  BlamesOrStops damage (errors.NotApplicable place) = HoldsIfNone place
+  BlamesOrStops damage (errors.LogFull place) = HoldsIfNone place
 
   -- The server holds what its transaction saw and the end of the log, and has none open.
   pub record CommitsEnd (server : ℕ) (end : Head) : Type 0 where

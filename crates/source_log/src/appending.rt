@@ -157,9 +157,9 @@ fn answer_of(progress: &Progress) -> Result<u64, AppendError>
 ///
 /// They are taken one after another. At the first that isn't applicable, or for which the log has
 /// no room, those before it are committed, and its place is answered. If none is taken, nothing is
-/// committed. After a fault either no record was appended, or those that were taken were, by a
-/// commit that failed and took place all the same. What is said of a world holds if the servers
-/// stand for one and reveal what they hold.
+/// changed. After a fault no record was appended; but if the server's keeper failed, those that
+/// were taken may have been, by a commit that failed and took place all the same. What is said of a
+/// world holds if the servers stand for one and reveal what they hold.
 pub fn append<K: Keeper>(
     sites: &mut Sites<K>,
     alloc: Global,

@@ -1,2 +1,4 @@
 pub mod Asked
 pub mod Needed
+pub mod NewServers
+pub mod RunEnds

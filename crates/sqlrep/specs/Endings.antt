@@ -17,6 +17,10 @@ code_of statuses.Memory = 6
 code_of statuses.InputTooLong = 7
 code_of (statuses.Damaged server area cause) = 8
 
+-- the exit status of a run that came to its end is at most this
+abbrev pub done_code : ℕ
+done_code = code_of statuses.Refused
+
 -- the exit status of words that ask for nothing
 abbrev pub usage_code : ℕ
 usage_code = code_of statuses.Usage
@@ -37,6 +41,10 @@ area_name areas.Target = codes "Target"
 area_name areas.SetState = codes "SetState"
 area_name areas.Trail = codes "Trail"
 
+-- the line if memory ran out
+abbrev pub memory_line : List ℕ
+memory_line = codes "sqlrep: out of memory"
+
 -- the line of a failed keeper, at a server of this name
 abbrev pub keeper_line : List ℕ → List ℕ
 keeper_line name = codes "sqlrep: keeper fault at " ++ name
@@ -53,7 +61,7 @@ status_line_of names statuses.Usage = Some (codes "sqlrep: usage: sqlrep [--cell
 status_line_of names (statuses.KeeperFault server) = Some (keeper_line (slice_index_or names server []))
 status_line_of names statuses.InputFault = Some (codes "sqlrep: input fault")
 status_line_of names statuses.OutputFault = Some (codes "sqlrep: output fault")
-status_line_of names statuses.Memory = Some (codes "sqlrep: out of memory")
+status_line_of names statuses.Memory = Some memory_line
 status_line_of names statuses.InputTooLong = Some (codes "sqlrep: input too long")
 status_line_of names (statuses.Damaged server area cause) = Some (damaged_line (slice_index_or names server []) (area_name area))
 

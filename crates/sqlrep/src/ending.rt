@@ -1,14 +1,17 @@
 //! How the program ends: the exit status, and the line on standard error.
 
-ghost use Rattle.std.specs.Prelude.{◌≡◌, [], slice_index_or, string_bytes, IfOk, IfSome, Some};
+ghost use Rattle.std.specs.Prelude.{◌≡◌, [], slice_index_or, string_bytes, IfOk, OnErr, Some};
 ghost use Rattle.std.specs.Option.{option_map};
 ghost use Rattle.sqlrep.specs.Endings.{code_of, area_name as area_name_lem, status_line_of};
-ghost use Rattle.sqlrep.specs.Endings.{keeper_line as keeper_line_lem};
+ghost use Rattle.sqlrep.specs.Endings.{memory_line, keeper_line as keeper_line_lem};
 ghost use Rattle.sqlrep.specs.Endings.{damaged_line as damaged_line_lem};
 ghost use Rattle.sqlrep.specs.Endings.{cannot_open_line as cannot_open_line_lem};
 
 use repl_types::{Area, Name, Status};
 use std::alloc::{AllocError, Global};
+
+/// The line if memory ran out.
+const MEMORY_LINE: &str = "sqlrep: out of memory";
 
 /// How the program ends.
 #[derive(Debug, Drop)]
@@ -104,7 +107,7 @@ fn status_line(alloc: Global, status: &Status, names: &[Name]) -> Result<Option<
         Status::KeeperFault(server) => keeper_line(alloc, server_name(names, *server)),
         Status::InputFault => plain_line(alloc, "sqlrep: input fault"),
         Status::OutputFault => plain_line(alloc, "sqlrep: output fault"),
-        Status::Memory => plain_line(alloc, "sqlrep: out of memory"),
+        Status::Memory => plain_line(alloc, MEMORY_LINE),
         Status::InputTooLong => plain_line(alloc, "sqlrep: input too long"),
         Status::Damaged(server, area, _) => {
             damaged_line(alloc, server_name(names, *server), area_name(*area))
@@ -120,17 +123,17 @@ fn cannot_open_line(alloc: Global, name: &Name) -> Result<String, AllocError>
     format!(in alloc; "sqlrep: cannot open {name}")
 }
 
-/// The end of a run at servers of these names. If there is no memory for its line, it has none.
-pub fn ending_of(alloc: Global, status: &Status, names: &[Name]) -> Ending
-    ensures code { result.code ≡ code_of status.now }
-    ensures line { IfSome result.line (λ line.
-        status_line_of names.now status.now ≡ Some (string_bytes line)) }
+/// The end of a run at servers of these names: the number of its status, and the line of that.
+pub fn ending_of(alloc: Global, status: &Status, names: &[Name]) -> Result<Ending, AllocError>
+    ensures code { IfOk result (λ ending. ending.code ≡ code_of status.now) }
+    ensures line { IfOk result (λ ending. option_map string_bytes ending.line
+        ≡ status_line_of names.now status.now) }
 {
-    let code = exit_code(status);
-    match status_line(alloc, status, names) {
-        Ok(line) => Ending { code, line },
-        Err(_) => Ending { code, line: None },
-    }
+    let line = status_line(alloc, status, names)?;
+    Ok(Ending {
+        code: exit_code(status),
+        line,
+    })
 }
 
 /// The end of a run at a server of this name, which can't be opened.
@@ -144,4 +147,31 @@ pub fn cannot_open(alloc: Global, name: &Name) -> Result<Ending, AllocError>
         code: exit_code(&Status::KeeperFault(0)),
         line: Some(line),
     })
+}
+
+/// The exit status of the program. If there was no memory to say how it ends, memory ran out.
+pub fn exit_status(answer: &Result<Ending, AllocError>) -> u8
+    ensures ended { IfOk answer.now (λ ending. result ≡ ending.code) }
+    ensures memory { OnErr answer.now (result ≡ code_of Status.Memory) }
+{
+    match answer {
+        Ok(ending) => ending.code,
+        Err(_) => exit_code(&Status::Memory),
+    }
+}
+
+/// The line on standard error, if there is one. That memory ran out is said without more memory.
+pub fn error_line(answer: &Result<Ending, AllocError>) -> Option<&str>
+    ensures ended { IfOk answer.now (λ ending. option_map (λ line. line.now) result
+        ≡ option_map string_bytes ending.line) }
+    ensures memory { OnErr answer.now
+        (option_map (λ line. line.now) result ≡ Some memory_line) }
+{
+    match answer {
+        Ok(ending) => match &ending.line {
+            Some(line) => Some(line.as_str()),
+            None => None,
+        },
+        Err(_) => Some(MEMORY_LINE),
+    }
 }

@@ -15,11 +15,15 @@ A script runs at 1 to 16 servers, each named by a word NAME=PATH:
   PATH   where the server is kept; :map: keeps it in memory for this run, and no
          other path can be opened yet
 
-The script comes on standard input, one command on each line. Only load, of sets of
-user copies, and status of a server are carried out yet; any other is refused as
-unknown. These are the commands of the whole product:
-  load  feed  capture  prune  step  apply  refresh  stop  generate  rounds  audit
-  status  show";
+The script comes on standard input, one command on each line:
+  load                 loads the definitions on the body lines, which begin with |
+  feed S               appends the records on the body lines to the log of S
+  capture S            captures the log of S
+  step Q N  apply Q N  makes one step of a set, or all until there is nothing to do
+  status               of a server or of a set
+  show                 a source table, change rows, captured units, a log, a target
+Sets of user copies are taken. Other forms of these commands, and prune, refresh,
+stop, generate, rounds and audit, aren't carried out yet and are refused as unknown.";
 
 /// The words that the program takes.
 fn sqlrep_command<'a>(alloc: Global) -> Result<Command<'a>, AllocError>

@@ -10,14 +10,16 @@
 //! word `copy`, `row 1 'pen'` and `ok rows 1`, and exits with 0.
 #![tactic(auto)]
 
-ghost use Rattle.std.specs.Prelude.{◌≡◌, ◌≢◌, ◌⊎◌, drop, map, string_bytes, IfOk, IfErr};
+ghost use Rattle.std.specs.Prelude.{◌≡◌, ◌≢◌, ◌≤◌, ◌⊎◌, drop, map, string_bytes, IfOk, IfErr};
 ghost use Rattle.std.specs.Prelude.{IsOk, IsTrue, IfSome, Some};
 ghost use Rattle.std.specs.Option.{option_map};
 ghost use Rattle.run_words.specs.declared.opening.Opening.{Opening};
 ghost use Rattle.run_words.specs.Openings.{AreWordsOf};
 ghost use Rattle.sqlrep.specs.Asked.{asks_text, asks_nothing};
-ghost use Rattle.sqlrep.specs.Endings.{usage_code, cannot_open_line};
+ghost use Rattle.session_core.specs.Inputs.{OfInput};
+ghost use Rattle.sqlrep.specs.Endings.{done_code, usage_code, cannot_open_line};
 ghost use Rattle.sqlrep.specs.Opened.{on_disk as on_disk_lem};
+ghost use Rattle.sqlrep.specs.Runs.{RanWhole};
 
 mod ending;
 mod help;
@@ -26,18 +28,19 @@ mod streams;
 #[cfg(test)]
 mod tests;
 
-use crate::ending::{Ending, cannot_open, ending_of};
+use crate::ending::{Ending, cannot_open, ending_of, error_line, exit_status};
 use crate::help::asked_text;
 use crate::servers::{needed_names, on_disk, open_in_memory};
 use crate::streams::{Reads, Writes};
-use keep_core::{ReadError, write_line};
+use keep_core::{ReadError, Sink, Source, write_line};
 use repl_commands::WordsError;
 use repl_types::Status;
 use run_words::{Opening, server_words};
 use session_core::session;
-use std::alloc::AllocError;
+use std::alloc::{AllocError, Global};
 use std::io;
 use std::process::ExitCode;
+use world_store::empty_servers_stand;
 
 /// The words of the command line, of which the first is the program's name. A word that isn't UTF-8
 /// is `Usage`.
@@ -94,6 +97,27 @@ fn run_help(rt: &HostRuntime, words: &[String]) -> Status
     }
 }
 
+/// Runs what an opening asks for at servers in memory, over these streams. The servers hold nothing
+/// at first, so the run begins with the empty world.
+fn run_in_memory<I: Source, O: Sink>(
+    alloc: Global,
+    words: &[String],
+    opening: &Opening,
+    input: &mut I,
+    output: &mut O,
+) -> Result<Ending, AllocError>
+    requires { AreWordsOf (map string_bytes words.now) opening.now }
+    ensures runs { IfOk result (λ ending. ending.code ≢ usage_code) }
+    ensures whole { IfOk result (λ ending. ending.code ≤ done_code → OfInput (I.left input.old)
+        (RanWhole opening.now (O.taken output.old) (O.taken output.new) ending.code)) }
+{
+    empty_servers_stand();
+    let names = needed_names(alloc, opening)?;
+    let mut sites = open_in_memory(alloc, names.as_slice())?;
+    let status = session(alloc, words, &mut sites, input, output);
+    ending_of(alloc, &status, names.as_slice())
+}
+
 /// Runs what the words of a command line ask for, at the servers that it needs. A server that isn't
 /// in memory can't be opened yet.
 fn run_opening(rt: &HostRuntime, words: &[String], opening: &Opening) -> Result<Ending, AllocError>
@@ -106,34 +130,28 @@ fn run_opening(rt: &HostRuntime, words: &[String], opening: &Opening) -> Result<
     if let Some(name) = on_disk(opening) {
         return cannot_open(alloc, name);
     }
-    let names = needed_names(alloc, opening)?;
-    let mut sites = open_in_memory(alloc, names.as_slice())?;
     let mut input = Reads::new(rt.reader());
     let mut output = Writes::new(io::writer(rt));
-    let words = after_name(words);
-    let status = session(alloc, words, &mut sites, &mut input, &mut output);
-    Ok(ending_of(alloc, &status, names.as_slice()))
+    run_in_memory(alloc, after_name(words), opening, &mut input, &mut output)
 }
 
 /// Does what the words of a command line ask for.
-fn run_words_of(rt: &HostRuntime, words: &[String]) -> Ending
-    ensures asked { (opening : Opening)
-        → AreWordsOf (map string_bytes (drop 1 words.now)) opening → result.code ≢ usage_code }
-    ensures text { IsTrue (asks_text (map string_bytes words.now)) → result.code ≢ usage_code }
+fn run_words_of(rt: &HostRuntime, words: &[String]) -> Result<Ending, AllocError>
+    ensures asked { (opening : Opening) → AreWordsOf (map string_bytes (drop 1 words.now)) opening
+        → IfOk result (λ ending. ending.code ≢ usage_code) }
+    ensures text { IsTrue (asks_text (map string_bytes words.now))
+        → IfOk result (λ ending. ending.code ≢ usage_code) }
 {
     let alloc = rt.alloc();
     match server_words(alloc, after_name(words)) {
-        Ok(opening) => match run_opening(rt, words, &opening) {
-            Ok(ending) => ending,
-            Err(_) => ending_of(alloc, &Status::Memory, &[]),
-        },
+        Ok(opening) => run_opening(rt, words, &opening),
         Err(WordsError::Usage) => ending_of(alloc, &run_help(rt, words), &[]),
-        Err(WordsError::Memory) => ending_of(alloc, &Status::Memory, &[]),
+        Err(WordsError::Memory) => Err(AllocError),
     }
 }
 
 /// Does what the command line asks for.
-fn run(rt: &HostRuntime) -> Ending {
+fn run(rt: &HostRuntime) -> Result<Ending, AllocError> {
     match command_line(rt) {
         Ok(words) => run_words_of(rt, words.as_slice()),
         Err(status) => ending_of(rt.alloc(), &status, &[]),
@@ -143,9 +161,9 @@ fn run(rt: &HostRuntime) -> Ending {
 /// Runs the program, says in a line on standard error why it ended early, if it did, and exits with
 /// the number of its status, whether that line could be written or not.
 fn main(rt: HostRuntime) -> ExitCode {
-    let ending = run(&rt);
-    if let Some(line) = &ending.line {
-        let _ = rt.eprintln(line.as_str());
+    let answer = run(&rt);
+    if let Some(line) = error_line(&answer) {
+        let _ = rt.eprintln(line);
     }
-    ExitCode::from(ending.code)
+    ExitCode::from(exit_status(&answer))
 }

@@ -4,11 +4,10 @@ ghost use Rattle.std.specs.Prelude.{◌≡◌, IfOk, find, map, not, option_copi
 ghost use Rattle.std.specs.Option.{option_map};
 ghost use Rattle.std.specs.Str.{bytes_eq};
 ghost use Rattle.run_words.specs.Openings.{map_path};
-ghost use Rattle.keep_map.specs.Keepers.{kept_of};
-ghost use Rattle.site_store.specs.Servers.{AllClosed, AreServers, names_of, work_of};
-ghost use Rattle.site_store.specs.Views.{names as site_names, work};
+ghost use Rattle.site_store.specs.Servers.{AreServers};
+ghost use Rattle.site_store.specs.Views.{list_of};
 ghost use Rattle.session_core.specs.Session.{server_names};
-ghost use Rattle.sqlrep.specs.Opened.{on_disk as on_disk_lem};
+ghost use Rattle.sqlrep.specs.Opened.{AreNew, on_disk as on_disk_lem};
 
 use keep_map::MapKeeper;
 use repl_types::{List, Name};
@@ -77,10 +76,9 @@ pub fn needed_names(alloc: Global, opening: &Opening) -> Result<List<Name>, Allo
     }
 }
 
-/// Servers of these names, which hold nothing, in memory.
+/// Servers of these names, in memory, which hold nothing and plan no failure.
 fn memory_list(alloc: Global, names: &[Name]) -> Result<List<Site<MapKeeper>>, AllocError>
-    ensures names { IfOk result (λ list. names_of list ≡ names.now) }
-    ensures closed { IfOk result (λ list. AllClosed (work_of kept_of list)) }
+    ensures { IfOk result (AreNew names.now) }
 {
     let mut list = List::new(alloc);
     for name in names {
@@ -89,11 +87,10 @@ fn memory_list(alloc: Global, names: &[Name]) -> Result<List<Site<MapKeeper>>, A
     Ok(list)
 }
 
-/// The servers of a run, which hold nothing, in memory.
+/// The servers of a run, in memory, which hold nothing and plan no failure.
 pub fn open_in_memory(alloc: Global, names: &[Name]) -> Result<Sites<MapKeeper>, AllocError>
     requires { AreServers names.now }
-    ensures names { IfOk result (λ sites. site_names sites ≡ names.now) }
-    ensures closed { IfOk result (λ sites. AllClosed (work kept_of sites)) }
+    ensures { IfOk result (λ sites. AreNew names.now (list_of sites)) }
 {
     match Sites::new(memory_list(alloc, names)?) {
         Ok(sites) => Ok(sites),

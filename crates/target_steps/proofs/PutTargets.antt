@@ -156,5 +156,8 @@ module _ {K : Type 0} (kept : K → Kept) (takes : TargetKind → Bool) (shows :
           passes = may.passes;
           stepped = may.stepped;
           closed = may.closed;
-          blames = blames_by kept s0 s3 (λ s a cause. ⊥) (λ s a cause. ShowsAtEnds kept shows s0 set s a cause × (held kept s3 ≡ held kept s0)) e (blames_after kept s0 s2 s3 before (λ s a cause. ⊥) e here doubt.blames) (λ s a cause h. absurd h);
+          blames = record {
+            blames = blames_by kept s0 s3 (λ s a cause. ⊥) (ShowsAtEnds kept shows s0 set) e (blames_after kept s0 s2 s3 before (λ s a cause. ⊥) e here doubt.blames) (λ s a cause h. absurd h);
+            holds = may.blames.holds;
+          };
         }

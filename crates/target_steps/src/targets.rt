@@ -10,10 +10,11 @@ use std::alloc::Global;
 /// What takes the targets of members of some kinds through the steps of their set. No kind whose
 /// rows are numbered is among them.
 pub trait Targets<K: Keeper> {
-    ghost use Rattle.std.specs.Prelude.{◌≡◌, ◌<◌, Bool, Option, None, true, false, length};
+    ghost use Rattle.std.specs.Prelude.{◌≡◌, ◌<◌, ℕ, Bool, Option, None, true, false, length};
     ghost use Rattle.std.specs.Prelude.{OnErr, IfOk, IfErr};
     ghost use Rattle.repl_types.specs.declared.area.Area.{Area};
     ghost use Rattle.repl_types.specs.declared.status.DamageCause.{DamageCause};
+    ghost use Rattle.repl_types.specs.declared.status.DamageCause.TheVariants.{NoRest};
     ghost use Rattle.repl_definitions.specs.declared.member.TargetKind.{TargetKind};
     ghost use Rattle.keep_core.specs.Contents.{Contents};
     ghost use Rattle.action_store.specs.StoredSteps.{is_numbered};
@@ -65,4 +66,8 @@ pub trait Targets<K: Keeper> {
 
     /// The rows of no such target are numbered.
     ghost unnumbered: { (kind : TargetKind) → takes kind ≡ true → is_numbered kind ≡ false };
+
+    /// That a set doesn't come to rest is shown of no server.
+    ghost no_rest: { (a : Area) (steps : ℕ) (saw : Option Contents) → shows a (NoRest steps) saw
+        → ⊥ };
 }

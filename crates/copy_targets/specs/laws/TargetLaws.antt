@@ -1,5 +1,5 @@
 -- What is known of user copies as targets: which damage is shown of them, and that their rows aren't numbered.
-use Rattle.std.proofs.Common.{◌≡◌, true, false, inl, inr}
+use Rattle.std.proofs.Common.{◌≡◌, ℕ, true, false, inl, inr}
 use Rattle.std.specs.Prelude.{Option, None}
 use Rattle.repl_types.specs.declared.area.Area.{Area}
 use Rattle.repl_types.specs.declared.status.DamageCause.{DamageCause}
@@ -25,6 +25,12 @@ pub copy_damage_unseen : (a : Area) (cause : DamageCause) (saw : Option Contents
 copy_damage_unseen a cause saw (inl (inl h)) = inl (inl (shows_unseen source_rules a cause saw h))
 copy_damage_unseen a cause saw (inl (inr h)) = inl (inr (shows_unseen change_source_rules a cause saw h))
 copy_damage_unseen a cause saw (inr h) = inr (h.0, shows_unseen (target_rules h.0) a cause saw h.1)
+
+-- that a set doesn't come to rest is no damage of copies
+pub no_rest_of_copies : (a : Area) (steps : ℕ) (saw : Option Contents) → ShowsCopyDamage a (causes.NoRest steps) saw → ⊥
+no_rest_of_copies a steps saw (inl (inl h)) = h
+no_rest_of_copies a steps saw (inl (inr h)) = h
+no_rest_of_copies a steps saw (inr h) = h.1
 
 -- the rows of a user copy aren't numbered
 pub copies_unnumbered : (kind : TargetKind) → is_user_copy kind ≡ true → is_numbered kind ≡ false

@@ -1,3 +1,4 @@
+use Rattle.planned_loads.proofs.AllKnown.{known_texts_add_nothing}
 use Rattle.planned_loads.proofs.Gains.{plans_gains, stays_without_gains}
 use Rattle.planned_loads.proofs.RowsAdded.{adds_planned}
 use Rattle.planned_loads.proofs.planned_rows_load_a_server.Goals as goal
@@ -10,3 +11,6 @@ returns-clause-gains c = plans_gains c.accepted_definitions_stay_sound.ensures
 
 pub returns-clause-stays : goal.returns-clause-stays
 returns-clause-stays c = stays_without_gains
+
+pub returns-clause-idle : goal.returns-clause-idle
+returns-clause-idle c = known_texts_add_nothing

@@ -1,5 +1,5 @@
 -- What shows that a server is damaged, by the rules of all parts of a run.
-use Rattle.std.specs.Prelude.{◌⊎◌, ℕ, ◌<◌, List, [], length}
+use Rattle.std.specs.Prelude.{◌⊎◌, ℕ, ◌<◌, [], length}
 use Rattle.repl_types.specs.declared.area.Area.{Area}
 use Rattle.repl_types.specs.declared.status.DamageCause.{DamageCause}
 use Rattle.keep_core.specs.Kept.{Kept}

@@ -1,6 +1,6 @@
 //! The steps of a set, until there is nothing to do.
 
-ghost use Rattle.std.specs.Prelude.{◌≡◌, ◌≤◌, ℕ, Some, IfOk, IfErr, OnOk, OnErr};
+ghost use Rattle.std.specs.Prelude.{◌≡◌, ◌<◌, ◌≤◌, ℕ, Some, IfOk, IfErr, OnOk, OnErr, length};
 ghost use Rattle.repl_model.specs.World.{World};
 ghost use Rattle.site_store.specs.Servers.{AllClosed};
 ghost use Rattle.site_store.specs.Views.{names, held, work};
@@ -8,9 +8,10 @@ ghost use Rattle.site_store.specs.Calls.{KeepsServers};
 ghost use Rattle.server_steps.specs.Calls.{Looks};
 ghost use Rattle.world_store.specs.Stands.{Stands};
 ghost use Rattle.set_places.specs.Places.{IsPlaced, IsKnownAs};
-ghost use Rattle.run_commands.specs.parts.Causes.{PartHasCause};
+ghost use Rattle.run_commands.specs.parts.Causes.{PartHasCause, FoundByRead};
 ghost use Rattle.run_commands.specs.parts.Parts.{Happened, StoppedIn};
-ghost use Rattle.run_commands.specs.apply.Progress.{IsKnown, MakesAtMost, MayMake};
+ghost use Rattle.run_commands.specs.apply.Progress.{IsKnown, MakesAtMost, MayMake, TellsNoRest};
+ghost use Rattle.set_places.specs.declared.placed_set.PlacedSet.{PlacedSet};
 ghost use Rattle.run_commands.specs.apply.StepEvents.{apply_events};
 
 use crate::apply::steps::{Progress, make_step};
@@ -35,6 +36,7 @@ fn most_of<K: Keeper>(alloc: Global, sites: &mut Sites<K>, set: &PlacedSet) -> R
     ensures ok { OnOk result (Looks K.kept sites.old sites.new) }
     ensures most { IfOk result (MakesAtMost K.kept sites.old set.now) }
     ensures stopped { OnErr result (held K.kept sites.new ≡ held K.kept sites.old) }
+    ensures read { IfErr result FoundByRead }
     ensures servers { KeepsServers K.kept sites.old sites.new }
     ensures cause { (count : ℕ)
         → IfErr result (PartHasCause K.kept sites.old sites.new count count) }
@@ -46,7 +48,7 @@ fn most_of<K: Keeper>(alloc: Global, sites: &mut Sites<K>, set: &PlacedSet) -> R
 }
 
 /// Makes the steps of the set of a name, which is placed at a source and makes at most so many
-/// steps.
+/// steps. If none of these comes to rest, the source is damaged.
 fn make_steps<K: Keeper, O: Sink>(
     alloc: Global,
     sites: &mut Sites<K>,
@@ -58,10 +60,12 @@ fn make_steps<K: Keeper, O: Sink>(
 ) -> Result<bool, RunError>
     requires closed { AllClosed (work K.kept sites.old) }
     requires most { MayMake K.kept sites.old id.now most }
+    requires source { source < length (names sites.old) }
     ensures ok { IfOk result (Happened K.kept sites.old sites.new (O.taken output.old)
         (O.taken output.new) (apply_events number id.now)) }
     ensures stopped { OnErr result (StoppedIn K.kept sites.old sites.new (O.taken output.old)
         (O.taken output.new) (apply_events number id.now)) }
+    ensures no_rest { IfErr result (TellsNoRest (O.taken output.old) (O.taken output.new) source) }
     ensures servers { KeepsServers K.kept sites.old sites.new }
     ensures cause { IfErr result (PartHasCause K.kept sites.old sites.new (O.faults output.old)
         (O.faults output.new)) }
@@ -102,6 +106,8 @@ fn apply_found<K: Keeper, O: Sink>(
         (O.taken output.new) (apply_events number id.now)) }
     ensures stopped { OnErr result (StoppedIn K.kept sites.old sites.new (O.taken output.old)
         (O.taken output.new) (apply_events number id.now)) }
+    ensures no_rest { IfErr result (TellsNoRest (O.taken output.old) (O.taken output.new)
+        set.now.source) }
     ensures servers { KeepsServers K.kept sites.old sites.new }
     ensures cause { IfErr result (PartHasCause K.kept sites.old sites.new (O.faults output.old)
         (O.faults output.new)) }
@@ -112,7 +118,9 @@ fn apply_found<K: Keeper, O: Sink>(
 }
 
 /// Makes the steps of the set of a name until there is nothing to do, and writes the line of each
-/// as it is made, and then how many there were. Says whether one was refused, which ends it.
+/// as it is made, and then how many there were. Says whether one was refused, which ends it. If the
+/// set doesn't come to rest, which it always does at servers that stand for a world, its source is
+/// damaged, and the error has the number of steps that were made.
 pub fn apply_set<K: Keeper, O: Sink>(
     alloc: Global,
     sites: &mut Sites<K>,
@@ -125,6 +133,9 @@ pub fn apply_set<K: Keeper, O: Sink>(
         (O.taken output.new) (apply_events number id.now)) }
     ensures stopped { OnErr result (StoppedIn K.kept sites.old sites.new (O.taken output.old)
         (O.taken output.new) (apply_events number id.now)) }
+    ensures no_rest { IfErr result (λ e. ¬ (FoundByRead e) → (set : PlacedSet)
+        × IsPlaced K.kept sites.old set
+        × TellsNoRest (O.taken output.old) (O.taken output.new) set.source e) }
     ensures servers { KeepsServers K.kept sites.old sites.new }
     ensures cause { IfErr result (PartHasCause K.kept sites.old sites.new (O.faults output.old)
         (O.faults output.new)) }

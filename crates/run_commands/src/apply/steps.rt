@@ -12,14 +12,14 @@ ghost use Rattle.site_store.specs.Views.{names, held, work};
 ghost use Rattle.site_store.specs.Calls.{KeepsServers};
 ghost use Rattle.world_store.specs.Stands.{Stands};
 ghost use Rattle.set_places.specs.Places.{IsPlaced, ForSet};
-ghost use Rattle.run_commands.specs.parts.Causes.{PartHasCause, IsOfOutput};
+ghost use Rattle.run_commands.specs.parts.Causes.{PartHasCause, FoundByRead, IsOfOutput};
 ghost use Rattle.run_commands.specs.parts.Parts.{Happened, StoppedIn};
 ghost use Rattle.run_commands.specs.apply.StepEvents.{is_carried_out as is_carried_out_lem};
 ghost use Rattle.run_commands.specs.apply.StepEvents.{outcome_of, next_outcome, outcome, step_events};
 ghost use Rattle.run_commands.specs.parts.Refusing.{refused};
 ghost use Rattle.run_commands.specs.declared.apply.steps.Progress.TheVariants.{Refused};
 ghost use Rattle.run_commands.specs.apply.Progress.{Progressed, StoppedStep, IsKnown, ForKnown};
-ghost use Rattle.run_commands.specs.apply.Progress.{progress_told, line_told};
+ghost use Rattle.run_commands.specs.apply.Progress.{progress_told, line_told, TakesStep};
 
 use crate::parts::{RunError, error_of_fault, refuse, refuse_set};
 use apply_cycle::step;
@@ -133,6 +133,8 @@ fn make_found<K: Keeper, O: Sink>(
     ensures stopped { OnErr result (ForSet K.kept sites.old set.now (λ w k.
         StoppedStep K.kept sites.old sites.new (O.taken output.old) (O.taken output.new) w
         (outcome_of w k (next_action k)))) }
+    ensures lines { IfOk result (TakesStep (O.taken output.old) (O.taken output.new)) }
+    ensures read { IfErr result FoundByRead }
     ensures servers { KeepsServers K.kept sites.old sites.new }
     ensures cause { IfErr result (PartHasCause K.kept sites.old sites.new (O.faults output.old)
         (O.faults output.new)) }
@@ -163,6 +165,8 @@ fn step_found<K: Keeper, O: Sink>(
     ensures stopped { OnErr result (ForKnown K.kept sites.old set.now (λ w k.
         StoppedStep K.kept sites.old sites.new (O.taken output.old) (O.taken output.new) w
         (next_outcome number w k))) }
+    ensures lines { IfOk result (TakesStep (O.taken output.old) (O.taken output.new)) }
+    ensures read { IfErr result FoundByRead }
     ensures servers { KeepsServers K.kept sites.old sites.new }
     ensures cause { IfErr result (PartHasCause K.kept sites.old sites.new (O.faults output.old)
         (O.faults output.new)) }
@@ -206,6 +210,8 @@ pub fn make_step<K: Keeper, O: Sink>(
         → Stands (names sites.old) (held K.kept sites.old) w
         → StoppedStep K.kept sites.old sites.new (O.taken output.old) (O.taken output.new) w
         (outcome number id.now w)) }
+    ensures lines { IfOk result (TakesStep (O.taken output.old) (O.taken output.new)) }
+    ensures read { IfErr result FoundByRead }
     ensures servers { KeepsServers K.kept sites.old sites.new }
     ensures cause { IfErr result (PartHasCause K.kept sites.old sites.new (O.faults output.old)
         (O.faults output.new)) }

@@ -1,6 +1,6 @@
 //! The run of `copy` at its servers.
 
-ghost use Rattle.std.specs.Prelude.{◌≡◌, ◌≤◌, IfOk, IfErr, IfSome, OnErr};
+ghost use Rattle.std.specs.Prelude.{◌≡◌, ◌≤◌, IfOk, IfErr, OnErr};
 ghost use Rattle.repl_model.specs.World.{World};
 ghost use Rattle.run_core.specs.Runs.{Went, Stopped, is_refused};
 ghost use Rattle.site_store.specs.Servers.{AllClosed};
@@ -9,6 +9,7 @@ ghost use Rattle.site_store.specs.Calls.{KeepsServers};
 ghost use Rattle.world_store.specs.Stands.{Stands};
 ghost use Rattle.run_commands.specs.parts.Causes.{BlamesServers, HasEnded};
 ghost use Rattle.run_commands.specs.parts.ExitStatus.{status_of_error};
+ghost use Rattle.session_core.specs.Inputs.{OfInput};
 ghost use Rattle.session_core.specs.copy.CopyEvents.{fed_events, brought_events, copy_events};
 ghost use Rattle.session_core.specs.copy.Reading.{ReadsAll, StopsReading};
 
@@ -81,18 +82,18 @@ pub fn copy_items<K: Keeper, I: Source, O: Sink>(
 ) -> Result<bool, RunError>
     requires { AllClosed (work K.kept sites.old) }
     ensures ok { IfOk result (λ refused. (w : World)
-        → Stands (names sites.old) (held K.kept sites.old) w → IfSome (I.left input.old) (λ bytes.
+        → Stands (names sites.old) (held K.kept sites.old) w → OfInput (I.left input.old) (λ bytes.
         Went (Stands (names sites.old)) (copy_events bytes w) w (held K.kept sites.new)
         (O.taken output.old) (O.taken output.new) × (refused ≡ is_refused (copy_events bytes w)))) }
     ensures stopped { OnErr result ((w : World)
-        → Stands (names sites.old) (held K.kept sites.old) w → IfSome (I.left input.old) (λ bytes.
+        → Stands (names sites.old) (held K.kept sites.old) w → OfInput (I.left input.old) (λ bytes.
         Stopped (Stands (names sites.old)) (copy_events bytes w) w (held K.kept sites.new)
         (O.taken output.old) (O.taken output.new))) }
     ensures ended { HasEnded (I.left input.old) (I.left input.new) (I.faults input.old)
         (I.faults input.new) (O.faults output.old) (O.faults output.new) result }
-    ensures servers { IfErr result (λ e.
+    ensures servers { KeepsServers K.kept sites.old sites.new }
+    ensures cause { IfErr result (λ e.
         BlamesServers K.kept sites.old sites.new (status_of_error e)) }
-    ensures closed { AllClosed (work K.kept sites.new) }
 {
     load_items(alloc, sites)?;
     let any = bring_copy(alloc, sites, input, output)?;

@@ -7,6 +7,7 @@ use Rattle.std.proofs.Math.ListN.{set}
 use Rattle.repl_types.specs.declared.area.Area.{Area}
 use Rattle.repl_types.specs.declared.status.DamageCause.{DamageCause}
 use Rattle.faults.specs.declared.fault.Fault.{Fault}
+use Rattle.faults.specs.declared.fault.Fault.TheVariants as faults
 use Rattle.keep_core.specs.Contents.{Contents}
 use Rattle.keep_core.specs.Kept.{Kept}
 use Rattle.repl_model.specs.AfterActions.{with_server}
@@ -16,7 +17,7 @@ use Rattle.site_store.specs.declared.sites.Sites.{Sites}
 use Rattle.site_store.specs.Records.{NoDamage}
 use Rattle.site_store.specs.Servers.{AllClosed}
 use Rattle.site_store.specs.Views.{names, held, work, sees, IsOpenAt}
-use Rattle.site_store.specs.Calls.{Bounds, no_access, both, Passes, Begins, Commits, AtServer, Blames, Fails, InDoubt}
+use Rattle.site_store.specs.Calls.{Bounds, no_access, both, Passes, Begins, Commits, AtServer, Fails, InDoubt, HoldsOrInDoubt}
 use Rattle.site_store.specs.Damage.{Rules, Shows, Damages}
 use Rattle.site_store.specs.laws.Counts.{at_most_itself, passes_then}
 use Rattle.site_store.specs.laws.Damage.{blames_by}
@@ -34,16 +35,31 @@ module _ {K : Type 0} (kept : K → Kept) where
 
   -- a call that failed and left what is held
   pub stops_unchanged : (s0 s1 : Sites K) (D : ℕ → Area → DamageCause → Type 0) (e : Fault) → Stops kept s0 s1 D e → BlamesUnchanged kept s0 s1 D e
-  stops_unchanged s0 s1 D e f = blames_by kept s0 s1 D (λ s a cause. D s a cause × (held kept s1 ≡ held kept s0)) e f.blames (λ s a cause h. (h, f.held))
+  stops_unchanged s0 s1 D e f = record { blames = f.blames; holds = inl f.held }
 
-  -- somebody is to blame in any case
-  pub blamed : (s0 s1 : Sites K) (D : ℕ → Area → DamageCause → Type 0) (e : Fault) → BlamesUnchanged kept s0 s1 D e → Blames kept s0 s1 D e
-  blamed s0 s1 D e h = blames_by kept s0 s1 (λ s a cause. D s a cause × (held kept s1 ≡ held kept s0)) D e h (λ s a cause both. both.0)
+  -- what is held after a call that failed is the same after other calls that changed nothing that is held
+  pub doubt_after : (s0 s1 s2 : Sites K) (e : Fault) → held kept s1 ≡ held kept s0 → HoldsOrInDoubt kept s1 s2 e → HoldsOrInDoubt kept s0 s2 e
+  doubt_after s0 s1 s2 e same (inl held_on) = inl (held_on ∙ same)
+  doubt_after s0 s1 s2 e same (inr took_it) = inr (took_it.0, took_it.1, took_it.2, took_it.3 ∙ ap (λ (h : List (Option Contents)). set h took_it.0 took_it.1) same)
+
+  -- if it wasn't a keeper that failed, each server holds what it held
+  pub unchanged_if_damaged : (s0 s1 : Sites K) (s : ℕ) (a : Area) (cause : DamageCause) → HoldsOrInDoubt kept s0 s1 (faults.Damaged s a cause) → held kept s1 ≡ held kept s0
+  unchanged_if_damaged s0 s1 s a cause (inl same) = same
+  unchanged_if_damaged s0 s1 s a cause (inr took_it) = absurd (apart took_it.0 took_it.2)
+    where
+      apart : (q : ℕ) → faults.Damaged s a cause ≡ faults.Keeper q → ⊥
+      apart q e = cc
+
+  -- who is to blame by what shows damage is to blame by what shows less
+  pub unchanged_by : (s0 s1 : Sites K) (D E : ℕ → Area → DamageCause → Type 0) (e : Fault) → BlamesUnchanged kept s0 s1 D e → ((s : ℕ) (a : Area) (cause : DamageCause) → D s a cause → E s a cause) → BlamesUnchanged kept s0 s1 E e
+  unchanged_by s0 s1 D E e h weaker = record { blames = blames_by kept s0 s1 D E e h.blames weaker; holds = h.holds }
 
   -- the same after reads, by what shows damage before them
   pub unchanged_after : (s0 s1 s2 : Sites K) (D E : ℕ → Area → DamageCause → Type 0) (e : Fault) → Looks kept s0 s1 → ((s : ℕ) (a : Area) (cause : DamageCause) → D s a cause → E s a cause) → BlamesUnchanged kept s1 s2 D e → BlamesUnchanged kept s0 s2 E e
-  unchanged_after s0 s1 s2 D E e looks weaker h = blames_after kept s0 s1 s2 looks.most (λ s a cause. E s a cause × (held kept s2 ≡ held kept s0)) e looks.stays.passes
-      (blames_by kept s1 s2 (λ s a cause. D s a cause × (held kept s2 ≡ held kept s1)) (λ s a cause. E s a cause × (held kept s2 ≡ held kept s0)) e h (λ s a cause both. (weaker s a cause both.0, both.1 ∙ looks.stays.held)))
+  unchanged_after s0 s1 s2 D E e looks weaker h = record {
+    blames = blames_after kept s0 s1 s2 looks.most E e looks.stays.passes (blames_by kept s1 s2 D E e h.blames weaker);
+    holds = doubt_after s0 s1 s2 e looks.stays.held h.holds;
+  }
 
   -- ---- the beginning
 
@@ -109,10 +125,16 @@ module _ {K : Type 0} (kept : K → Kept) where
           passes = passes_then kept s0 s2 s3 before no_access after here doubt.passes (at_most_itself after);
           stepped = elim doubt.held [
             | inl same ↦ inl (same ∙ goes.works.held ∙ begin.held)
-            | inr is ↦ inr (has_stepped is.1)
+            | inr is ↦ inr (is.0, has_stepped is.1)
           ];
           closed = doubt.closed;
-          blames = blames_by kept s0 s3 (λ s a cause. ⊥) (λ s a cause. Damages (λ q. q ≡ server) rules kept s0 s a cause × (held kept s3 ≡ held kept s0)) e (blames_after kept s0 s2 s3 before (λ s a cause. ⊥) e here doubt.blames) (λ s a cause h. absurd h);
+          blames = record {
+            blames = blames_by kept s0 s3 (λ s a cause. ⊥) (Damages (λ q. q ≡ server) rules kept s0) e (blames_after kept s0 s2 s3 before (λ s a cause. ⊥) e here doubt.blames) (λ s a cause h. absurd h);
+            holds = elim doubt.held [
+              | inl same ↦ inl (same ∙ goes.works.held ∙ begin.held)
+              | inr is ↦ inr (server, sees kept s2 server, is.0, is.1 ∙ ap (λ (h : List (Option Contents)). set h server (sees kept s2 server)) (goes.works.held ∙ begin.held))
+            ];
+          };
         }
           where
             here : Passes kept s0 s2 before
@@ -128,7 +150,7 @@ module _ {K : Type 0} (kept : K → Kept) (s0 s1 : Sites K) (w : World) (p : ℕ
       let d = stepped r.0 r.1 in
       subst (λ (h : List (Option Contents)). Stands (names s0) h (with_server server.name f w)) (sym d.1) (stands_with_server (names s0) (held kept s0) w p server f d.0 stands at keeps sound (here r.0 d.0 r.2 d.2) others)
 
-  -- if the step may have failed, they may still stand for the world before it
-  pub may_have_become : (held kept s1 ≡ held kept s0) ⊎ HasStepped kept s0 s1 p step → HasBecome kept s0 s1 w ⊎ HasBecome kept s0 s1 (with_server server.name f w)
-  may_have_become (inl same) = inl (subst (λ (h : List (Option Contents)). Stands (names s0) h w) (sym same) stands)
-  may_have_become (inr stepped) = inr (has_become stepped)
+  -- if the step failed, they may still stand for the world before it, and for the one with it only if the keeper failed
+  pub may_have_become : (e : Fault) → (held kept s1 ≡ held kept s0) ⊎ ((e ≡ faults.Keeper p) × HasStepped kept s0 s1 p step) → HasBecome kept s0 s1 w ⊎ ((s : ℕ) × (e ≡ faults.Keeper s) × HasBecome kept s0 s1 (with_server server.name f w))
+  may_have_become e (inl same) = inl (subst (λ (h : List (Option Contents)). Stands (names s0) h w) (sym same) stands)
+  may_have_become e (inr stepped) = inr (p, stepped.0, has_become stepped.1)

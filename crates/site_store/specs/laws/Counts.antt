@@ -1,11 +1,13 @@
 -- Laws of what calls keep and how often they read and write: proofs, and nothing to believe.
-use Rattle.std.proofs.Common.{ℕ, ◌+◌, ◌≤◌, Bool, true, false, cond, ◌∙◌, refl, arith}
+use Rattle.std.proofs.Common.{ℕ, ◌+◌, ◌≤◌, List, Bool, true, false, cond, ◌∙◌, refl, arith}
 use Rattle.std.specs.Prelude.{◌&&◌, ◌==◌}
 use Rattle.repl_types.specs.Area.{same_area}
 use Rattle.repl_types.specs.declared.area.Area.{Area}
 use Rattle.keep_core.specs.Kept.{Kept}
 use Rattle.site_store.specs.declared.sites.Sites.{Sites}
-use Rattle.site_store.specs.Calls.{Bounds, only, reads_of_one, both, reads_and_writes, Passes, Stays}
+use Rattle.site_store.specs.Calls.{NoneBack, Bounds, no_access, only, reads_of_one, both, reads_and_writes, Passes, Stays, KeepsServers}
+use Rattle.site_store.specs.Servers.{AllClosed}
+use Rattle.site_store.specs.Views.{work, reads_in}
 
 -- The one bounds allow no more than the others.
 pub record IsAtMost (x y : Bounds) : Type 0 where
@@ -42,6 +44,14 @@ reads_and_writes_then i j m n x y s a t b few fewer = record {
 -- one read is within reads of that area and any writes
 pub read_within : (n s : ℕ) (a : Area) (t : ℕ) (b : Area) → IsAtMost (reads_of_one 1 s a) (reads_and_writes 1 s a n t b)
 read_within n s a t b = record { reads = λ q c. omega arith; writes = λ q c. omega arith }
+
+-- counts that stay don't fall
+pub none_back_itself : (counts : List ℕ) → NoneBack counts counts
+none_back_itself counts s lt = omega arith
+
+-- if no count fell, and then none, none fell
+pub none_back_then : (c0 c1 c2 : List ℕ) → NoneBack c0 c1 → NoneBack c1 c2 → NoneBack c0 c2
+none_back_then c0 c1 c2 p q s lt = let more = q s lt in let less = p s (omega (arith, more, lt)) in omega (arith, more, less)
 
 module _ {K : Type 0} (kept : K → Kept) where
   -- wider bounds hold too
@@ -86,4 +96,30 @@ module _ {K : Type 0} (kept : K → Kept) where
     passes = passes_then s0 s1 s2 x y z a.passes b.passes most;
     held = b.held ∙ a.held;
     work = b.work ∙ a.work;
+  }
+
+  -- calls within bounds, after which no transaction is open
+  pub keeps_passed : (s0 s1 : Sites K) (x : Bounds) → Passes kept s0 s1 x → AllClosed (work kept s1) → KeepsServers kept s0 s1
+  keeps_passed s0 s1 x p closed = record { names = p.names; faults = p.faults; reads = p.reads; closed = closed }
+
+  -- nothing was called
+  pub keeps_itself : (s0 : Sites K) → AllClosed (work kept s0) → KeepsServers kept s0 s0
+  keeps_itself s0 closed = keeps_passed s0 s0 no_access (passes_none s0 no_access) closed
+
+  -- one part of a run after another
+  pub keeps_then : (s0 s1 s2 : Sites K) → KeepsServers kept s0 s1 → KeepsServers kept s1 s2 → KeepsServers kept s0 s2
+  keeps_then s0 s1 s2 p q = record {
+    names = q.names ∙ p.names;
+    faults = λ s. omega (arith, p.faults s, q.faults s);
+    reads = λ a. none_back_then (reads_in kept a s0) (reads_in kept a s1) (reads_in kept a s2) (p.reads a) (q.reads a);
+    closed = q.closed;
+  }
+
+  -- a part of a run after calls within bounds
+  pub passes_keeps : (s0 s1 s2 : Sites K) (x : Bounds) → Passes kept s0 s1 x → KeepsServers kept s1 s2 → KeepsServers kept s0 s2
+  passes_keeps s0 s1 s2 x p q = record {
+    names = q.names ∙ p.names;
+    faults = λ s. omega (arith, p.faults s, q.faults s);
+    reads = λ a. none_back_then (reads_in kept a s0) (reads_in kept a s1) (reads_in kept a s2) (p.reads a) (q.reads a);
+    closed = q.closed;
   }

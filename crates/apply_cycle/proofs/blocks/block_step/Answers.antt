@@ -71,9 +71,9 @@ returns-in_err-counts-clause-fault g c =
     let target = target_after kept set s0 s2 c.requires.closed w k stands placed looks in
     let able = can laws.sound laws.target laws.stored takes g.met.T.Targets.unnumbered w k set stands.sound placed read_only c.args.upto next in
     record {
-      stands = may_have_blocked laws.sound laws.target laws.stored takes g.met.T.Targets.unnumbered w k set stands.sound placed read_only c.args.upto next time time_is kept shows s0 s2 s3 stands r known known_is laws.others (elim may.stepped [
+      stands = may_have_blocked laws.sound laws.target laws.stored takes g.met.T.Targets.unnumbered w k set stands.sound placed read_only c.args.upto next time time_is kept shows s0 s2 s3 stands r known known_is laws.others c.in_err-counts.field-0.0 (elim may.stepped [
         | inl same ↦ inl (same ∙ looks.stays.held)
-        | inr stepped ↦ inr (stepped_after kept set s0 s2 s3 set.target (PutsSomeTargets kept takes shows s2 set (Block known.synchpoint c.args.upto) time known) looks.stays.held stepped)
+        | inr stepped ↦ inr (stepped.0, stepped_after kept set s0 s2 s3 set.target (PutsSomeTargets kept takes shows s2 set (Block known.synchpoint c.args.upto) time known) looks.stays.held stepped.1)
       ]);
       undamaged = c.in_err-counts.ensures.undamaged target.0 target.1 w k stands.sound placed r read_only (subst (λ (s : ReadOnlyState). CanStep k (Block s.synchpoint c.args.upto)) (sym known_is) able) next.1 target.2;
     })

@@ -1,9 +1,9 @@
 use Rattle.std.proofs.Common.{◌≡◌, ◌∙◌, sym, ap}
 use Rattle.std.proofs.lemmas.Result.{err_from_is_err_and}
 use Rattle.repl_model.specs.AfterActions.{after_action}
-use Rattle.repl_model.specs.NextActions.{blocks, next_action}
+use Rattle.repl_model.specs.NextActions.{signals, refreshes, blocks, reports, next_action}
 use Rattle.subs_sets.specs.Actions.{action_of}
-use Rattle.apply_cycle.proofs.StepCases.{makes, stands_on, become_back, refresh_blamed, block_blamed, report_blamed}
+use Rattle.apply_cycle.proofs.StepCases.{makes, stands_on, become_back, refresh_blamed, block_blamed, report_blamed, reads_before, reads_then, reads_if_block, reads_unless_block, not_idle, refresh_acted, block_acted}
 use Rattle.apply_cycle.proofs.steps.step.Goals as goal
 
 pub returns-in_err-stepped-in-Refresh-clause-blames : goal.returns-in_err-stepped-in-Refresh-clause-blames
@@ -36,3 +36,67 @@ returns-in_ok-stepped-in-Block-clause-ok g c = λ w k stands placed read_only ea
     let next : blocks to ≡ next_action k = ap action_of (sym c.in-Block.is) ∙ c.in_ok-action.ensures.action w k stands placed read_only in
     let made = c.in_ok-stepped-in-Block.ensures.ok w k (stands_on kept s0 s1 looks w stands) placed read_only (sym next, each) in
     makes kept s0 s2 w k set.source c.in_ok-stepped-in-Block.stepped (blocks to) next (become_back kept s0 s1 looks s2 (after_action w k (blocks to)) made.0) made.1
+
+-- ---- what a block reads
+
+pub returns-in_err-action-clause-block_reads : goal.returns-in_err-action-clause-block_reads
+returns-in_err-action-clause-block_reads g c =
+    let kept = g.K.Keeper.kept in
+    let s0 = c.args.sites.now in
+    let s1 = c.next_action.new.sites in
+    let p = err_from_is_err_and c.from_residual.result c.from_residual.ensures.1 in
+    rw p.1 (λ w k stands placed read_only. reads_if_block kept s0 s1 (reads_before kept s0 s1 c.next_action.ensures.reads) (next_action k))
+
+pub returns-in_err-stepped-in-Signal-clause-block_reads : goal.returns-in_err-stepped-in-Signal-clause-block_reads
+returns-in_err-stepped-in-Signal-clause-block_reads g c =
+    let kept = g.K.Keeper.kept in
+    let s0 = c.args.sites.now in
+    let s2 = c.signal.new.sites in
+    let p = err_from_is_err_and c.from_residual-in_err-stepped-in-Signal.result c.from_residual-in_err-stepped-in-Signal.ensures.1 in
+    rw p.1 (λ w k stands placed read_only. reads_unless_block kept s0 s2 signals (next_action k) (ap action_of (sym c.in-Signal.is) ∙ c.in_ok-action.ensures.action w k stands placed read_only) tt)
+
+pub returns-in_err-stepped-in-Refresh-clause-block_reads : goal.returns-in_err-stepped-in-Refresh-clause-block_reads
+returns-in_err-stepped-in-Refresh-clause-block_reads g c =
+    let kept = g.K.Keeper.kept in
+    let s0 = c.args.sites.now in
+    let s2 = c.refresh_step.new.sites in
+    let p = err_from_is_err_and c.from_residual-in_err-stepped-in-Refresh.result c.from_residual-in_err-stepped-in-Refresh.ensures.1 in
+    rw p.1 (λ w k stands placed read_only. reads_unless_block kept s0 s2 refreshes (next_action k) (ap action_of (sym c.in-Refresh.is) ∙ c.in_ok-action.ensures.action w k stands placed read_only) tt)
+
+pub returns-in_err-stepped-in-Report-clause-block_reads : goal.returns-in_err-stepped-in-Report-clause-block_reads
+returns-in_err-stepped-in-Report-clause-block_reads g c =
+    let kept = g.K.Keeper.kept in
+    let s0 = c.args.sites.now in
+    let s2 = c.report.new.sites in
+    let p = err_from_is_err_and c.from_residual-in_err-stepped-in-Report.result c.from_residual-in_err-stepped-in-Report.ensures.1 in
+    rw p.1 (λ w k stands placed read_only. reads_unless_block kept s0 s2 reports (next_action k) (ap action_of (sym c.in-Report.is) ∙ c.in_ok-action.ensures.action w k stands placed read_only) tt)
+
+pub returns-in_err-stepped-in-Block-clause-block_reads : goal.returns-in_err-stepped-in-Block-clause-block_reads
+returns-in_err-stepped-in-Block-clause-block_reads g c =
+    let kept = g.K.Keeper.kept in
+    let s0 = c.args.sites.now in
+    let s1 = c.next_action.new.sites in
+    let s2 = c.block_step.new.sites in
+    let p = err_from_is_err_and c.from_residual-in_err-stepped-in-Block.result c.from_residual-in_err-stepped-in-Block.ensures.1 in
+    rw p.1 (λ w k stands placed read_only. reads_if_block kept s0 s2 (reads_then kept s0 s1 c.next_action.ensures.reads s2 c.block_step.ensures.reads) (next_action k))
+
+pub returns-in-Refuse-clause-block_reads : goal.returns-in-Refuse-clause-block_reads
+returns-in-Refuse-clause-block_reads g c =
+    let kept = g.K.Keeper.kept in
+    let s0 = c.args.sites.now in
+    let s1 = c.next_action.new.sites in
+    λ w k stands placed read_only. reads_if_block kept s0 s1 (reads_before kept s0 s1 c.next_action.ensures.reads) (next_action k)
+
+-- ---- nothing to do
+
+pub returns-in_ok-stepped-in-Signal-clause-idle : goal.returns-in_ok-stepped-in-Signal-clause-idle
+returns-in_ok-stepped-in-Signal-clause-idle g c = not_idle c.in_ok-stepped-in-Signal.stepped _ c.in_ok-stepped-in-Signal.ensures.acted
+
+pub returns-in_ok-stepped-in-Refresh-clause-idle : goal.returns-in_ok-stepped-in-Refresh-clause-idle
+returns-in_ok-stepped-in-Refresh-clause-idle g c = not_idle c.in_ok-stepped-in-Refresh.stepped _ (refresh_acted c.in_ok-stepped-in-Refresh.stepped c.in_ok-stepped-in-Refresh.ensures.answer)
+
+pub returns-in_ok-stepped-in-Block-clause-idle : goal.returns-in_ok-stepped-in-Block-clause-idle
+returns-in_ok-stepped-in-Block-clause-idle g c = not_idle c.in_ok-stepped-in-Block.stepped _ (block_acted g.K.Keeper.kept c.next_action.new.sites c.block_step.new.sites _ c.in_ok-stepped-in-Block.stepped c.in_ok-stepped-in-Block.ensures.counted)
+
+pub returns-in_ok-stepped-in-Report-clause-idle : goal.returns-in_ok-stepped-in-Report-clause-idle
+returns-in_ok-stepped-in-Report-clause-idle g c = not_idle c.in_ok-stepped-in-Report.stepped _ c.in_ok-stepped-in-Report.ensures.acted

@@ -1,6 +1,8 @@
 use Rattle.site_store.specs.Calls.{no_access}
+use Rattle.site_store.specs.laws.Counts.{keeps_passed, passes_keeps}
 use Rattle.capture_core.specs.Ending.{HeldDamage}
 use Rattle.capture_core.specs.Rules.{ShowsDamage}
+use Rattle.capture_core.proofs.Elsewhere.{elsewhere_on}
 use Rattle.capture_core.proofs.Faults.{blames_later, damage_seen}
 use Rattle.capture_core.proofs.Whole.{captured_all, stopped_first}
 use Rattle.capture_core.proofs.capturing.capture.Goals as goal
@@ -17,3 +19,13 @@ returns-in-Err-clause-blames g c =
     let s1 = c.capture_units.new.sites in
     let s2 = c.rollback_all.new.self in
     blames_later kept c.args.sites.now s1 s2 no_access (HeldDamage kept s1 c.args.server) (ShowsDamage kept s2 c.args.server) c.in-Err.e c.rollback_all.ensures.passes (damage_seen kept s1 s2 c.args.server c.rollback_all.ensures.held c.rollback_all.ensures.closed) c.in-Err.ensures.fault.blames
+
+pub returns-in-Err-clause-servers : goal.returns-in-Err-clause-servers
+returns-in-Err-clause-servers g c =
+    let kept = g.K.Keeper.kept in
+    let s1 = c.capture_units.new.sites in
+    let failed = c.in-Err.ensures.fault in
+    passes_keeps kept c.args.sites.now s1 c.rollback_all.new.self failed.bounds failed.passes (keeps_passed kept s1 c.rollback_all.new.self no_access c.rollback_all.ensures.passes c.rollback_all.ensures.closed)
+
+pub returns-in-Err-clause-apart : goal.returns-in-Err-clause-apart
+returns-in-Err-clause-apart g c = elsewhere_on g.K.Keeper.kept c.args.server c.args.sites.now c.capture_units.new.sites c.rollback_all.new.self c.capture_units.ensures.apart c.rollback_all.ensures.held

@@ -23,7 +23,7 @@ returns-in_err-commit-clause-fault g c =
       passes = passes_then kept s0 s1 s2 goes.most no_access (both goes.most no_access) goes.works.passes doubt.passes (at_most_itself (both goes.most no_access));
       held = elim doubt.held [
         | inl same ↦ inl (same ∙ goes.works.held)
-        | inr took ↦ inr (record { before = s1; puts = goes; held = took.1 })
+        | inr took ↦ inr (took.0, record { before = s1; puts = goes; held = took.1 })
       ];
       blames = blames_after kept s0 s1 s2 goes.most (λ s a cause. ⊥) c.in_err-commit.field-0.0 goes.works.passes doubt.blames;
     })

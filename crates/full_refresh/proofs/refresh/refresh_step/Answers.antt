@@ -63,9 +63,9 @@ returns-in_err-counts-clause-fault g c =
     let r = revealed_after kept set s0 s2 c.requires.closed w k stands placed looks in
     let target = target_after kept set s0 s2 c.requires.closed w k stands placed looks in
     record {
-      stands = may_have_refreshed laws.sound laws.target laws.stored laws.time takes g.met.T.Targets.unnumbered w k set stands.sound placed read_only next kept shows s0 s2 s3 stands r end at known known_is laws.others (elim may.stepped [
+      stands = may_have_refreshed laws.sound laws.target laws.stored laws.time takes g.met.T.Targets.unnumbered w k set stands.sound placed read_only next kept shows s0 s2 s3 stands r end at known known_is laws.others c.in_err-counts.field-0.0 (elim may.stepped [
         | inl same ↦ inl (same ∙ looks.stays.held)
-        | inr stepped ↦ inr (stepped_after kept set s0 s2 s3 set.target (PutsSomeTargets kept takes shows s2 set (Refresh end.commit) end.time known) looks.stays.held stepped)
+        | inr stepped ↦ inr (stepped.0, stepped_after kept set s0 s2 s3 set.target (PutsSomeTargets kept takes shows s2 set (Refresh end.commit) end.time known) looks.stays.held stepped.1)
       ]);
       undamaged = c.in_err-counts.ensures.undamaged target.0 target.1 w k stands.sound placed r read_only (ap (λ (h : Head). h.commit) at) next.1 target.2;
     })

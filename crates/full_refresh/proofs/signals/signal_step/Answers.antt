@@ -71,9 +71,9 @@ returns-in_err-seq-clause-fault g c =
     let records : unit_records unit ≡ signal_records k.at_source.def k.source.log = records_made kept set w k unit head.time placed c.in_ok-unit.ensures.unit (ap (λ (h : Head). h.time) end) in
     let r = revealed_after kept set s0 s2 c.requires.closed w k stands placed looks in
     record {
-      stands = may_have_signalled laws.sound laws.source w k set stands.sound placed read_only next unit records known marked kept s0 s3 stands laws.others (elim may.stepped [
+      stands = may_have_signalled laws.sound laws.source w k set stands.sound placed read_only next unit records known marked kept s0 s3 stands laws.others c.in_err-seq.field-0.0 (elim may.stepped [
         | inl same ↦ inl (same ∙ looks.stays.held)
-        | inr stepped ↦ inr (stepped_after kept set s0 s2 s3 set.source (PutsSome set.at_source.number known unit) looks.stays.held stepped)
+        | inr stepped ↦ inr (stepped.0, stepped_after kept set s0 s2 s3 set.source (PutsSome set.at_source.number known unit) looks.stays.held stepped.1)
       ]);
       undamaged = c.in_err-seq.ensures.undamaged k.source r.0 r.1 (whole laws.sound laws.source w k set stands.sound placed read_only next unit records known marked r.0 r.2)
           (signal_fits k.source unit (source_tables set.at_source.def) (ap (λ (u : LogUnit). u.changes) c.in_ok-unit.ensures.unit));

@@ -2,10 +2,14 @@ use Rattle.std.proofs.Common.{◌≡◌, sym, subst}
 use Rattle.std.specs.List.{AllByRecursion}
 use Rattle.std.proofs.lemmas.Result.{err_from_is_err_and}
 use Rattle.spelled_defs.specs.declared.defs.Defs.{Defs}
+use Rattle.site_store.specs.laws.Counts.{passes_keeps}
 use Rattle.stored_defs.specs.Known.{in_defs, known_reads}
 use Rattle.stored_defs.specs.Rules.{ShowsDamage}
 use Rattle.accepted_texts.specs.Texts.{defs_beside}
+use Rattle.planned_loads.specs.Planned.{known_stored}
+use Rattle.load_defs.specs.Counts.{loaded_counts, NoneIsNew}
 use Rattle.load_defs.specs.Putting.{CanBeLoaded}
+use Rattle.load_defs.proofs.NoneNew.{none_left}
 use Rattle.load_defs.proofs.OneText.{IsPlanned, can_be_loaded, blames_reading, blames_loading, reading_fails, planning_fails, loading_fails, has_loaded}
 use Rattle.load_defs.proofs.loading.load.Goals as goal
 
@@ -49,6 +53,24 @@ returns-in_err-load_servers-clause-blames g c =
     let p = err_from_is_err_and c.from_residual-in_err-load_servers.result c.from_residual-in_err-load_servers.ensures.1 in
     rw (p.1, p.2) (blames_loading g.K.Keeper.kept c.args.sites.now c.read_servers.new.sites c.load_servers.new.sites (ShowsDamage g.K.Keeper.kept c.args.sites.now) c.in_err-load_servers.field-0.0 c.in_ok-stored.ensures.ok.passes.faults c.in_err-load_servers.ensures.blames)
 
+pub returns-then-none_is_new-clause-ok : goal.returns-then-none_is_new-clause-ok
+returns-then-none_is_new-clause-ok g c =
+    let kept = g.K.Keeper.kept in
+    let laws = c.laws_of_texts.ensures in
+    let stored = c.in_ok-stored.stored in
+    let s1 = c.read_servers.new.sites in
+    let planned : c.in_ok-plan.plan.defs ≡ defs_beside c.args.raw.now stored = rw c.as_slice.ensures at c.in_ok-plan.ensures.defs in
+    let plan : IsPlanned c.args.raw.now stored = record {
+      accepted = rw c.as_slice.ensures at c.in_ok-plan.ensures.accepted;
+      keeps = rw c.as_slice.ensures at c.in_ok-plan.ensures.keeps;
+      contents = rw c.as_slice.ensures at c.in_ok-plan.ensures.contents;
+      sets = rw planned at c.in_ok-plan.ensures.typed;
+    } in
+    let counts = rw (c.as_slice.ensures, planned) at c.in_ok-plan.ensures.loaded in
+    let none : NoneIsNew (loaded_counts (known_stored stored) (defs_beside c.args.raw.now stored)) = subst NoneIsNew counts (c.none_is_new.ensures.0 c.if-none_is_new.true) in
+    has_loaded kept c.args.sites.now c.args.raw.now stored c.in_ok-stored.ensures.stored plan laws.known laws.typed laws.seen laws.after s1 s1 (in_defs known_reads) c.in_ok-stored.ensures.ok c.in_ok-plan.plan.loaded counts
+    (none_left laws.known c.laws_of_worlds.ensures.idle kept s1 (defs_beside c.args.raw.now stored) stored none)
+
 pub returns-clause-ok : goal.returns-clause-ok
 returns-clause-ok g c =
     let laws = c.laws_of_texts.ensures in
@@ -60,3 +82,9 @@ returns-clause-ok g c =
       sets = rw planned at c.in_ok-plan.ensures.typed;
     } in
     has_loaded g.K.Keeper.kept c.args.sites.now c.args.raw.now c.in_ok-stored.stored c.in_ok-stored.ensures.stored plan laws.known laws.typed laws.seen laws.after c.read_servers.new.sites c.load_servers.new.sites (in_defs known_reads) c.in_ok-stored.ensures.ok c.in_ok-plan.plan.loaded (rw (c.as_slice.ensures, planned) at c.in_ok-plan.ensures.loaded) (rw (c.as_slice-2.ensures, planned) at c.in_ok-load_servers.ensures.ok)
+
+pub returns-in_err-load_servers-clause-servers : goal.returns-in_err-load_servers-clause-servers
+returns-in_err-load_servers-clause-servers g c = passes_keeps g.K.Keeper.kept c.args.sites.now c.read_servers.new.sites c.load_servers.new.sites (in_defs known_reads) c.in_ok-stored.ensures.ok.passes c.load_servers.ensures.servers
+
+pub returns-clause-servers : goal.returns-clause-servers
+returns-clause-servers g c = passes_keeps g.K.Keeper.kept c.args.sites.now c.read_servers.new.sites c.load_servers.new.sites (in_defs known_reads) c.in_ok-stored.ensures.ok.passes c.load_servers.ensures.servers

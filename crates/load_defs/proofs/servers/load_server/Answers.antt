@@ -1,11 +1,15 @@
-use Rattle.std.proofs.Common.{◌≡◌, sym, ap, subst, ◌∙◌, arith, inl, inr}
+use Rattle.std.proofs.Common.{◌≡◌, List, set, sym, ap, subst, ◌∙◌, inl, inr}
+use Rattle.std.specs.Prelude.{Option}
 use Rattle.std.proofs.lemmas.Result.{err_from_is_err_and}
-use Rattle.site_store.specs.Views.{names, held, work}
+use Rattle.keep_core.specs.Contents.{Contents}
+use Rattle.site_store.specs.Calls.{no_access}
+use Rattle.site_store.specs.Views.{names, held, work, sees}
+use Rattle.site_store.specs.laws.Counts.{keeps_passed, passes_keeps}
 use Rattle.site_store.specs.laws.Transactions.{closed_again}
 use Rattle.load_plan.specs.Additions.{additions_at}
 use Rattle.load_worlds.specs.Loads.{load_first}
 use Rattle.planned_loads.specs.PlannedLoads.{adds_nothing}
-use Rattle.load_defs.specs.Putting.{MayBePutAll, added_rows, with_added}
+use Rattle.load_defs.specs.Putting.{MayBePutAll, added_rows, with_added, added_written}
 use Rattle.load_defs.proofs.Faults.{blames_after}
 use Rattle.load_defs.proofs.OneServer.{added_may, stands_idle, stands_committed}
 use Rattle.load_defs.proofs.Standing.{stands_held}
@@ -23,9 +27,9 @@ returns-in_err-commit-clause-fault g c =
     let s0 = c.args.sites.now in
     let laws = c.laws_of_worlds.ensures in
     let p = err_from_is_err_and c.from_residual-in_err-commit.result c.from_residual-in_err-commit.ensures.1 in
-    rw p.1 (λ raw w may is stands. elim c.in_err-commit.ensures.fault.held [
+    rw (p.1, p.2) (λ raw w may is stands. elim c.in_err-commit.ensures.fault.held [
       | inl before ↦ inl (stands_held (names s0) (held kept s0) (held kept c.commit.new.self) (load_first c.args.defs.now c.args.server w) (before ∙ c.in_ok-put_added.ensures.ok.held ∙ c.in_ok-begin.ensures.ok.held) stands)
-      | inr took ↦ inr (stands_committed raw w c.args.defs.now may c.args.server c.args.stored.now is kept s0 c.requires.server stands laws.sound laws.loaded laws.others laws.rows c.in_ok-rows.rows (c.in_ok-rows.ensures ∙ ap added_rows c.in_ok-added.ensures) c.begin.new.self c.put_added.new.sites _ c.in_ok-begin.ensures.ok c.in_ok-put_added.ensures.ok (held kept c.commit.new.self) took.1)
+      | inr took ↦ inr (took.0, stands_committed raw w c.args.defs.now may c.args.server c.args.stored.now is kept s0 c.requires.server stands laws.sound laws.loaded laws.others laws.rows c.in_ok-rows.rows (c.in_ok-rows.ensures ∙ ap added_rows c.in_ok-added.ensures) c.begin.new.self c.put_added.new.sites _ c.in_ok-begin.ensures.ok c.in_ok-put_added.ensures.ok (held kept c.commit.new.self) took.1)
     ])
 
 pub returns-in_err-commit-clause-blames : goal.returns-in_err-commit-clause-blames
@@ -40,9 +44,41 @@ returns-clause-ok g c = λ raw w may is stands.
     let laws = c.laws_of_worlds.ensures in
     stands_committed raw w c.args.defs.now may c.args.server c.args.stored.now is g.K.Keeper.kept c.args.sites.now c.requires.server stands laws.sound laws.loaded laws.others laws.rows c.in_ok-rows.rows (c.in_ok-rows.ensures ∙ ap added_rows c.in_ok-added.ensures) c.begin.new.self c.put_added.new.sites _ c.in_ok-begin.ensures.ok c.in_ok-put_added.ensures.ok (held g.K.Keeper.kept c.commit.new.self) c.in_ok-commit.ensures.ok.held
 
+pub returns-in_err-commit-clause-held : goal.returns-in_err-commit-clause-held
+returns-in_err-commit-clause-held g c =
+    let kept = g.K.Keeper.kept in
+    let s2 = c.put_added.new.sites in
+    let n = c.args.server in
+    let same = c.in_ok-put_added.ensures.ok.held ∙ c.in_ok-begin.ensures.ok.held in
+    let p = err_from_is_err_and c.from_residual-in_err-commit.result c.from_residual-in_err-commit.ensures.1 in
+    rw (p.1, p.2) (elim c.in_err-commit.ensures.fault.held [
+      | inl before ↦ inl (before ∙ same)
+      | inr took ↦ inr (n, sees kept s2 n, took.0, took.1 ∙ ap (λ (l : List (Option Contents)). set l n (sees kept s2 n)) same)
+    ])
+
 pub returns-clause-servers : goal.returns-clause-servers
-returns-clause-servers g c = record {
-  names = c.in_ok-commit.ensures.ok.passes.names ∙ c.in_ok-put_added.ensures.ok.passes.names ∙ c.in_ok-begin.ensures.ok.passes.names;
-  faults = λ s. omega (arith, c.in_ok-begin.ensures.ok.passes.faults s, c.in_ok-put_added.ensures.ok.passes.faults s, c.in_ok-commit.ensures.ok.passes.faults s);
-  closed = closed_again g.K.Keeper.kept c.args.sites.now c.begin.new.self c.put_added.new.sites c.args.server (λ d e. e ≡ with_added c.in_ok-rows.rows d) c.in_ok-begin.ensures.ok c.in_ok-put_added.ensures.ok.works (work g.K.Keeper.kept c.commit.new.self) c.requires.closed c.in_ok-commit.ensures.ok.work;
-}
+returns-clause-servers g c =
+    let kept = g.K.Keeper.kept in
+    let s1 = c.begin.new.self in
+    let s2 = c.put_added.new.sites in
+    passes_keeps kept c.args.sites.now s1 c.commit.new.self no_access c.in_ok-begin.ensures.ok.passes
+    (passes_keeps kept s1 s2 c.commit.new.self (added_written c.args.server c.in_ok-rows.rows) c.in_ok-put_added.ensures.ok.passes
+    (keeps_passed kept s2 c.commit.new.self no_access c.in_ok-commit.ensures.ok.passes
+    (closed_again kept c.args.sites.now s1 s2 c.args.server (λ d e. e ≡ with_added c.in_ok-rows.rows d) c.in_ok-begin.ensures.ok c.in_ok-put_added.ensures.ok.works (work kept c.commit.new.self) c.requires.closed c.in_ok-commit.ensures.ok.work)))
+
+pub returns-in_err-put_added-clause-servers : goal.returns-in_err-put_added-clause-servers
+returns-in_err-put_added-clause-servers g c =
+    let kept = g.K.Keeper.kept in
+    let s1 = c.begin.new.self in
+    let s2 = c.put_added.new.sites in
+    let closes = c.in_err-put_added.ensures.fault.closes in
+    passes_keeps kept c.args.sites.now s1 s2 no_access c.in_ok-begin.ensures.ok.passes (keeps_passed kept s1 s2 (added_written c.args.server c.in_ok-rows.rows) closes.passes closes.closed)
+
+pub returns-in_err-commit-clause-servers : goal.returns-in_err-commit-clause-servers
+returns-in_err-commit-clause-servers g c =
+    let kept = g.K.Keeper.kept in
+    let s1 = c.begin.new.self in
+    let s2 = c.put_added.new.sites in
+    let s3 = c.commit.new.self in
+    let doubt = c.in_err-commit.ensures.fault in
+    passes_keeps kept c.args.sites.now s1 s3 no_access c.in_ok-begin.ensures.ok.passes (passes_keeps kept s1 s2 s3 (added_written c.args.server c.in_ok-rows.rows) c.in_ok-put_added.ensures.ok.passes (keeps_passed kept s2 s3 no_access doubt.passes doubt.closed))

@@ -1,9 +1,10 @@
 -- Damage that a part of a run met, by the rules of one of its layers, and why the run ends.
-use Rattle.std.proofs.Common.{◌≡◌, ◌∙◌, ◌⊎◌, inl, inr, ℕ, List, [], ◌<◌, length, refl, sym, ap, subst}
+use Rattle.std.proofs.Common.{◌≡◌, ◌∙◌, inl, inr, ℕ, List, [], ◌<◌, length, refl, sym, ap, subst}
 use Rattle.std.specs.Prelude.{Option, Some, None, slice_index_or}
 use Rattle.std.proofs.lemmas.Option.{same_Some}
 use Rattle.repl_types.specs.declared.area.Area.{Area}
 use Rattle.repl_types.specs.declared.status.DamageCause.{DamageCause}
+use Rattle.repl_types.specs.declared.status.DamageCause.TheVariants as causes
 use Rattle.faults.specs.declared.fault.Fault.{Fault}
 use Rattle.faults.specs.declared.fault.Fault.TheVariants as faults
 use Rattle.keep_core.specs.Contents.{Contents}
@@ -11,7 +12,7 @@ use Rattle.keep_core.specs.Kept.{Kept, seen_of}
 use Rattle.repl_model.specs.World.{World}
 use Rattle.site_store.specs.Servers.{AllClosed}
 use Rattle.site_store.specs.Views.{names, held, work, sees}
-use Rattle.site_store.specs.Calls.{Bounds, KeepsServers, Blames, Fails}
+use Rattle.site_store.specs.Calls.{Bounds, IsRead, KeepsServers, Blames, Fails, HoldsOrInDoubt}
 use Rattle.site_store.specs.Damage.{Rules, joined, Shows, Damages, IsNoDamage}
 use Rattle.site_store.specs.laws.Damage.{shown_first, shown_second}
 use Rattle.site_store.specs.declared.sites.Sites.{Sites}
@@ -24,8 +25,7 @@ use Rattle.source_log.specs.Units.{table_rules}
 use Rattle.capture_core.specs.Rules.{rules as capture_rules}
 use Rattle.subs_sets.specs.Rules.{rules as set_rules}
 use Rattle.show_sets.specs.Rules.{rules as shown_rules}
-use Rattle.copy_targets.specs.Copies.{ShowsCopyDamage}
-use Rattle.run_commands.specs.parts.Causes.{PartHasCause}
+use Rattle.run_commands.specs.parts.Causes.{PartHasCause, FoundByRead}
 use Rattle.run_commands.specs.parts.Damage.{rules, ShowsDamage}
 use Rattle.run_commands.specs.parts.RunErrors.{error_of_fault}
 use Rattle.run_commands.specs.declared.parts.run_error.RunError.{RunError}
@@ -100,6 +100,37 @@ set_shown a cause saw shows = rest_of_capture a cause saw (shown_first set_rules
 pub sets_shown : IsShown shown_rules
 sets_shown a cause saw shows = rest_of_capture a cause saw (shown_second set_rules after_sets a cause saw (shown_second (table_rules []) shown_rules a cause saw shows))
 
+-- at damage nothing is in doubt: each server holds what it held
+pub undoubted : {K : Type 0} (kept : K → Kept) (s0 s1 : Sites K) (e : Fault) (n : ℕ) (a : Area) (cause : DamageCause) → e ≡ faults.Damaged n a cause → HoldsOrInDoubt kept s0 s1 e → held kept s1 ≡ held kept s0
+undoubted kept s0 s1 e n a cause met (inl same) = same
+undoubted kept s0 s1 e n a cause met (inr doubt) = never doubt.0 (sym met ∙ doubt.2)
+  where
+    never : (s : ℕ) → faults.Damaged n a cause ≡ faults.Keeper s → held kept s1 ≡ held kept s0
+    never s is = absurd cc
+
+-- damage that is shown was read
+pub shown_is_read : {K : Type 0} (kept : K → Kept) (sites : Sites K) (n : ℕ) (a : Area) (cause : DamageCause) → ShowsDamage kept sites n a cause → IsRead cause
+shown_is_read kept sites n a (causes.Spelling bytes) h = tt
+shown_is_read kept sites n a (causes.Absent key) h = tt
+shown_is_read kept sites n a (causes.Unfit bytes) h = tt
+shown_is_read kept sites n a (causes.NoRest steps) h = elim h.1 [
+  | inl by_rules ↦ absurd by_rules
+  | inr by_copies ↦ elim by_copies [
+    | inl of_source ↦ elim of_source [
+      | inl rows ↦ absurd rows
+      | inr changes ↦ absurd changes
+    ]
+    | inr of_target ↦ absurd of_target.1
+  ]
+]
+
+-- so a fault that it is reported by was found by a read
+pub fault_reads : {K : Type 0} (kept : K → Kept) (s0 s1 : Sites K) (damage : ℕ → Area → DamageCause → Type 0) → ((n : ℕ) (a : Area) (cause : DamageCause) → damage n a cause → ShowsDamage kept s0 n a cause) → (e : Fault) (error : RunError) → Some error ≡ error_of_fault e → Blames kept s0 s1 damage e → FoundByRead error
+fault_reads kept s0 s1 damage shown faults.Memory error is blames = rw (same_Some error errors.Memory is) tt
+fault_reads kept s0 s1 damage shown (faults.Keeper n) error is blames = rw (same_Some error (errors.KeeperFailed n) is) tt
+fault_reads kept s0 s1 damage shown (faults.Damaged n a cause) error is blames = rw (same_Some error (errors.Damaged n a cause) is) (shown_is_read kept s0 n a cause (shown n a cause blames.1))
+fault_reads kept s0 s1 damage shown (faults.Refused refusal) error is blames = absurd cc
+
 -- ---- why a part ends
 
 module _ {K : Type 0} (kept : K → Kept) (s0 s1 : Sites K) (closed : AllClosed (work kept s0)) (keeps : KeepsServers kept s0 s1) where
@@ -115,10 +146,18 @@ module _ {K : Type 0} (kept : K → Kept) (s0 s1 : Sites K) (closed : AllClosed 
   pub blamed_cause : (damage : ℕ → Area → DamageCause → Type 0) (before now : ℕ) (e : Fault) (error : RunError) → Some error ≡ error_of_fault e → Blames kept s0 s1 damage e → ((n : ℕ) (a : Area) (cause : DamageCause) → e ≡ faults.Damaged n a cause → damage n a cause → ShowsDamage kept s1 n a cause) → ((w : World) → Stands (names s0) (held kept s0) w → IsNoDamage e) → PartHasCause kept s0 s1 before now error
   blamed_cause damage before now faults.Memory error is blames shown none = rw (same_Some error errors.Memory is) (record { streams = tt; servers = tt })
   blamed_cause damage before now (faults.Keeper n) error is blames shown none = rw (same_Some error (errors.KeeperFailed n) is) (record { streams = tt; servers = blames })
-  blamed_cause damage before now (faults.Damaged n a cause) error is blames shown none = rw (same_Some error (errors.Damaged n a cause) is) (record {
-    streams = tt;
-    servers = ((λ read. shown n a cause refl blames.1), none);
-  })
+  blamed_cause damage before now (faults.Damaged n a cause) error is blames shown none =
+      let here = shown n a cause refl blames.1 in
+      rw (same_Some error (errors.Damaged n a cause) is) (record {
+        streams = tt;
+        servers = record {
+          server = subst (λ (l : List (List ℕ)). n < length l) keeps.names here.0;
+          read = blames.0;
+          shown = λ read. here;
+          rest = λ unread. absurd (unread (shown_is_read kept s1 n a cause here));
+          unsound = none;
+        };
+      })
   blamed_cause damage before now (faults.Refused refusal) error is blames shown none = absurd cc
 
   module _ (layer : Rules) (all : IsShown layer) (at : ℕ → Type 0) (below : (n : ℕ) → at n → n < length (names s0)) where
@@ -143,4 +182,4 @@ module _ {K : Type 0} (kept : K → Kept) (s0 s1 : Sites K) (closed : AllClosed 
   pub failed_cause : (most : Bounds) (before now : ℕ) (e : Fault) (error : RunError) → Some error ≡ error_of_fault e → Fails kept s0 s1 most (Damages (λ s. s < length (names s0)) layer kept s0) e → ((w : World) → Stands (names s0) (held kept s0) w → IsNoDamage e) → PartHasCause kept s0 s1 before now error
   failed_cause most before now e error is fails none =
       let closes = fails.closes in
-      fault_cause kept s0 s1 closed (record { names = closes.passes.names; faults = closes.passes.faults; closed = closes.closed }) layer all (λ s. s < length (names s0)) (λ n lt. lt) before now e error is fails.blames (λ n a cause same. closes.held) none
+      fault_cause kept s0 s1 closed (record { names = closes.passes.names; faults = closes.passes.faults; reads = closes.passes.reads; closed = closes.closed }) layer all (λ s. s < length (names s0)) (λ n lt. lt) before now e error is fails.blames (λ n a cause same. closes.held) none

@@ -1,10 +1,5 @@
 -- Facts at the exits of a function.
-use Rattle.std.specs.Prelude.{ℕ, List, Option, Some, None, Result, Ok, Err, OnErr, IfOk, IfErr}
-use Rattle.std.specs.Option.{IfSome}
-use Rattle.keep_core.specs.Contents.{Contents}
-use Rattle.repl_model.specs.World.{World}
-use Rattle.run_core.specs.Runs.{Event, Stopped}
-use Rattle.run_core.specs.laws.Runs.{stopped_before}
+use Rattle.std.specs.Prelude.{Result, Ok, Err, OnErr, IfOk, IfErr}
 
 -- what holds in any case holds at an error
 pub on_err : {T E P : Type 0} (r : Result T E) → P → OnErr r P
@@ -20,11 +15,6 @@ err_also (Err e) also p = also p
 pub ok_also : {T E : Type 0} {P Q : T → Type 0} (r : Result T E) → ((x : T) → P x → Q x) → IfOk r P → IfOk r Q
 ok_also (Ok x) also p = also x p
 ok_also (Err e) also p = tt
-
--- a run of which nothing happened yet
-pub nothing_yet : (Means : List (Option Contents) → World → Type 0) (input : Option (List ℕ)) (events : List ℕ → World → List (Event World)) (w : World) (h : List (Option Contents)) (t : Option (List ℕ)) → Means h w → IfSome input (λ bytes. Stopped Means (events bytes w) w h t t)
-nothing_yet Means None events w h t at = tt
-nothing_yet Means (Some bytes) events w h t at = stopped_before Means w (events bytes w) h t at
 
 -- the same of what holds of the error
 pub if_err_also : {T E : Type 0} {P Q : E → Type 0} (r : Result T E) → ((e : E) → P e → Q e) → IfErr r P → IfErr r Q

@@ -1,5 +1,5 @@
 -- Parts of a run that begin with reads.
-use Rattle.std.proofs.Common.{◌≡◌, ℕ, ◌<◌, List, length, Bool, true, refl, sym, subst, arith}
+use Rattle.std.proofs.Common.{◌≡◌, inl, ℕ, ◌<◌, List, length, Bool, true, refl, sym, subst, arith}
 use Rattle.std.specs.Prelude.{Option, Some, IsSome}
 use Rattle.repl_types.specs.declared.refusal.Refusal.{Refusal}
 use Rattle.faults.specs.declared.fault.Fault.{Fault}
@@ -8,21 +8,21 @@ use Rattle.keep_core.specs.Contents.{Contents}
 use Rattle.keep_core.specs.Kept.{Kept}
 use Rattle.keep_core.specs.Revealed.{Takes, TakesPrefix}
 use Rattle.repl_model.specs.World.{World}
-use Rattle.run_core.specs.Runs.{Event, Went, Stopped, lines_of, is_refused}
+use Rattle.run_core.specs.Runs.{Event, Went, Stopped, lines_of}
 use Rattle.run_core.specs.laws.Runs.{stopped_before}
 use Rattle.site_store.specs.Servers.{AllClosed}
-use Rattle.site_store.specs.Views.{names, held, work}
+use Rattle.site_store.specs.Views.{names, held, work, sees}
 use Rattle.site_store.specs.Calls.{KeepsServers, Blames}
 use Rattle.site_store.specs.Damage.{Rules, Damages, IsNoDamage}
 use Rattle.site_store.specs.declared.sites.Sites.{Sites}
 use Rattle.server_steps.specs.Calls.{Looks, Stops}
 use Rattle.world_store.specs.Stands.{Stands}
-use Rattle.run_commands.specs.parts.Causes.{PartHasCause}
+use Rattle.run_commands.specs.parts.Causes.{PartHasCause, FoundByRead}
 use Rattle.run_commands.specs.parts.Parts.{Happened, StoppedIn}
 use Rattle.run_commands.specs.parts.Refusing.{refused}
 use Rattle.run_commands.specs.parts.RunErrors.{error_of_fault}
 use Rattle.run_commands.specs.declared.parts.run_error.RunError.{RunError}
-use Rattle.run_commands.specs.parts.laws.Damage.{IsShown, fault_cause}
+use Rattle.run_commands.specs.parts.laws.Damage.{IsShown, fault_reads, fault_cause}
 use Rattle.run_commands.specs.parts.laws.Parts.{happened_as, stopped_as, refusal_written, refusal_begun, keeps_both, later_cause}
 
 module _ {K : Type 0} (kept : K → Kept) (s0 s1 : Sites K) where
@@ -31,7 +31,7 @@ module _ {K : Type 0} (kept : K → Kept) (s0 s1 : Sites K) where
   module _ (looks : Looks kept s0 s1) where
     -- they keep the servers
     pub looked_keeps : AllClosed (work kept s0) → KeepsServers kept s0 s1
-    looked_keeps closed = record { names = looks.stays.passes.names; faults = looks.stays.passes.faults; closed = subst AllClosed (sym looks.stays.work) closed }
+    looked_keeps closed = record { names = looks.stays.passes.names; faults = looks.stays.passes.faults; reads = looks.stays.passes.reads; closed = subst AllClosed (sym looks.stays.work) closed }
 
     -- and the world for which these stand
     pub looked_stands : (w : World) → Stands (names s0) (held kept s0) w → Stands (names s1) (held kept s1) w
@@ -84,7 +84,7 @@ module _ {K : Type 0} (kept : K → Kept) (s0 s1 : Sites K) where
   module _ (layer : Rules) (all : IsShown layer) (at : ℕ → Type 0) (below : (n : ℕ) → at n → n < length (names s0)) (e : Fault) (stops : Stops kept s0 s1 (Damages at layer kept s0) e) where
     -- they keep the servers
     pub stops_keeps : AllClosed (work kept s1) → KeepsServers kept s0 s1
-    stops_keeps closed = record { names = stops.passes.names; faults = stops.passes.faults; closed = closed }
+    stops_keeps closed = record { names = stops.passes.names; faults = stops.passes.faults; reads = stops.passes.reads; closed = closed }
 
     -- nothing was done
     pub stops_before : (t : Option (List ℕ)) (events : World → List (Event World)) → StoppedIn kept s0 s1 t t events
@@ -99,6 +99,10 @@ module _ {K : Type 0} (kept : K → Kept) (s0 s1 : Sites K) where
         pick (faults.Keeper s) blames = refl
         pick (faults.Damaged s a cause) blames = refl
         pick (faults.Refused refusal) blames = absurd blames
+
+    -- what it found was read
+    pub stops_reads : (error : RunError) → Some error ≡ error_of_fault e → FoundByRead error
+    stops_reads error is = fault_reads kept s0 s1 (Damages at layer kept s0) (λ n a cause h. (below n h.0, inl (all a cause (sees kept s0 n) h.1))) e error is stops.blames
 
     -- why the run ends
     pub stops_cause : AllClosed (work kept s0) → AllClosed (work kept s1) → ((w : World) → Stands (names s0) (held kept s0) w → IsNoDamage e) → (before now : ℕ) (error : RunError) → Some error ≡ error_of_fault e → PartHasCause kept s0 s1 before now error

@@ -1,8 +1,10 @@
 -- Parts of a run: what is said of them at the names that the servers had at the beginning, and parts that only write.
-use Rattle.std.proofs.Common.{◌≡◌, ◌≤◌, ◌∙◌, ◌||◌, ℕ, List, [], ◌∷◌, Bool, true, false, refl, sym, ap₂, subst, arith}
+use Rattle.std.proofs.Common.{◌≡◌, ◌<◌, ◌≤◌, ◌∙◌, ◌||◌, ℕ, List, [], ◌∷◌, length, Bool, true, false, refl, sym, ap₂, subst, arith}
 use Rattle.std.specs.Prelude.{Option}
 use Rattle.std.proofs.lemmas.List.{append-nil}
+use Rattle.repl_types.specs.declared.area.Area.{Area}
 use Rattle.repl_types.specs.declared.refusal.Refusal.{Refusal}
+use Rattle.repl_types.specs.declared.status.DamageCause.{DamageCause}
 use Rattle.keep_core.specs.Contents.{Contents}
 use Rattle.keep_core.specs.Kept.{Kept}
 use Rattle.keep_core.specs.Revealed.{Takes, TakesPrefix}
@@ -16,7 +18,7 @@ use Rattle.site_store.specs.Views.{names, held, work}
 use Rattle.site_store.specs.Calls.{KeepsServers}
 use Rattle.site_store.specs.declared.sites.Sites.{Sites}
 use Rattle.world_store.specs.Stands.{Stands}
-use Rattle.run_commands.specs.parts.Causes.{PartHasCause, IsOfOutput}
+use Rattle.run_commands.specs.parts.Causes.{MetDamage, PartHasCause, FoundByRead, IsOfOutput}
 use Rattle.run_commands.specs.parts.Parts.{then_events, Happened, StoppedIn}
 use Rattle.run_commands.specs.parts.Refusing.{refused}
 use Rattle.run_commands.specs.declared.parts.run_error.RunError.{RunError}
@@ -56,7 +58,7 @@ module _ {K : Type 0} (kept : K → Kept) (s0 s1 : Sites K) (same : held kept s1
 module _ {K : Type 0} (kept : K → Kept) (s : Sites K) where
   -- servers that aren't touched are kept
   pub untouched : AllClosed (work kept s) → KeepsServers kept s s
-  untouched closed = record { names = refl; faults = λ n. omega arith; closed = closed }
+  untouched closed = record { names = refl; faults = λ n. omega arith; reads = λ a n lt. omega arith; closed = closed }
 
   -- nothing was done
   pub nothing_done : (t : Option (List ℕ)) (events : World → List (Event World)) → StoppedIn kept s s t t events
@@ -92,24 +94,45 @@ module _ {K : Type 0} (kept : K → Kept) (s0 s1 : Sites K) where
   output_cause before now (errors.KeeperFailed n) h = absurd h
   output_cause before now (errors.Damaged n a cause) h = absurd h
 
+-- it found no damage
+pub output_reads : (before now : ℕ) (e : RunError) → IsOfOutput before now e → FoundByRead e
+output_reads before now errors.Memory h = tt
+output_reads before now errors.InputFailed h = tt
+output_reads before now errors.InputTooLong h = tt
+output_reads before now errors.OutputFailed h = tt
+output_reads before now (errors.KeeperFailed n) h = tt
+output_reads before now (errors.Damaged n a cause) h = absurd h
+
 -- ---- two parts in turn
 
 module _ {K : Type 0} (kept : K → Kept) (s0 s1 s2 : Sites K) where
   -- both keep the servers
   pub keeps_both : KeepsServers kept s0 s1 → KeepsServers kept s1 s2 → KeepsServers kept s0 s2
-  keeps_both first second = record { names = second.names ∙ first.names; faults = λ n. omega (arith, first.faults n, second.faults n); closed = second.closed }
+  keeps_both first second = record {
+    names = second.names ∙ first.names;
+    faults = λ n. omega (arith, first.faults n, second.faults n);
+    reads = λ a n lt. let later = second.reads a n lt in omega (arith, later, first.reads a n (omega (arith, later, lt)));
+    closed = second.closed;
+  }
 
-  -- why the second failed; if the servers stood for a world before the first, they did so after it
+  -- damage that the second met, both met; if the servers stood for a world before the first, they did so after it
+  pub met_later : (n : ℕ) (a : Area) (cause : DamageCause) → KeepsServers kept s0 s1 → ((w : World) → Stands (names s0) (held kept s0) w → (v : World) × Stands (names s0) (held kept s1) v) → MetDamage kept s1 s2 n a cause → MetDamage kept s0 s2 n a cause
+  met_later n a cause keeps stands met = record {
+    server = subst (λ (l : List (List ℕ)). n < length l) keeps.names met.server;
+    read = λ is lt. let rose = met.read is lt in omega (arith, rose, keeps.reads a n (omega (arith, rose, lt)));
+    shown = met.shown;
+    rest = met.rest;
+    unsound = λ w at. let now = stands w at in met.unsound now.0 (subst (λ (l : List (List ℕ)). Stands l (held kept s1) now.0) (sym keeps.names) now.1);
+  }
+
+  -- why the second failed
   pub later_cause : (before now later : ℕ) (e : RunError) → KeepsServers kept s0 s1 → ((w : World) → Stands (names s0) (held kept s0) w → (v : World) × Stands (names s0) (held kept s1) v) → before ≤ now → PartHasCause kept s1 s2 now later e → PartHasCause kept s0 s2 before later e
   later_cause before now later errors.Memory keeps stands le cause = record { streams = tt; servers = tt }
   later_cause before now later errors.InputFailed keeps stands le cause = record { streams = cause.streams; servers = tt }
   later_cause before now later errors.InputTooLong keeps stands le cause = record { streams = cause.streams; servers = tt }
   later_cause before now later errors.OutputFailed keeps stands le cause = record { streams = λ lt. omega (arith, cause.streams lt, le); servers = tt }
   later_cause before now later (errors.KeeperFailed n) keeps stands le cause = record { streams = tt; servers = λ lt. omega (arith, cause.servers lt, keeps.faults n) }
-  later_cause before now later (errors.Damaged n a c) keeps stands le cause = record {
-    streams = tt;
-    servers = (cause.servers.0, λ w at. let now = stands w at in cause.servers.1 now.0 (subst (λ (names : List (List ℕ)). Stands names (held kept s1) now.0) (sym keeps.names) now.1));
-  }
+  later_cause before now later (errors.Damaged n a c) keeps stands le cause = record { streams = tt; servers = met_later n a c keeps stands cause.servers }
 
   module _ (same : names s1 ≡ names s0) (t u v : Option (List ℕ)) (first second : World → List (Event World)) where
     -- both happened

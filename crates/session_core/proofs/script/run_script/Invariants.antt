@@ -12,7 +12,7 @@ use Rattle.session_core.proofs.script.run_script.Given as goal
 
 abbrev pub invariant-loop-bodies : goal.invariant-loop-bodies
 invariant-loop-bodies g l = record {
-  going : (w : World) → Stands (names l.fn.sites) (held g.K.Keeper.kept l.fn.sites) w → GoesOn (Stands (names l.fn.sites)) (g.I.Source.left l.fn.input) w l.bodies (lines_left l.script (g.I.Source.left l.input)) (held g.K.Keeper.kept l.sites) (g.O.Sink.taken l.fn.output) (g.O.Sink.taken l.output) l.refused;
+  going : (w : World) → Stands (names l.fn.sites) (held g.K.Keeper.kept l.fn.sites) w → GoesOn (Stands (names l.fn.sites)) (g.I.Source.left l.fn.input) w l.bodies (line_number l.script) (lines_left l.script (g.I.Source.left l.input)) (held g.K.Keeper.kept l.sites) (g.O.Sink.taken l.fn.output) (g.O.Sink.taken l.output) l.refused;
   servers : KeepsServers g.K.Keeper.kept l.fn.sites l.sites;
   none : next_kind l.script ≡ None;
   keeps : KeepsBodies (line_number l.script + 1) l.bodies;

@@ -1,5 +1,5 @@
 -- What is done at what is read of an input: a line within the limit, one over it, or the end.
-use Rattle.std.specs.Prelude.{◌≡◌, ◌≤◌, ℕ, ◌+◌, Bool, true, false, ◌||◌, if◌then◌else◌, List, [], length, Option, Some, None, is_none}
+use Rattle.std.specs.Prelude.{◌≡◌, ◌≤◌, ℕ, ◌+◌, Bool, true, false, ◌||◌, List, [], length, Option, Some, None, is_none}
 use Rattle.std.specs.Option.{IfSome}
 use Rattle.keep_core.specs.Kept.{Kept}
 use Rattle.line_input.specs.declared.input.Next.{Next}
@@ -11,25 +11,15 @@ use Rattle.site_store.specs.Views.{names, held}
 use Rattle.site_store.specs.declared.sites.Sites.{Sites}
 use Rattle.world_store.specs.Stands.{Stands}
 use Rattle.run_commands.specs.feed.Feeds.{IsFeed}
-use Rattle.run_commands.specs.feed.FeedEvents.{feed_line_events, feed_after, refused_events, feed_end_events}
+use Rattle.run_commands.specs.feed.FeedEvents.{refused_events, feed_end_events}
 use Rattle.run_commands.specs.declared.feed.feed.Feed.{Feed}
-use Rattle.session_core.specs.copy.fed.FedInput.{is_blank}
+use Rattle.session_core.specs.FedLines.{short_line_events, short_line_after}
 
 -- it is the end
 abbrev pub is_end : Next → Bool
 is_end End = true
 is_end Line = false
 is_end LongLine = false
-
--- ---- a line within the limit
-
--- what is done at it: a blank one is skipped
-abbrev pub short_line_events : Feed → ℕ → List ℕ → World → List (Event World)
-short_line_events feed number line w = if is_blank line then [] else feed_line_events feed number line w
-
--- the feed after it, None if something was refused
-abbrev pub short_line_after : Feed → ℕ → List ℕ → World → Option Feed
-short_line_after feed number line w = if is_blank line then Some feed else feed_after feed number line w
 
 -- ---- what was read
 

@@ -1,6 +1,6 @@
 //! The lines of an input, fed one after another.
 
-ghost use Rattle.std.specs.Prelude.{◌≡◌, ◌≤◌, IfOk, IfErr, IfSome, OnErr, OnOk};
+ghost use Rattle.std.specs.Prelude.{◌≡◌, ◌≤◌, IfOk, IfErr, OnErr};
 ghost use Rattle.repl_model.specs.World.{World};
 ghost use Rattle.run_core.specs.Runs.{Went, Stopped, is_refused};
 ghost use Rattle.site_store.specs.Servers.{AllClosed};
@@ -9,6 +9,7 @@ ghost use Rattle.site_store.specs.Calls.{KeepsServers};
 ghost use Rattle.world_store.specs.Stands.{Stands};
 ghost use Rattle.run_commands.specs.parts.Causes.{BlamesServers, HasEnded};
 ghost use Rattle.run_commands.specs.parts.ExitStatus.{status_of_error};
+ghost use Rattle.session_core.specs.Inputs.{OfInput};
 ghost use Rattle.session_core.specs.copy.fed.FedInput.{input_events};
 
 use crate::copy::fed::lines::{end_lines, feed_next, is_end};
@@ -32,14 +33,12 @@ pub fn feed_input<K: Keeper, I: Source, O: Sink>(
 ) -> Result<bool, RunError>
     requires { AllClosed (work K.kept sites.old) }
     ensures ok { IfOk result (λ refused. (w : World)
-        → Stands (names sites.old) (held K.kept sites.old) w → IfSome (I.left input.old) (λ bytes.
+        → Stands (names sites.old) (held K.kept sites.old) w → OfInput (I.left input.old) (λ bytes.
         Went (Stands (names sites.old)) (input_events server bytes w) w (held K.kept sites.new)
         (O.taken output.old) (O.taken output.new)
         × (refused ≡ is_refused (input_events server bytes w)))) }
-    ensures stands { OnOk result ((w : World) → Stands (names sites.old) (held K.kept sites.old) w
-        → (v : World) × Stands (names sites.old) (held K.kept sites.new) v) }
     ensures stopped { OnErr result ((w : World)
-        → Stands (names sites.old) (held K.kept sites.old) w → IfSome (I.left input.old) (λ bytes.
+        → Stands (names sites.old) (held K.kept sites.old) w → OfInput (I.left input.old) (λ bytes.
         Stopped (Stands (names sites.old)) (input_events server bytes w) w
         (held K.kept sites.new) (O.taken output.old) (O.taken output.new))) }
     ensures ended { HasEnded (I.left input.old) (I.left input.new) (I.faults input.old)

@@ -11,15 +11,15 @@ ghost use Rattle.site_store.specs.Servers.{AllClosed};
 ghost use Rattle.site_store.specs.Views.{work};
 ghost use Rattle.run_commands.specs.feed.Feeds.{IsFeed};
 ghost use Rattle.run_commands.specs.feed.FeedEvents.{refused_events};
-ghost use Rattle.session_core.specs.copy.fed.FedInput.{is_blank as is_blank_lem};
-ghost use Rattle.session_core.specs.copy.fed.Lines.{short_line_events, short_line_after, read_events};
-ghost use Rattle.session_core.specs.copy.fed.Lines.{read_after, next_events, next_after, end_events};
+ghost use Rattle.session_core.specs.copy.fed.Lines.{read_events, read_after};
+ghost use Rattle.session_core.specs.copy.fed.Lines.{next_events, next_after, end_events};
 ghost use Rattle.session_core.specs.copy.fed.Lines.{HappenedAfter, Feeds, is_end as is_end_lem};
 
+use crate::fed_lines::feed_short_line;
 use keep_core::{Keeper, Sink};
 use line_input::Next;
 use repl_types::Refusal;
-use run_commands::feed::{Feed, end_feed, feed_line, refuse_line};
+use run_commands::feed::{Feed, end_feed, refuse_line};
 use run_commands::parts::RunError;
 use site_store::Sites;
 use std::alloc::Global;
@@ -29,43 +29,6 @@ pub fn is_end(next: Next) -> bool
     ensures { result ≡ is_end_lem next }
 {
     matches!(next, Next::End)
-}
-
-/// Whether a line consists of blanks, or is empty.
-fn is_blank(line: &[u8]) -> bool
-    ensures { result ≡ is_blank_lem line.now }
-{
-    line.iter().all(|byte| *byte == b' ')
-}
-
-/// Feeds a line within the limit, unless it is blank, and answers the feed after it, or `None` if
-/// something was refused.
-fn feed_short_line<K: Keeper, O: Sink>(
-    alloc: Global,
-    sites: &mut Sites<K>,
-    output: &mut O,
-    feed: Feed,
-    number: u64,
-    line: &[u8],
-) -> Result<Option<Feed>, RunError>
-    requires closed { AllClosed (work K.kept sites.old) }
-    requires feed { IsFeed feed }
-    requires later { feed.fed + length feed.records < number }
-    requires few { number ≤ input_limit }
-    ensures ok { IfOk result (Feeds K.kept sites.old sites.new (O.taken output.old)
-        (O.taken output.new) false (short_line_events feed number line.now)
-        (short_line_after feed number line.now) number) }
-    ensures stopped { OnErr result (StoppedIn K.kept sites.old sites.new (O.taken output.old)
-        (O.taken output.new) (short_line_events feed number line.now)) }
-    ensures servers { KeepsServers K.kept sites.old sites.new }
-    ensures cause { IfErr result (PartHasCause K.kept sites.old sites.new (O.faults output.old)
-        (O.faults output.new)) }
-    ensures counts { O.faults output.old ≤ O.faults output.new }
-{
-    if is_blank(line) {
-        return Ok(Some(feed));
-    }
-    feed_line(alloc, sites, output, feed, number, line)
 }
 
 /// Refuses a line over the limit, after the records before it are committed.

@@ -1,6 +1,6 @@
 use Rattle.std.proofs.Common.{true, ◌+◌, ◌≤◌, ◌<◌, ◌++◌, ◌∷◌, [], length, Ok, ap, ◌∙◌, arith}
 use Rattle.line_input.specs.Input.{left_of, budget, kept_limit}
-use Rattle.line_input.proofs.LineBytes.{parts-pushed, kept_over, line_read_more, kept-pushed, kept-passed, read_to_feed, read_to_end, some_read}
+use Rattle.line_input.proofs.LineBytes.{parts-pushed, kept_over, line_read_more, kept-pushed, kept-passed, read_to_feed, read_to_end, some_read, text_at_feed, text_at_end}
 use Rattle.line_input.proofs.input.Input.next_line.Goals as goal
 
 pub returns-then-byte-eq10-clause-line : goal.returns-then-byte-eq10-clause-line
@@ -41,7 +41,7 @@ loop-byte-preserved g c =
 pub returns-clause-line : goal.returns-clause-line
 returns-clause-line g c =
     let read = c.loop-byte.invariant.line in
-    let ends = rw c.deref.ensures.value at c.last.ensures.ends in
+    let ends = rw c.deref.ensures.value at c.last.ensures in
     read_to_end c.last.result c.loop-byte.line.items (left_of c.args.self.now (g.I.Source.left c.args.source.now)) (left_of c.loop-byte.self (g.I.Source.left c.loop-byte.source)) (left_of c.next_byte.new.self (g.I.Source.left c.next_byte.new.source))
     read.so_far read.plain read.parts (rw c.in_default.is at c.in_ok-byte.ensures.left) (c.next_byte.ensures.end (c.in_ok-byte.was ∙ ap Ok c.in_default.is)) (ends read.so_far read.kept)
 
@@ -76,9 +76,20 @@ returns-then-byte-eq10-clause-cause g c = record {
 pub returns-clause-spends : goal.returns-clause-spends
 returns-clause-spends g c =
     let read = c.loop-byte.invariant.line in
-    let ends = rw c.deref.ensures.value at c.last.ensures.ends in
+    let ends = rw c.deref.ensures.value at c.last.ensures in
     let fewer : budget c.next_byte.new.self ≤ budget c.loop-byte.self = omega (arith, c.in_ok-byte.ensures.budget) in
     record {
       total = c.in_ok-byte.ensures.total ∙ c.loop-byte.invariant.total;
       budget = λ ne. let some = some_read c.last.result c.loop-byte.line.items read.so_far (ends read.so_far read.kept) ne in omega (arith, read.spent);
     }
+
+pub returns-then-byte-eq10-clause-whole : goal.returns-then-byte-eq10-clause-whole
+returns-then-byte-eq10-clause-whole g c =
+    let read = c.loop-byte.invariant.line in
+    text_at_feed c.end_line.result c.end_line.new.line.items read.so_far read.plain (c.end_line.ensures.ends read.so_far read.kept)
+
+pub returns-clause-whole : goal.returns-clause-whole
+returns-clause-whole g c =
+    let read = c.loop-byte.invariant.line in
+    let ends = rw c.deref.ensures.value at c.last.ensures in
+    text_at_end c.last.result c.loop-byte.line.items read.so_far read.plain (ends read.so_far read.kept)

@@ -1,4 +1,4 @@
-use Rattle.std.proofs.Common.{List, sym, subst, arith}
+use Rattle.std.proofs.Common.{ℕ, ◌<◌, List, length, sym, subst, arith}
 use Rattle.std.specs.Prelude.{Option}
 use Rattle.std.proofs.lemmas.Result.{err_from_is_err_and}
 use Rattle.keep_core.specs.Contents.{Contents}
@@ -10,6 +10,7 @@ use Rattle.run_commands.specs.parts.laws.Exits.{on_err, err_also, ok_also, if_er
 use Rattle.run_commands.specs.parts.laws.Looking.{happened_looked, stopped_looked, keeps_after, cause_looked}
 use Rattle.run_commands.specs.apply.StepEvents.{apply_events}
 use Rattle.run_commands.proofs.FoundApplying.{may_make}
+use Rattle.run_commands.proofs.ToldSteps.{tells_none}
 use Rattle.run_commands.proofs.apply.applies.apply_found.Goals as goal
 
 pub most_of-requires : goal.most_of-requires
@@ -31,6 +32,7 @@ returns-in_err-most g c =
       ok = rw p.1 tt;
       stopped = on_err c.from_residual.result (λ (w : World) (stands : Stands (names s0) (held kept s0) w).
           stopped_before (Stands (names s0)) w (apply_events c.args.number c.args.id.now w) (held kept s1) (g.O.Sink.taken c.args.output.now) (subst (λ (h : List (Option Contents)). Stands (names s0) h w) (sym c.in_err-most.ensures.stopped) stands));
+      no_rest = rw (p.1, p.2) (tells_none (g.O.Sink.taken c.args.output.now) (g.O.Sink.taken c.args.output.now) c.args.set.now.source c.in_err-most.field-0.0 c.in_err-most.ensures.read);
       servers = c.most_of.ensures.servers;
       cause = rw (p.1, p.2) (c.in_err-most.ensures.cause count);
       counts = omega arith;
@@ -40,6 +42,7 @@ returns-in_err-most g c =
 pub make_steps-requires : goal.make_steps-requires
 make_steps-requires g c = record {
   closed = c.most_of.ensures.servers.closed;
+  source = subst (λ (l : List (List ℕ)). c.args.set.now.source < length l) (sym c.most_of.ensures.servers.names) c.requires.placed.source.within;
   most = may_make g.K.Keeper.kept c.args.sites.now c.most_of.new.sites c.in_ok-most.ensures.ok c.args.id.now c.args.set.now c.requires.known c.in_ok-most.most c.in_ok-most.ensures.most;
 }
 
@@ -57,6 +60,7 @@ returns g c =
     record {
       ok = ok_also r (happened_looked kept s0 s1 looks s2 t u events) c.make_steps.ensures.ok;
       stopped = err_also r (stopped_looked kept s0 s1 looks s2 t u events) c.make_steps.ensures.stopped;
+      no_rest = c.make_steps.ensures.no_rest;
       servers = keeps_after kept s0 s1 looks c.requires.closed s2 c.make_steps.ensures.servers;
       cause = if_err_also r (cause_looked kept s0 s1 looks c.requires.closed s2 (g.O.Sink.faults c.args.output.now) (g.O.Sink.faults c.make_steps.new.output)) c.make_steps.ensures.cause;
       counts = c.make_steps.ensures.counts;

@@ -9,10 +9,10 @@ use Rattle.set_places.specs.Places.{IsPlaced, IsKnownAs}
 use Rattle.set_places.specs.declared.placed_set.PlacedSet.{PlacedSet}
 use Rattle.run_commands.specs.parts.laws.Damage.{stored_shown}
 use Rattle.run_commands.specs.parts.laws.Exits.{err_also, ok_also, if_err_also}
-use Rattle.run_commands.specs.parts.laws.Looking.{looked_keeps, happened_looked, stopped_looked, refused_after, begun_after, closed_after, keeps_after, cause_looked, stops_keeps, stops_before, stops_run, stops_cause}
-use Rattle.run_commands.specs.parts.laws.Parts.{output_cause}
+use Rattle.run_commands.specs.parts.laws.Looking.{looked_keeps, happened_looked, stopped_looked, refused_after, begun_after, closed_after, keeps_after, cause_looked, stops_keeps, stops_before, stops_run, stops_reads, stops_cause}
+use Rattle.run_commands.specs.parts.laws.Parts.{output_cause, output_reads}
 use Rattle.run_commands.specs.apply.StepEvents.{apply_events}
-use Rattle.run_commands.proofs.FoundApplying.{unknown_applied}
+use Rattle.run_commands.proofs.FoundApplying.{unknown_applied, placed_before}
 use Rattle.run_commands.proofs.MadeSteps.{known_after}
 use Rattle.run_commands.proofs.apply.applies.apply_set.Goals as goal
 
@@ -35,6 +35,7 @@ returns-in-Err g c =
     record {
       ok = tt;
       stopped = stops_before kept s0 s1 stored_rules stored_shown here (λ n lt. lt) e f (g.O.Sink.taken c.args.output.now) (apply_events c.args.number c.args.id.now);
+      no_rest = λ unread. absurd (unread (stops_reads kept s0 s1 stored_rules stored_shown here (λ n lt. lt) e f c.error_of_fault.result c.error_of_fault.ensures));
       servers = stops_keeps kept s0 s1 stored_rules stored_shown here (λ n lt. lt) e f c.in-Err.ensures.closed;
       cause = stops_cause kept s0 s1 stored_rules stored_shown here (λ n lt. lt) e f c.requires c.in-Err.ensures.closed c.in-Err.ensures.undamaged count count c.error_of_fault.result c.error_of_fault.ensures;
       counts = omega arith;
@@ -66,9 +67,11 @@ returns-in-Some g c =
     let r = c.apply_found.result in
     let t = g.O.Sink.taken c.args.output.now in
     let u = g.O.Sink.taken c.apply_found.new.output in
+    let placed = subst (λ (found : Option PlacedSet). IfSome found (IsPlaced kept s1)) c.in-Some.is c.in-Ok.ensures.placed in
     record {
       ok = ok_also r (happened_looked kept s0 s1 looks s2 t u events) c.apply_found.ensures.ok;
       stopped = err_also r (stopped_looked kept s0 s1 looks s2 t u events) c.apply_found.ensures.stopped;
+      no_rest = if_err_also r (λ e tells. λ unread. (c.in-Some.set, placed_before kept s0 s1 looks c.in-Some.set placed, tells)) c.apply_found.ensures.no_rest;
       servers = keeps_after kept s0 s1 looks c.requires s2 c.apply_found.ensures.servers;
       cause = if_err_also r (cause_looked kept s0 s1 looks c.requires s2 (g.O.Sink.faults c.args.output.now) (g.O.Sink.faults c.apply_found.new.output)) c.apply_found.ensures.cause;
       counts = c.apply_found.ensures.counts;
@@ -92,6 +95,7 @@ returns-in-None g c =
     record {
       ok = ok_also r (refused_after kept s0 s1 looks t u refusal (apply_events number id) same) c.refuse_set.ensures.ok;
       stopped = err_also r (begun_after kept s0 s1 looks t u refusal (apply_events number id) same) c.refuse_set.ensures.stopped;
+      no_rest = if_err_also r (λ e out. λ unread. absurd (unread (output_reads (g.O.Sink.faults c.args.output.now) (g.O.Sink.faults c.refuse_set.new.output) e out))) c.refuse_set.ensures.cause;
       servers = looked_keeps kept s0 s1 looks c.requires;
       cause = if_err_also r (output_cause kept s0 s1 (g.O.Sink.faults c.args.output.now) (g.O.Sink.faults c.refuse_set.new.output)) c.refuse_set.ensures.cause;
       counts = c.refuse_set.ensures.counts;

@@ -3,7 +3,7 @@ use Rattle.site_store.specs.Views.{names}
 use Rattle.server_steps.specs.laws.Reads.{looks_none}
 use Rattle.subs_sets.specs.Rules.{source_rules}
 use Rattle.target_steps.specs.laws.AtServers.{captured_undamaged}
-use Rattle.run_commands.specs.parts.laws.Looking.{looked_keeps, stops_keeps, stops_run, stops_cause}
+use Rattle.run_commands.specs.parts.laws.Looking.{looked_keeps, stops_keeps, stops_run, stops_reads, stops_cause}
 use Rattle.run_commands.proofs.MostSteps.{most_is}
 use Rattle.run_commands.proofs.StepDamage.{source_shown}
 use Rattle.run_commands.proofs.apply.applies.most_of.Goals as goal
@@ -20,6 +20,7 @@ returns-in-Ok g c =
       ok = c.in-Ok.ensures.ok;
       most = most_is kept s0 c.args.set.now c.requires.closed c.in-Ok.point c.saturating_add.result c.in-Ok.ensures.point c.saturating_add.ensures;
       stopped = tt;
+      read = tt;
       servers = looked_keeps kept s0 s1 c.in-Ok.ensures.ok c.requires.closed;
       cause = λ count. tt;
     }
@@ -44,6 +45,7 @@ returns-in-Err g c =
       ok = tt;
       most = tt;
       stopped = f.held;
+      read = stops_reads kept s0 s1 source_rules source_shown here within e f c.error_of_fault.result c.error_of_fault.ensures;
       servers = stops_keeps kept s0 s1 source_rules source_shown here within e f c.in-Err.ensures.closed;
       cause = λ count. stops_cause kept s0 s1 source_rules source_shown here within e f c.requires.closed c.in-Err.ensures.closed (λ w stands. let one = c.requires.known w stands in captured_undamaged kept set s0 s0 c.requires.closed w one.0 stands one.1 (looks_none kept s0) s1 e f) count count c.error_of_fault.result c.error_of_fault.ensures;
     }

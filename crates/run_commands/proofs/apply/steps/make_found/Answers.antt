@@ -9,14 +9,15 @@ use Rattle.world_store.specs.Stands.{Stands}
 use Rattle.set_places.specs.Places.{IsPlacedAs, IsReadOnly}
 use Rattle.apply_cycle.specs.Stepping.{HasFailed}
 use Rattle.run_commands.specs.parts.laws.Exits.{err_also, ok_also, if_err_also}
-use Rattle.run_commands.specs.parts.laws.Parts.{output_cause}
+use Rattle.run_commands.specs.parts.laws.Parts.{output_cause, output_reads}
 use Rattle.run_commands.specs.apply.Progress.{line_told, Progressed}
 use Rattle.run_commands.specs.apply.StepEvents.{outcome_of}
 use Rattle.run_commands.specs.declared.apply.steps.Progress.{Progress}
 use Rattle.run_commands.proofs.Applying.{not_replicas}
 use Rattle.run_commands.proofs.FoundSets.{is_read_only, takes_each, may_have_made}
 use Rattle.run_commands.proofs.Outcomes.{source_name, told_step, began_told, wrote_refusal, began_refusal, failed_step}
-use Rattle.run_commands.proofs.StepDamage.{step_cause}
+use Rattle.run_commands.proofs.StepDamage.{step_reads, step_cause}
+use Rattle.run_commands.proofs.ToldSteps.{told_line, no_line}
 use Rattle.run_commands.proofs.apply.steps.make_found.Goals as goal
 
 pub step-requires-clause-read_only : goal.step-requires-clause-read_only
@@ -40,6 +41,8 @@ returns-in-Ok g c =
       stopped = err_also c.tell_step.result (λ wrote. λ w k stands placed read_only.
           began_told kept s0 s1 w k (at_place_in w set.source k.source placed.source) set.source t u stepped (made w k stands placed read_only)
           (subst (λ (name : List ℕ). TakesPrefix t u (line_told name stepped)) (source_name w k set stands.sound placed) wrote)) c.tell_step.ensures.stopped;
+      lines = ok_also c.tell_step.result (λ progress wrote. told_line t u set.at_source.def.source stepped progress wrote.0 wrote.1) c.tell_step.ensures.ok;
+      read = if_err_also c.tell_step.result (output_reads (g.O.Sink.faults c.args.output.now) (g.O.Sink.faults c.tell_step.new.output)) c.tell_step.ensures.cause;
       servers = c.step.ensures.servers;
       cause = if_err_also c.tell_step.result (output_cause kept s0 s1 (g.O.Sink.faults c.args.output.now) (g.O.Sink.faults c.tell_step.new.output)) c.tell_step.ensures.cause;
       counts = c.tell_step.ensures.counts;
@@ -64,6 +67,8 @@ returns-in-Err-Refused g c =
       stopped = err_also c.refuse_step.result (λ wrote. λ w k stands placed read_only.
           let f = failed w k stands placed read_only in
           began_refusal kept s0 s1 w k (at_place_in w set.source k.source placed.source) refusal t u f.0 f.1 wrote) c.refuse_step.ensures.stopped;
+      lines = ok_also c.refuse_step.result (λ progress wrote. no_line t u progress wrote.0) c.refuse_step.ensures.ok;
+      read = if_err_also c.refuse_step.result (output_reads (g.O.Sink.faults c.args.output.now) (g.O.Sink.faults c.refuse_step.new.output)) c.refuse_step.ensures.cause;
       servers = c.step.ensures.servers;
       cause = if_err_also c.refuse_step.result (output_cause kept s0 s1 (g.O.Sink.faults c.args.output.now) (g.O.Sink.faults c.refuse_step.new.output)) c.refuse_step.ensures.cause;
       counts = c.refuse_step.ensures.counts;
@@ -82,6 +87,8 @@ returns-in-Err g c =
     record {
       ok = tt;
       stopped = λ w k stands placed read_only. failed_step kept s0 s1 w k (at_place_in w set.source k.source placed.source) e (g.O.Sink.taken c.args.output.now) (may w k stands placed read_only);
+      lines = tt;
+      read = step_reads kept s0 s1 set c.requires.placed c.requires.closed c.step.ensures.servers e c.error_of_fault.result c.error_of_fault.ensures c.in-Err.ensures.blames;
       servers = c.step.ensures.servers;
       cause = step_cause kept s0 s1 set c.requires.placed c.requires.closed c.step.ensures.servers count count e c.error_of_fault.result c.error_of_fault.ensures c.in-Err.ensures.blames
           (λ w stands. let k = c.requires.known w stands in (may w k.0 stands k.1 (is_read_only set c.requires.carried_out w k.0 k.1)).undamaged);

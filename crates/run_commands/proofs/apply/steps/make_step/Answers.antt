@@ -9,11 +9,12 @@ use Rattle.set_places.specs.Places.{IsPlaced, IsKnownAs}
 use Rattle.set_places.specs.declared.placed_set.PlacedSet.{PlacedSet}
 use Rattle.run_commands.specs.parts.laws.Damage.{stored_shown}
 use Rattle.run_commands.specs.parts.laws.Exits.{err_also, ok_also, if_err_also}
-use Rattle.run_commands.specs.parts.laws.Looking.{looked_keeps, closed_after, keeps_after, cause_looked, stops_keeps, stops_before, stops_run, stops_cause}
-use Rattle.run_commands.specs.parts.laws.Parts.{output_cause}
+use Rattle.run_commands.specs.parts.laws.Looking.{looked_keeps, closed_after, keeps_after, cause_looked, stops_keeps, stops_before, stops_run, stops_reads, stops_cause}
+use Rattle.run_commands.specs.parts.laws.Parts.{output_cause, output_reads}
 use Rattle.run_commands.specs.apply.Progress.{step_of}
 use Rattle.run_commands.specs.apply.StepEvents.{outcome}
 use Rattle.run_commands.proofs.MadeSteps.{unknown_declined, stands_since, known_after, declined_here, declined_begun, progressed_later, stopped_later}
+use Rattle.run_commands.proofs.ToldSteps.{no_line}
 use Rattle.run_commands.proofs.apply.steps.make_step.Goals as goal
 
 -- the set wasn't looked for to the end
@@ -35,6 +36,8 @@ returns-in-Err g c =
     record {
       ok = tt;
       stopped = stops_before kept s0 s1 stored_rules stored_shown here (λ n lt. lt) e f (g.O.Sink.taken c.args.output.now) (λ w. step_of (outcome c.args.number c.args.id.now w));
+      lines = tt;
+      read = stops_reads kept s0 s1 stored_rules stored_shown here (λ n lt. lt) e f c.error_of_fault.result c.error_of_fault.ensures;
       servers = stops_keeps kept s0 s1 stored_rules stored_shown here (λ n lt. lt) e f c.in-Err.ensures.closed;
       cause = stops_cause kept s0 s1 stored_rules stored_shown here (λ n lt. lt) e f c.requires c.in-Err.ensures.closed c.in-Err.ensures.undamaged count count c.error_of_fault.result c.error_of_fault.ensures;
       counts = omega arith;
@@ -72,6 +75,8 @@ returns-in-Some g c =
     record {
       ok = ok_also r (progressed_later kept s0 s1 looks number id set known s2 t u) c.step_found.ensures.ok;
       stopped = err_also r (stopped_later kept s0 s1 looks number id set known s2 t u) c.step_found.ensures.stopped;
+      lines = c.step_found.ensures.lines;
+      read = c.step_found.ensures.read;
       servers = keeps_after kept s0 s1 looks c.requires s2 c.step_found.ensures.servers;
       cause = if_err_also r (cause_looked kept s0 s1 looks c.requires s2 (g.O.Sink.faults c.args.output.now) (g.O.Sink.faults c.step_found.new.output)) c.step_found.ensures.cause;
       counts = c.step_found.ensures.counts;
@@ -94,6 +99,8 @@ returns-in-None g c =
     record {
       ok = ok_also r (λ progress wrote. λ w stands. declined_here kept s0 s1 w (stands_since kept s0 s1 looks w stands) (outcome number id w) refusal (unknown_declined number id w (none w stands)) t u progress wrote) c.refuse_unknown.ensures.ok;
       stopped = err_also r (λ wrote. λ w stands. declined_begun kept s0 s1 w (stands_since kept s0 s1 looks w stands) (outcome number id w) refusal (unknown_declined number id w (none w stands)) t u wrote) c.refuse_unknown.ensures.stopped;
+      lines = ok_also r (λ progress wrote. no_line t u progress wrote.0) c.refuse_unknown.ensures.ok;
+      read = if_err_also r (output_reads (g.O.Sink.faults c.args.output.now) (g.O.Sink.faults c.refuse_unknown.new.output)) c.refuse_unknown.ensures.cause;
       servers = looked_keeps kept s0 s1 looks c.requires;
       cause = if_err_also r (output_cause kept s0 s1 (g.O.Sink.faults c.args.output.now) (g.O.Sink.faults c.refuse_unknown.new.output)) c.refuse_unknown.ensures.cause;
       counts = c.refuse_unknown.ensures.counts;

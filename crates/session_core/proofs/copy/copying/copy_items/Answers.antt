@@ -2,7 +2,7 @@ use Rattle.std.proofs.Common.{false}
 use Rattle.std.specs.Prelude.{Some}
 use Rattle.std.proofs.lemmas.Result.{err_from_is_err_and}
 use Rattle.run_commands.specs.parts.laws.Exits.{on_err}
-use Rattle.run_commands.specs.parts.laws.Parts.{stands_after}
+use Rattle.run_commands.specs.parts.laws.Parts.{keeps_both, stands_after}
 use Rattle.run_commands.specs.load.LoadEvents.{load_text_events}
 use Rattle.session_core.specs.copy.unwritten.laws.Causes.{part_blamed, servers_later}
 use Rattle.session_core.specs.copy.CopyEvents.{copy_text, silent, brought_events}
@@ -27,8 +27,8 @@ returns-in_err-load_items g c =
       ok = rw p.1 tt;
       stopped = on_err c.from_residual.result (stops_first kept s0 s1 s1 c.load_items.ensures.servers.names t t (silent (load_text_events (Some copy_text))) brought_events left (c.in_err-load_items.ensures.stopped t));
       ended = rw (p.1, p.2) (part_blamed kept s0 s1 left read read count count c.in_err-load_items.field-0.0 cause);
-      servers = rw (p.1, p.2) cause.servers;
-      closed = c.load_items.ensures.servers.closed;
+      servers = c.load_items.ensures.servers;
+      cause = rw (p.1, p.2) cause.servers;
     }
 
 pub bring_copy-requires : goal.bring_copy-requires
@@ -51,8 +51,8 @@ returns-in_err-any g c =
       ok = rw p.1 tt;
       stopped = on_err c.from_residual-in_err-any.result (stops_after kept s0 s1 s2 keeps.names t u first brought_events (g.I.Source.left c.args.input.now) happened c.in_err-any.ensures.stopped);
       ended = rw (p.1, p.2) c.in_err-any.ensures.ended;
-      servers = rw (p.1, p.2) (servers_later kept s0 s1 s2 e keeps (stands_after kept s0 s1 t t first first false happened) c.in_err-any.ensures.cause);
-      closed = c.bring_copy.ensures.servers.closed;
+      servers = keeps_both kept s0 s1 s2 keeps c.bring_copy.ensures.servers;
+      cause = rw (p.1, p.2) (servers_later kept s0 s1 s2 e keeps (stands_after kept s0 s1 t t first first false happened) c.in_err-any.ensures.cause);
     }
 
 pub returns : goal.returns
@@ -67,6 +67,6 @@ returns g c =
       ok = reads_after kept s0 s1 s2 c.load_items.ensures.servers.names t u (silent (load_text_events (Some copy_text))) brought_events (g.I.Source.left c.args.input.now) c.in_ok-any.any (c.in_ok-load_items.ensures.ok t) c.in_ok-any.ensures.ok;
       stopped = tt;
       ended = c.in_ok-any.ensures.ended;
-      servers = tt;
-      closed = c.bring_copy.ensures.servers.closed;
+      servers = keeps_both kept s0 s1 s2 c.load_items.ensures.servers c.bring_copy.ensures.servers;
+      cause = tt;
     }

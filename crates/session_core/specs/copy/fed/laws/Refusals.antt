@@ -21,7 +21,8 @@ use Rattle.run_commands.specs.feed.Feeds.{new_feed, with_record, is_full}
 use Rattle.run_commands.specs.feed.FeedEvents.{commit_events, error_events, server_events, batch_events, record_events, refused_events, feed_line_events, feed_end_events, after_record, feed_after, last_position}
 use Rattle.run_commands.specs.declared.feed.feed.Feed.{Feed}
 use Rattle.session_core.specs.copy.unwritten.laws.Refusals.{HasNoReplies, no_replies_both}
-use Rattle.session_core.specs.copy.fed.FedInput.{is_blank, input_line_events, input_line_after, lines_events, input_events}
+use Rattle.session_core.specs.FedLines.{is_blank}
+use Rattle.session_core.specs.copy.fed.FedInput.{input_line_events, input_line_after, lines_events, input_events}
 
 -- ---- records that are committed together
 

@@ -1,5 +1,5 @@
 -- Laws of why a part of a run ends it, beside other parts: proofs, and nothing to believe.
-use Rattle.std.proofs.Common.{ℕ, List, sym, subst, arith}
+use Rattle.std.proofs.Common.{ℕ, List, arith}
 use Rattle.std.specs.Prelude.{Option}
 use Rattle.keep_core.specs.Kept.{Kept}
 use Rattle.repl_model.specs.World.{World}
@@ -9,6 +9,7 @@ use Rattle.site_store.specs.declared.sites.Sites.{Sites}
 use Rattle.world_store.specs.Stands.{Stands}
 use Rattle.run_commands.specs.parts.Causes.{BlamesStreams, BlamesServers, PartHasCause}
 use Rattle.run_commands.specs.parts.ExitStatus.{status_of_error}
+use Rattle.run_commands.specs.parts.laws.Parts.{met_later}
 use Rattle.run_commands.specs.declared.parts.run_error.RunError.{RunError}
 use Rattle.run_commands.specs.declared.parts.run_error.RunError.TheVariants as errors
 
@@ -53,7 +54,4 @@ servers_later kept s0 s1 s2 errors.InputFailed keeps stands blames = tt
 servers_later kept s0 s1 s2 errors.InputTooLong keeps stands blames = tt
 servers_later kept s0 s1 s2 errors.OutputFailed keeps stands blames = tt
 servers_later kept s0 s1 s2 (errors.KeeperFailed n) keeps stands blames = λ lt. omega (arith, blames lt, keeps.faults n)
-servers_later kept s0 s1 s2 (errors.Damaged n a c) keeps stands blames = (
-  blames.0,
-  λ w at. let now = stands w at in blames.1 now.0 (subst (λ (n : List (List ℕ)). Stands n (held kept s1) now.0) (sym keeps.names) now.1),
-)
+servers_later kept s0 s1 s2 (errors.Damaged n a c) keeps stands blames = met_later kept s0 s1 s2 n a c keeps stands blames

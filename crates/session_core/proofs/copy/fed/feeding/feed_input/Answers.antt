@@ -8,15 +8,16 @@ use Rattle.line_input.specs.declared.input.Next.{Next}
 use Rattle.site_store.specs.Views.{names, held}
 use Rattle.world_store.specs.Stands.{Stands}
 use Rattle.run_commands.specs.parts.Parts.{StoppedIn}
-use Rattle.run_commands.specs.parts.laws.Exits.{on_err, nothing_yet}
+use Rattle.run_commands.specs.parts.laws.Exits.{on_err}
 use Rattle.run_commands.specs.parts.laws.Parts.{untouched, keeps_both, later_cause}
 use Rattle.session_core.specs.copy.unwritten.laws.Causes.{part_blamed}
 use Rattle.session_core.specs.copy.fed.FedInput.{input_events}
 use Rattle.session_core.specs.copy.fed.Lines.{next_events, next_after, Feeds}
 use Rattle.session_core.proofs.CopyEnds.{input_blamed, input_unblamed}
-use Rattle.session_core.proofs.CopyLines.{is_ended, is_more, is_feed, fed_later, fed_none, still_stands, stopped_here, line_fed, line_stopped, end_fed, end_stands, end_stopped}
+use Rattle.session_core.proofs.CopyLines.{is_ended, is_more, is_feed, fed_later, fed_none, still_stands, stopped_here, line_fed, line_stopped, end_fed, end_stopped}
 use Rattle.session_core.proofs.CopyFirstLines.{all_read}
 use Rattle.session_core.proofs.CopyGoing.{begins, stops_first}
+use Rattle.session_core.proofs.ReadInputs.{nothing_read}
 use Rattle.session_core.proofs.copy.fed.feeding.feed_input.Goals as goal
 
 pub returns-in_err-lines : goal.returns-in_err-lines
@@ -26,8 +27,7 @@ returns-in_err-lines g c =
     let p = err_from_is_err_and c.from_residual.result c.from_residual.ensures.1 in
     record {
       ok = rw p.1 tt;
-      stands = rw p.1 tt;
-      stopped = on_err c.from_residual.result (λ w at. nothing_yet (Stands (names s0)) (g.I.Source.left c.args.input.now) (input_events c.args.server) w (held kept s0) (g.O.Sink.taken c.args.output.now) at);
+      stopped = on_err c.from_residual.result (λ w at. nothing_read (Stands (names s0)) (g.I.Source.left c.args.input.now) (input_events c.args.server) w (held kept s0) (g.O.Sink.taken c.args.output.now) at);
       ended = rw (p.1, p.2) tt;
       servers = untouched kept s0 c.requires;
       cause = rw (p.1, p.2) tt;
@@ -51,7 +51,6 @@ returns-in_err-feed g c =
     let p = err_from_is_err_and c.from_residual-in_err-feed.result c.from_residual-in_err-feed.ensures.1 in
     record {
       ok = rw p.1 tt;
-      stands = rw p.1 tt;
       stopped = on_err c.from_residual-in_err-feed.result (λ w at.
           stops_first (Stands (names s0)) c.args.server w (held kept s1) (g.O.Sink.taken c.args.output.now) (g.O.Sink.taken c.begin_feed.new.output) left (c.in_err-feed.ensures.stopped w at));
       ended = rw (p.1, p.2) (part_blamed kept s0 s1 left read read (g.O.Sink.faults c.args.output.now) (g.O.Sink.faults c.begin_feed.new.output) e c.in_err-feed.ensures.cause);
@@ -96,7 +95,6 @@ returns-in_err-next g c =
     let p = err_from_is_err_and c.from_residual-in_err-next.result c.from_residual-in_err-next.ensures.1 in
     record {
       ok = rw p.1 tt;
-      stands = rw p.1 tt;
       stopped = on_err c.from_residual-in_err-next.result (stopped_here kept s0 s1 s1 inv.servers.names c.args.server left t u u c.loop-feed.feed c.loop-feed.number (left_of c.loop-feed.lines later) inv.going);
       ended = rw (p.1, p.2) (input_blamed left (total_of c.loop-feed.lines later) (g.I.Source.faults c.args.input.now) (g.I.Source.faults c.loop-feed.input) (g.I.Source.faults c.next_line.new.source) (g.O.Sink.faults c.args.output.now) (g.O.Sink.faults c.loop-feed.output)
           (Err e) e refl inv.total inv.input_counts c.in_err-next.ensures.cause);
@@ -138,9 +136,8 @@ returns-in_err-feed-2 g c =
     let p = err_from_is_err_and c.from_residual-in_err-feed-2.result c.from_residual-in_err-feed-2.ensures.1 in
     record {
       ok = rw p.1 tt;
-      stands = rw p.1 tt;
       stopped = on_err c.from_residual-in_err-feed-2.result (
-          line_stopped kept s0 s1 s2 inv.servers.names c.args.server left t u u2 c.loop-feed.feed c.loop-feed.number before now inv.going c.in_ok-next.next c.next_line.new.line.items c.in_ok-next.ensures.line more line);
+          line_stopped kept s0 s1 s2 inv.servers.names c.args.server left t u u2 c.loop-feed.feed c.loop-feed.number before now inv.going c.in_ok-next.next c.next_line.new.line.items c.in_ok-next.ensures.line more c.in_ok-next.ensures.whole line);
       ended = rw (p.1, p.2) (part_blamed kept s0 s2 left (g.I.Source.faults c.args.input.now) (g.I.Source.faults c.next_line.new.source) count later e cause);
       servers = keeps_both kept s0 s1 s2 inv.servers c.feed_next.ensures.servers;
       cause = rw (p.1, p.2) cause.servers;
@@ -176,7 +173,7 @@ loop-feed-preserved g c =
     let more = is_more next (sym c.is_end.ensures ∙ c.if-is_end.false) in
     let feeds = subst (λ (bytes : List ℕ). Feeds kept s1 s2 u u2 (is_none feed) (next_events feed number next bytes) (next_after feed number next bytes) number after) c.deref.ensures.value c.in_ok-feed-2.ensures.ok in
     record {
-      going = line_fed kept s0 s1 s2 inv.servers.names c.args.server left t u u2 feed number before now inv.going next c.next_line.new.line.items c.in_ok-next.ensures.line more after feeds;
+      going = line_fed kept s0 s1 s2 inv.servers.names c.args.server left t u u2 feed number before now inv.going next c.next_line.new.line.items c.in_ok-next.ensures.line more c.in_ok-next.ensures.whole after feeds;
       servers = keeps_both kept s0 s1 s2 inv.servers c.feed_next.ensures.servers;
       feeds = fed_later number after feeds.fed;
       total = c.in_ok-next.ensures.spends.total ∙ inv.total;
@@ -211,7 +208,6 @@ returns-in_err-refused g c =
     let p = err_from_is_err_and c.from_residual-in_err-refused.result c.from_residual-in_err-refused.ensures.1 in
     record {
       ok = rw p.1 tt;
-      stands = rw p.1 tt;
       stopped = on_err c.from_residual-in_err-refused.result (
           end_stopped kept s0 s1 s2 inv.servers.names c.args.server left t u u2 c.loop-feed.feed c.loop-feed.number before now inv.going c.in_ok-next.next c.next_line.new.line.items c.in_ok-next.ensures.line ended c.in_err-refused.ensures.stopped);
       ended = rw (p.1, p.2) (part_blamed kept s0 s2 left (g.I.Source.faults c.args.input.now) (g.I.Source.faults c.next_line.new.source) count later e cause);
@@ -238,7 +234,6 @@ returns g c =
     let ended = is_ended c.in_ok-next.next (sym c.is_end.ensures ∙ c.if-is_end.true) in
     record {
       ok = end_fed kept s0 s1 s2 inv.servers.names c.args.server left t u u2 c.loop-feed.feed c.loop-feed.number before now inv.going c.in_ok-next.next line c.in_ok-next.ensures.line ended c.in_ok-refused.refused c.in_ok-refused.ensures.ok;
-      stands = end_stands kept s0 s1 s2 inv.servers.names c.args.server left t u u2 c.loop-feed.feed c.loop-feed.number before now inv.going c.in_ok-next.next line c.in_ok-next.ensures.line ended c.in_ok-refused.refused c.in_ok-refused.ensures.ok;
       stopped = tt;
       ended = all_read left later (g.I.Source.left c.next_line.new.source) c.loop-feed.lines c.next_line.new.self line inv.total (subst (λ (n : Next). ReadsLine n line before now) ended c.in_ok-next.ensures.line) c.in_ok-next.ensures.spends.total c.next_line.new.self.limited;
       servers = keeps_both kept s0 s1 s2 inv.servers c.end_lines.ensures.servers;
