@@ -1,9 +1,9 @@
 //! Scripts that apply sets from one server to another, and what is left there if a call of one of
 //! their keepers fails.
 
-use crate::runs::{CALLS, Failure, NONE, new_servers, run_at, with_failure};
+use crate::runs::{CALLS, Failure, NONE, new_servers, run_at, server_with, with_failure};
 use keep_map::{BytesSink, MapKeeper};
-use repl_types::Status;
+use repl_types::{Area, List, Status};
 use site_store::Sites;
 use std::alloc::{AllocError, Global};
 use std::process::Abort;
@@ -83,6 +83,11 @@ ok signal hq 000000000000000b0000
 ok refresh 000000000000000b0000 rows 2
 ok report 000000000000000b0000
 ok apply steps 3
+";
+
+/// The line of the block by itself.
+const BLOCK: &[u8] = b"ok block 00000000000000050000 00000000000000090000 \
+insert 0 update 2 delete 0
 ";
 
 /// Before the block the first copy has the row that was committed first.
@@ -202,6 +207,50 @@ fn a_failed_call_ends_an_apply_and_the_next_one_makes_up_for_it(
     for (server, takes_place) in [(0, false), (0, true), (1, false), (1, true)] {
         let calls = failing_calls(&rt, rt.alloc(), server, takes_place)?;
         assert!(rt; 10 < calls && calls < CALLS, "{calls} calls of {server}");
+    }
+    Ok(())
+}
+
+/// How often the servers were read, and the servers with the same keepers: for each of them the
+/// reads of its log, of its source tables and of its change rows.
+fn read_counts(
+    alloc: Global,
+    sites: Sites<MapKeeper>,
+) -> Result<(Vec<u64>, Sites<MapKeeper>), Fail> {
+    let mut counts = Vec::new(alloc);
+    let mut list = List::new(alloc);
+    let sites = sites.into_list().into_vec();
+    for (name, site) in NAMES.iter().zip(sites) {
+        let keeper = site.into_keeper();
+        for area in [Area::Log, Area::Source, Area::Cd] {
+            counts.push(keeper.read_count(area))?;
+        }
+        list.push(server_with(alloc, name, keeper)?)?;
+    }
+    Ok((counts, Sites::new(list)?))
+}
+
+/// The place of the change rows of hq among these counts.
+const CHANGE_ROWS: usize = 2;
+
+#[test]
+fn a_block_in_a_later_run_reads_change_rows_and_neither_a_log_nor_a_source(
+    rt: HostRuntime,
+) -> Result<(), Fail> {
+    let alloc = rt.alloc();
+    let mut sites = begun(&rt, alloc, NONE)?;
+    let (_output, status) = run_here(alloc, &mut sites, b"capture hq\n")?;
+    assert_eq!(rt; status, Status::Ok);
+    let (before, mut sites) = read_counts(alloc, sites)?;
+    check_here(&rt, alloc, &mut sites, b"step q s\n", BLOCK)?;
+    let (after, _sites) = read_counts(alloc, sites)?;
+    assert_eq!(rt; after.len(), before.len());
+    for (place, (old, new)) in before.iter().zip(after.iter()).enumerate() {
+        if place == CHANGE_ROWS {
+            assert!(rt; old < new);
+        } else {
+            assert_eq!(rt; new, old, "at place {place}");
+        }
     }
     Ok(())
 }

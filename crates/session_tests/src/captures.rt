@@ -1,17 +1,14 @@
 //! Scripts that capture the log of a server in several cuts, and what is left there if a call of
 //! its keeper fails.
 
-ghost use Rattle.std.specs.Prelude.{OnOk};
-ghost use Rattle.repl_types.specs.Sizes.{IsKeySize, IsValueSize};
-ghost use Rattle.keep_core.specs.Kept.{IsClosed};
-
-use crate::runs::{CALLS, check, failing_at, run, server_hq};
-use keep_core::{KeepError, Keeper};
+use crate::runs::{CALLS, check, failing_at, hold, run, server_hq};
+use keep_core::Keeper;
 use keep_map::{BytesSink, MapKeeper};
 use repl_types::{Area, Status};
 use site_store::Sites;
 use std::alloc::Global;
 use std::process::Abort;
+use std::str;
 use std::test::Fail;
 
 /// A load of three registered tables: one with a before-image, one whose updates are taken apart
@@ -181,18 +178,6 @@ ok last 00000000000000140000 commit 00000000000000140000 time 150 \
 captured 00000000000000140000 restart 00000000000000150000 floor 00000000000000000000
 ";
 
-/// Commits one record.
-fn hold<K: Keeper>(keeper: &mut K, area: Area, key: &[u8], value: &[u8]) -> Result<(), KeepError>
-    requires closed { IsClosed (K.kept keeper.old) }
-    requires key { IsKeySize key.now }
-    requires value { IsValueSize value.now }
-    ensures { OnOk result (IsClosed (K.kept keeper.new)) }
-{
-    keeper.begin()?;
-    keeper.put(area, 0, key, value)?;
-    keeper.commit()
-}
-
 /// The server hq, where three tables are loaded and their registrations are started.
 fn started_server(rt: &impl Abort, alloc: Global) -> Result<Sites<MapKeeper>, Fail> {
     let mut keeper = MapKeeper::new(alloc);
@@ -200,28 +185,32 @@ fn started_server(rt: &impl Abort, alloc: Global) -> Result<Sites<MapKeeper>, Fa
     hold(
         &mut keeper,
         Area::Log,
+        0,
         b"\0\0\0\0\0\0\0\x01",
         START_OF_ORDERS,
     )?;
     hold(
         &mut keeper,
         Area::Log,
+        0,
         b"\0\0\0\0\0\0\0\x02",
         START_OF_PARTS,
     )?;
     hold(
         &mut keeper,
         Area::Log,
+        0,
         b"\0\0\0\0\0\0\0\x03",
         START_OF_STOCK,
     )?;
     hold(
         &mut keeper,
         Area::Log,
+        0,
         b"\0\0\0\0\0\0\0\x04",
         COMMIT_OF_STARTS,
     )?;
-    hold(&mut keeper, Area::Head, b"\0", HEAD)?;
+    hold(&mut keeper, Area::Head, 0, b"\0", HEAD)?;
     let mut sites = server_hq(alloc, keeper)?;
     check(rt, alloc, &mut sites, LOAD, LOADED)?;
     Ok(sites)
@@ -353,5 +342,62 @@ fn any_cut_of_sixty_units_captures_the_same(rt: HostRuntime) -> Result<(), Fail>
         let is_same = shown.bytes() == whole.bytes();
         assert!(rt; is_same);
     }
+    Ok(())
+}
+
+/// What the status of the server says of how far it is captured, before a capture of one unit at a
+/// time and after each of its commits.
+const POINTS: [&str; 8] = [
+    "captured 00000000000000000000 ",
+    "captured 00000000000000040000 ",
+    "captured 00000000000000080000 ",
+    "captured 000000000000000b0000 ",
+    "captured 000000000000000e0000 ",
+    "captured 00000000000000100000 ",
+    "captured 00000000000000130000 ",
+    "captured 00000000000000140000 ",
+];
+
+/// The place of the point in the status of a server, that of no point if it is none of them.
+fn place_of_point(status: &str) -> usize {
+    POINTS
+        .iter()
+        .position(|point| status.contains(*point))
+        .unwrap_or(POINTS.len())
+}
+
+/// The place of the point that the server is captured to, once a capture of one unit at a time was
+/// stopped at a call, or `None` if it ended before that call.
+fn point_after(rt: &impl Abort, alloc: Global, call: u64) -> Result<Option<usize>, Fail> {
+    let fed = fed_server(rt, alloc)?;
+    let mut sites = failing_at(alloc, fed, call, false)?;
+    let (_replies, status) = run(alloc, &mut sites, b"capture hq every 1\n")?;
+    if status == Status::Ok {
+        return Ok(None);
+    }
+    assert_eq!(rt; status, Status::KeeperFault(0), "at call {call}");
+    let mut sites = failing_at(alloc, sites, 0, false)?;
+    let (shown, status) = run(alloc, &mut sites, b"status hq\n")?;
+    assert_eq!(rt; status, Status::Ok);
+    Ok(Some(place_of_point(str::from_utf8(shown.bytes())?)))
+}
+
+#[test]
+fn a_capture_of_one_unit_at_a_time_leaves_each_point_where_it_is_stopped(
+    rt: HostRuntime,
+) -> Result<(), Fail> {
+    let alloc = rt.alloc();
+    let mut last = 0;
+    for call in 1..CALLS {
+        let Some(place) = point_after(&rt, alloc, call)? else {
+            break;
+        };
+        assert!(rt;
+            place == last || place == last.saturating_add(1),
+            "at call {call}"
+        );
+        last = place;
+    }
+    assert_eq!(rt; last, POINTS.len() - 1);
     Ok(())
 }

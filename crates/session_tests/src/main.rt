@@ -10,10 +10,14 @@ mod applies;
 #[cfg(test)]
 mod captures;
 #[cfg(test)]
+mod damage;
+#[cfg(test)]
 mod feeds;
 #[cfg(test)]
 mod loads;
 #[cfg(test)]
 mod runs;
+#[cfg(test)]
+mod two_runs;
 
 fn main(_rt: HostRuntime) {}

@@ -1,16 +1,38 @@
 //! Runs of `session` at servers in memory, of which a call can fail.
 
-use keep_core::Keeper;
+ghost use Rattle.std.specs.Prelude.{OnOk};
+ghost use Rattle.repl_types.specs.Sizes.{IsKeySize, IsValueSize};
+ghost use Rattle.keep_core.specs.Kept.{IsClosed};
+
+use keep_core::{KeepError, Keeper};
 use keep_map::{BytesSink, BytesSource, MapKeeper};
-use repl_types::{List, Name, Status};
+use repl_types::{Area, List, Name, Status};
 use session_core::session;
 use site_store::{Site, Sites};
 use std::alloc::{AllocError, Global};
 use std::process::Abort;
 use std::test::Fail;
 
+/// Commits one record.
+pub fn hold<K: Keeper>(
+    keeper: &mut K,
+    area: Area,
+    table: u32,
+    key: &[u8],
+    value: &[u8],
+) -> Result<(), KeepError>
+    requires closed { IsClosed (K.kept keeper.old) }
+    requires key { IsKeySize key.now }
+    requires value { IsValueSize value.now }
+    ensures { OnOk result (IsClosed (K.kept keeper.new)) }
+{
+    keeper.begin()?;
+    keeper.put(area, table, key, value)?;
+    keeper.commit()
+}
+
 /// The words of a line.
-fn words_of(alloc: Global, line: &str) -> Result<Vec<String>, AllocError> {
+pub fn words_of(alloc: Global, line: &str) -> Result<Vec<String>, AllocError> {
     let mut words = Vec::new(alloc);
     for word in line.split_ascii_whitespace() {
         words.push(String::from_str(alloc, word)?)?;
@@ -19,7 +41,7 @@ fn words_of(alloc: Global, line: &str) -> Result<Vec<String>, AllocError> {
 }
 
 /// An input of these bytes.
-fn source_of(alloc: Global, bytes: &[u8]) -> Result<BytesSource, AllocError> {
+pub fn source_of(alloc: Global, bytes: &[u8]) -> Result<BytesSource, AllocError> {
     Ok(BytesSource::new(List::from_vec(Vec::from_slice(alloc, bytes)?)))
 }
 
@@ -43,7 +65,11 @@ pub const NONE: Failure = Failure {
 };
 
 /// A server with this keeper, of which no transaction is open and no call fails.
-fn server_with(alloc: Global, name: &str, mut keeper: MapKeeper) -> Result<Site<MapKeeper>, Fail> {
+pub fn server_with(
+    alloc: Global,
+    name: &str,
+    mut keeper: MapKeeper,
+) -> Result<Site<MapKeeper>, Fail> {
     let name = Name::new(alloc, name)?;
     keeper.rollback();
     Ok(Site::open_site(name, keeper))
