@@ -19,10 +19,11 @@ use Rattle.repl_model.specs.Longer.{with_more, grown}
 use Rattle.repl_model.specs.World.{Server, World}
 use Rattle.run_core.specs.Runs.{Event, last_world, lines_of, is_refused, Went, Stopped}
 use Rattle.run_core.specs.laws.Runs.{stopped_before, stopped_in_second}
-use Rattle.site_store.specs.Calls.{KeepsServers}
+use Rattle.site_store.specs.Calls.{KeepsServers, HoldsOrInDoubt}
 use Rattle.site_store.specs.Servers.{AllClosed, HasNone, IsPlace}
 use Rattle.site_store.specs.Views.{names, held, work}
 use Rattle.site_store.specs.declared.sites.Sites.{Sites}
+use Rattle.set_places.specs.laws.Commits.{unchanged_if_damaged}
 use Rattle.world_store.specs.Stands.{Stands}
 use Rattle.stored_defs.specs.Known.{server_in}
 use Rattle.stored_defs.specs.laws.Standing.{server_at_place, no_server}
@@ -33,7 +34,7 @@ use Rattle.run_commands.specs.parts.Parts.{then_events, Happened, StoppedIn}
 use Rattle.run_commands.specs.parts.Refusing.{refused}
 use Rattle.run_commands.specs.parts.RunErrors.{error_of_fault}
 use Rattle.run_commands.specs.declared.parts.run_error.RunError.{RunError}
-use Rattle.run_commands.specs.parts.laws.Damage.{append_shown, undoubted, fault_cause}
+use Rattle.run_commands.specs.parts.laws.Damage.{append_shown, fault_cause}
 use Rattle.run_commands.specs.parts.laws.Parts.{happened_as, stopped_as, happened_both, stopped_second, refusal_written, refusal_begun}
 use Rattle.run_commands.specs.feed.FeedEvents.{commit_events, error_events, server_events, batch_events, last_position}
 use Rattle.run_commands.specs.declared.feed.feed.Feed.{Feed}
@@ -165,4 +166,4 @@ module _ {K : Type 0} (kept : K → Kept) (s0 : Sites K) (closed : AllClosed (wo
         ((w : World) → Stands (names s0) (held kept s0) w → HasNotAppended kept s0 s1 n feed.records w (errors.Fault e)) → PartHasCause kept s0 s1 before now error
     append_cause keeps before now e error is blames has =
         fault_cause kept s0 s1 closed keeps all_rules append_shown (λ s. s ≡ n) (λ s at. subst (λ (m : ℕ). m < length (names s0)) (sym at) place.within) before now e error is blames.blames
-        (λ s a cause met. undoubted kept s0 s1 e s a cause met blames.holds) (λ w stands. (has w stands).0)
+        (λ s a cause met. unchanged_if_damaged kept s0 s1 s a cause (subst (HoldsOrInDoubt kept s0 s1) met blames.holds)) (λ w stands. (has w stands).0)

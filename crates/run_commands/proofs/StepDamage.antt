@@ -17,11 +17,12 @@ use Rattle.repl_model.specs.Applicable.{is_signal}
 use Rattle.repl_model.specs.World.{World}
 use Rattle.load_worlds.specs.laws.Members.{in_map}
 use Rattle.site_store.specs.declared.sites.Sites.{Sites}
-use Rattle.site_store.specs.Calls.{KeepsServers}
+use Rattle.site_store.specs.Calls.{KeepsServers, HoldsOrInDoubt}
 use Rattle.site_store.specs.Damage.{Rules, joined, Shows, Damages, IsNoDamage}
 use Rattle.site_store.specs.laws.Damage.{shown_first, shown_second}
 use Rattle.site_store.specs.Servers.{AllClosed}
 use Rattle.site_store.specs.Views.{names, held, work, sees}
+use Rattle.set_places.specs.laws.Commits.{unchanged_if_damaged}
 use Rattle.world_store.specs.Stands.{Stands}
 use Rattle.source_log.specs.Rules.{all_rules}
 use Rattle.source_log.specs.Units.{calls_for_table, is_unfit_table}
@@ -41,7 +42,7 @@ use Rattle.run_commands.specs.parts.Damage as running
 use Rattle.run_commands.specs.parts.Damage.{rules}
 use Rattle.run_commands.specs.parts.RunErrors.{error_of_fault}
 use Rattle.run_commands.specs.declared.parts.run_error.RunError.{RunError}
-use Rattle.run_commands.specs.parts.laws.Damage.{IsShown, append_shown, set_shown, seen_after, undoubted, fault_reads, blamed_cause}
+use Rattle.run_commands.specs.parts.laws.Damage.{IsShown, append_shown, set_shown, seen_after, fault_reads, blamed_cause}
 
 -- ---- of a signal
 
@@ -167,7 +168,7 @@ module _ {K : Type 0} (kept : K → Kept) (s0 s1 : Sites K) (set : PlacedSet) (p
   step_cause before now e error is blamed none = by_fault e is blamed none
     where
       by_blames : (e : Fault) → Some error ≡ error_of_fault e → BlamesUnchanged kept s0 s1 (ShowsDamage kept ShowsCopyDamage s0 set) e → ((w : World) → Stands (names s0) (held kept s0) w → IsNoDamage e) → PartHasCause kept s0 s1 before now error
-      by_blames e is blames none = blamed_cause kept s0 s1 closed keeps (ShowsDamage kept ShowsCopyDamage s0 set) before now e error is blames.blames (λ n a cause met shows. shown_after (undoubted kept s0 s1 e n a cause met blames.holds) n a cause (step_shown n a cause shows)) none
+      by_blames e is blames none = blamed_cause kept s0 s1 closed keeps (ShowsDamage kept ShowsCopyDamage s0 set) before now e error is blames.blames (λ n a cause met shows. shown_after (unchanged_if_damaged kept s0 s1 n a cause (subst (HoldsOrInDoubt kept s0 s1) met blames.holds)) n a cause (step_shown n a cause shows)) none
 
       by_fault : (e : Fault) → Some error ≡ error_of_fault e → IsBlamed kept s0 s1 (ShowsDamage kept ShowsCopyDamage s0 set) e → ((w : World) → Stands (names s0) (held kept s0) w → IsNoDamage e) → PartHasCause kept s0 s1 before now error
       by_fault faults.Memory is blamed none = by_blames faults.Memory is blamed none

@@ -2,9 +2,9 @@ use Rattle.std.proofs.Common.{◌≡◌, ◌∙◌, ap, subst}
 use Rattle.run_core.specs.Runs.{Went, Stopped, is_refused}
 use Rattle.run_words.specs.declared.opening.Opening.{Opening}
 use Rattle.site_store.specs.Views.{names, held}
+use Rattle.site_store.specs.laws.Counts.{keeps_itself}
 use Rattle.world_store.specs.Stands.{Stands}
 use Rattle.run_commands.specs.parts.ExitStatus.{status_of_done}
-use Rattle.run_commands.specs.parts.laws.Parts.{untouched}
 use Rattle.session_core.specs.Session.{run_events, Ran}
 use Rattle.session_core.specs.Inputs.{OfInput}
 use Rattle.session_core.proofs.ReadInputs.{of_input_also, nothing_read}
@@ -41,7 +41,7 @@ pub returns-clause-same : goal.returns-clause-same
 returns-clause-same g c = λ none. absurd (none c.in-Ok.opening c.in-Ok.ensures.ok)
 
 pub returns-in-Err-Usage-clause-servers : goal.returns-in-Err-Usage-clause-servers
-returns-in-Err-Usage-clause-servers g c = untouched g.K.Keeper.kept c.args.sites.now c.requires
+returns-in-Err-Usage-clause-servers g c = keeps_itself g.K.Keeper.kept c.args.sites.now c.requires
 
 pub returns-in-Err-Memory-clause-servers : goal.returns-in-Err-Memory-clause-servers
-returns-in-Err-Memory-clause-servers g c = untouched g.K.Keeper.kept c.args.sites.now c.requires
+returns-in-Err-Memory-clause-servers g c = keeps_itself g.K.Keeper.kept c.args.sites.now c.requires

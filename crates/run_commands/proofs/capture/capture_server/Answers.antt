@@ -2,11 +2,12 @@ use Rattle.std.proofs.Common.{ℕ, ◌<◌, sym, subst, arith}
 use Rattle.repl_types.specs.declared.refusal.Refusal.TheVariants as refusals
 use Rattle.repl_model.specs.World.{World}
 use Rattle.site_store.specs.Views.{names, held}
+use Rattle.site_store.specs.laws.Counts.{keeps_itself}
 use Rattle.world_store.specs.Stands.{Stands}
 use Rattle.capture_core.specs.Capturing.{HasCapturedAll, HasStopped}
 use Rattle.run_commands.specs.parts.Refusing.{refused}
 use Rattle.run_commands.specs.parts.laws.Exits.{err_also, ok_also, if_err_also}
-use Rattle.run_commands.specs.parts.laws.Parts.{refusal_written, refusal_begun, happened_as, stopped_as, untouched, output_cause}
+use Rattle.run_commands.specs.parts.laws.Parts.{refusal_written, refusal_begun, happened_as, stopped_as, output_cause}
 use Rattle.run_commands.specs.capture.CaptureEvents.{capture_events}
 use Rattle.run_commands.proofs.CaptureEvents.{some_units, none_there, capture_written, capture_begun, ends_run, capture_stopped, capture_cause}
 use Rattle.run_commands.proofs.capture.capture_server.Goals as goal
@@ -34,7 +35,7 @@ returns-in_default g c =
     record {
       ok = ok_also c.refuse.result (λ answer wrote. happened_as kept sites sites t u (λ w. refused refusal) events same answer (refusal_written kept sites t u refusal answer wrote)) c.refuse.ensures.ok;
       stopped = err_also c.refuse.result (λ wrote. stopped_as kept sites sites t u (λ w. refused refusal) events same (refusal_begun kept sites t u refusal wrote)) c.refuse.ensures.stopped;
-      servers = untouched kept sites c.requires;
+      servers = keeps_itself kept sites c.requires;
       cause = if_err_also c.refuse.result (output_cause kept sites sites (g.O.Sink.faults c.args.output.now) (g.O.Sink.faults c.refuse.new.output)) c.refuse.ensures.cause;
       counts = c.refuse.ensures.counts;
     }

@@ -2,7 +2,8 @@ use Rattle.std.proofs.Common.{◌∙◌, not, ap, sym}
 use Rattle.repl_types.specs.declared.refusal.Refusal.TheVariants as refusals
 use Rattle.run_commands.specs.parts.laws.Exits.{err_also, ok_also, if_err_also}
 use Rattle.run_commands.specs.parts.laws.Looking.{looked_keeps}
-use Rattle.run_commands.specs.parts.laws.Parts.{output_cause, untouched}
+use Rattle.site_store.specs.laws.Counts.{keeps_itself}
+use Rattle.run_commands.specs.parts.laws.Parts.{output_cause}
 use Rattle.run_commands.specs.target.TargetEvents.{known_set_events}
 use Rattle.run_commands.proofs.AfterReads.{read_only, refusal_as, prefix_as, set_written, set_begun}
 use Rattle.run_commands.proofs.TargetEvents.{replica_refused, fails_run, fails_held, fails_keeps, show_cause}
@@ -22,7 +23,7 @@ returns-then-is_replica_set g c =
     record {
       ok = ok_also c.refuse.result (λ answer wrote w k stands placed. refusal_as kept s t u refusal w stands (known_set_events number k) (replica_refused number w k set placed is) answer wrote) c.refuse.ensures.ok;
       stopped = err_also c.refuse.result (λ wrote w k stands placed. prefix_as kept s t u refusal w stands (known_set_events number k) (replica_refused number w k set placed is) wrote) c.refuse.ensures.stopped;
-      servers = untouched kept s c.requires.closed;
+      servers = keeps_itself kept s c.requires.closed;
       cause = if_err_also c.refuse.result (output_cause kept s s (g.O.Sink.faults c.args.output.now) (g.O.Sink.faults c.refuse.new.output)) c.refuse.ensures.cause;
       counts = c.refuse.ensures.counts;
     }

@@ -1,7 +1,8 @@
 use Rattle.repl_types.specs.declared.refusal.Refusal.TheVariants as refusals
 use Rattle.run_commands.specs.parts.laws.Exits.{err_also, ok_also, if_err_also}
 use Rattle.run_commands.specs.parts.laws.Looking.{looked_keeps}
-use Rattle.run_commands.specs.parts.laws.Parts.{output_cause, untouched}
+use Rattle.site_store.specs.laws.Counts.{keeps_itself}
+use Rattle.run_commands.specs.parts.laws.Parts.{output_cause}
 use Rattle.run_commands.specs.target.TargetEvents.{member_events}
 use Rattle.run_commands.proofs.AfterReads.{read_only, fails_test, refusal_as, prefix_as, copy_written, copy_begun}
 use Rattle.run_commands.proofs.TargetEvents.{other_refused, fails_run, fails_held, fails_keeps, show_cause}
@@ -24,7 +25,7 @@ returns-then-not-is_user_copy g c =
     record {
       ok = ok_also c.refuse.result (λ answer wrote w k member stands placed at. refusal_as kept s t u refusal w stands (member_events number w k member) (other_refused number w k member target placed at other) answer wrote) c.refuse.ensures.ok;
       stopped = err_also c.refuse.result (λ wrote w k member stands placed at. prefix_as kept s t u refusal w stands (member_events number w k member) (other_refused number w k member target placed at other) wrote) c.refuse.ensures.stopped;
-      servers = untouched kept s c.requires.closed;
+      servers = keeps_itself kept s c.requires.closed;
       cause = if_err_also c.refuse.result (output_cause kept s s (g.O.Sink.faults c.args.output.now) (g.O.Sink.faults c.refuse.new.output)) c.refuse.ensures.cause;
       counts = c.refuse.ensures.counts;
     }

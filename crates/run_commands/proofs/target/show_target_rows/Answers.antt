@@ -1,7 +1,8 @@
 use Rattle.repl_types.specs.declared.refusal.Refusal.TheVariants as refusals
 use Rattle.run_commands.specs.parts.Refusing.{refused}
 use Rattle.run_commands.specs.parts.laws.Exits.{err_also, ok_also, if_err_also}
-use Rattle.run_commands.specs.parts.laws.Parts.{output_cause, happened_as, stopped_as, refusal_written, refusal_begun, untouched}
+use Rattle.site_store.specs.laws.Counts.{keeps_itself}
+use Rattle.run_commands.specs.parts.laws.Parts.{output_cause, happened_as, stopped_as, refusal_written, refusal_begun}
 use Rattle.run_commands.specs.target.TargetEvents.{target_events}
 use Rattle.run_commands.proofs.TargetEvents.{no_such_server}
 use Rattle.run_commands.proofs.target.show_target_rows.Goals as goal
@@ -19,7 +20,7 @@ returns-in_default g c =
     record {
       ok = ok_also c.refuse.result (λ answer wrote. happened_as kept sites sites t u (λ w. refused refusal) events same answer (refusal_written kept sites t u refusal answer wrote)) c.refuse.ensures.ok;
       stopped = err_also c.refuse.result (λ wrote. stopped_as kept sites sites t u (λ w. refused refusal) events same (refusal_begun kept sites t u refusal wrote)) c.refuse.ensures.stopped;
-      servers = untouched kept sites c.requires;
+      servers = keeps_itself kept sites c.requires;
       cause = if_err_also c.refuse.result (output_cause kept sites sites (g.O.Sink.faults c.args.output.now) (g.O.Sink.faults c.refuse.new.output)) c.refuse.ensures.cause;
       counts = c.refuse.ensures.counts;
     }

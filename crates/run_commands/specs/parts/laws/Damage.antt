@@ -12,8 +12,9 @@ use Rattle.keep_core.specs.Kept.{Kept, seen_of}
 use Rattle.repl_model.specs.World.{World}
 use Rattle.site_store.specs.Servers.{AllClosed}
 use Rattle.site_store.specs.Views.{names, held, work, sees}
-use Rattle.site_store.specs.Calls.{Bounds, IsRead, KeepsServers, Blames, Fails, HoldsOrInDoubt}
+use Rattle.site_store.specs.Calls.{Bounds, IsRead, KeepsServers, Blames, Fails}
 use Rattle.site_store.specs.Damage.{Rules, joined, Shows, Damages, IsNoDamage}
+use Rattle.site_store.specs.laws.Counts.{keeps_passed}
 use Rattle.site_store.specs.laws.Damage.{shown_first, shown_second}
 use Rattle.site_store.specs.declared.sites.Sites.{Sites}
 use Rattle.world_store.specs.Stands.{Stands}
@@ -100,14 +101,6 @@ set_shown a cause saw shows = rest_of_capture a cause saw (shown_first set_rules
 pub sets_shown : IsShown shown_rules
 sets_shown a cause saw shows = rest_of_capture a cause saw (shown_second set_rules after_sets a cause saw (shown_second (table_rules []) shown_rules a cause saw shows))
 
--- at damage nothing is in doubt: each server holds what it held
-pub undoubted : {K : Type 0} (kept : K → Kept) (s0 s1 : Sites K) (e : Fault) (n : ℕ) (a : Area) (cause : DamageCause) → e ≡ faults.Damaged n a cause → HoldsOrInDoubt kept s0 s1 e → held kept s1 ≡ held kept s0
-undoubted kept s0 s1 e n a cause met (inl same) = same
-undoubted kept s0 s1 e n a cause met (inr doubt) = never doubt.0 (sym met ∙ doubt.2)
-  where
-    never : (s : ℕ) → faults.Damaged n a cause ≡ faults.Keeper s → held kept s1 ≡ held kept s0
-    never s is = absurd cc
-
 -- damage that is shown was read
 pub shown_is_read : {K : Type 0} (kept : K → Kept) (sites : Sites K) (n : ℕ) (a : Area) (cause : DamageCause) → ShowsDamage kept sites n a cause → IsRead cause
 shown_is_read kept sites n a (causes.Spelling bytes) h = tt
@@ -182,4 +175,4 @@ module _ {K : Type 0} (kept : K → Kept) (s0 s1 : Sites K) (closed : AllClosed 
   pub failed_cause : (most : Bounds) (before now : ℕ) (e : Fault) (error : RunError) → Some error ≡ error_of_fault e → Fails kept s0 s1 most (Damages (λ s. s < length (names s0)) layer kept s0) e → ((w : World) → Stands (names s0) (held kept s0) w → IsNoDamage e) → PartHasCause kept s0 s1 before now error
   failed_cause most before now e error is fails none =
       let closes = fails.closes in
-      fault_cause kept s0 s1 closed (record { names = closes.passes.names; faults = closes.passes.faults; reads = closes.passes.reads; closed = closes.closed }) layer all (λ s. s < length (names s0)) (λ n lt. lt) before now e error is fails.blames (λ n a cause same. closes.held) none
+      fault_cause kept s0 s1 closed (keeps_passed kept s0 s1 most closes.passes closes.closed) layer all (λ s. s < length (names s0)) (λ n lt. lt) before now e error is fails.blames (λ n a cause same. closes.held) none

@@ -15,6 +15,7 @@ use Rattle.site_store.specs.Views.{names, held, work, sees}
 use Rattle.site_store.specs.Calls.{KeepsServers, Blames}
 use Rattle.site_store.specs.Damage.{Rules, Damages, IsNoDamage}
 use Rattle.site_store.specs.declared.sites.Sites.{Sites}
+use Rattle.site_store.specs.laws.Counts.{keeps_passed, keeps_then}
 use Rattle.server_steps.specs.Calls.{Looks, Stops}
 use Rattle.world_store.specs.Stands.{Stands}
 use Rattle.run_commands.specs.parts.Causes.{PartHasCause, FoundByRead}
@@ -23,7 +24,7 @@ use Rattle.run_commands.specs.parts.Refusing.{refused}
 use Rattle.run_commands.specs.parts.RunErrors.{error_of_fault}
 use Rattle.run_commands.specs.declared.parts.run_error.RunError.{RunError}
 use Rattle.run_commands.specs.parts.laws.Damage.{IsShown, fault_reads, fault_cause}
-use Rattle.run_commands.specs.parts.laws.Parts.{happened_as, stopped_as, refusal_written, refusal_begun, keeps_both, later_cause}
+use Rattle.run_commands.specs.parts.laws.Parts.{happened_as, stopped_as, refusal_written, refusal_begun, later_cause}
 
 module _ {K : Type 0} (kept : K → Kept) (s0 s1 : Sites K) where
   -- ---- reads
@@ -31,7 +32,7 @@ module _ {K : Type 0} (kept : K → Kept) (s0 s1 : Sites K) where
   module _ (looks : Looks kept s0 s1) where
     -- they keep the servers
     pub looked_keeps : AllClosed (work kept s0) → KeepsServers kept s0 s1
-    looked_keeps closed = record { names = looks.stays.passes.names; faults = looks.stays.passes.faults; reads = looks.stays.passes.reads; closed = subst AllClosed (sym looks.stays.work) closed }
+    looked_keeps closed = keeps_passed kept s0 s1 looks.most looks.stays.passes (subst AllClosed (sym looks.stays.work) closed)
 
     -- and the world for which these stand
     pub looked_stands : (w : World) → Stands (names s0) (held kept s0) w → Stands (names s1) (held kept s1) w
@@ -47,7 +48,7 @@ module _ {K : Type 0} (kept : K → Kept) (s0 s1 : Sites K) where
 
     -- what keeps the servers after them keeps them from the beginning
     pub keeps_after : AllClosed (work kept s0) → (s2 : Sites K) → KeepsServers kept s1 s2 → KeepsServers kept s0 s2
-    keeps_after closed s2 keeps = keeps_both kept s0 s1 s2 (looked_keeps closed) keeps
+    keeps_after closed s2 keeps = keeps_then kept s0 s1 s2 (looked_keeps closed) keeps
 
     module _ (s2 : Sites K) (t u : Option (List ℕ)) where
       -- what went on after them went on from the beginning
@@ -84,7 +85,7 @@ module _ {K : Type 0} (kept : K → Kept) (s0 s1 : Sites K) where
   module _ (layer : Rules) (all : IsShown layer) (at : ℕ → Type 0) (below : (n : ℕ) → at n → n < length (names s0)) (e : Fault) (stops : Stops kept s0 s1 (Damages at layer kept s0) e) where
     -- they keep the servers
     pub stops_keeps : AllClosed (work kept s1) → KeepsServers kept s0 s1
-    stops_keeps closed = record { names = stops.passes.names; faults = stops.passes.faults; reads = stops.passes.reads; closed = closed }
+    stops_keeps closed = keeps_passed kept s0 s1 stops.most stops.passes closed
 
     -- nothing was done
     pub stops_before : (t : Option (List ℕ)) (events : World → List (Event World)) → StoppedIn kept s0 s1 t t events

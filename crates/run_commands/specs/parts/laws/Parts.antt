@@ -13,8 +13,7 @@ use Rattle.repl_model.specs.World.{World}
 use Rattle.run_core.specs.Runs.{Event, writes, last_world, lines_of, is_refused, Went, Stopped}
 use Rattle.run_core.specs.laws.Runs.{refused_append, stopped_before, went_both, stopped_in_first, stopped_in_second}
 use Rattle.run_core.specs.laws.Quiet.{IsQuiet, went_quiet, stopped_quiet}
-use Rattle.site_store.specs.Servers.{AllClosed}
-use Rattle.site_store.specs.Views.{names, held, work}
+use Rattle.site_store.specs.Views.{names, held}
 use Rattle.site_store.specs.Calls.{KeepsServers}
 use Rattle.site_store.specs.declared.sites.Sites.{Sites}
 use Rattle.world_store.specs.Stands.{Stands}
@@ -56,10 +55,6 @@ module _ {K : Type 0} (kept : K → Kept) (s0 s1 : Sites K) (same : held kept s1
       stopped_quiet (Stands (names s0)) w (events w) (held kept s1) t u here.0 (subst (λ (h : List (Option Contents)). Stands (names s0) h w) (sym same) stands) here.1
 
 module _ {K : Type 0} (kept : K → Kept) (s : Sites K) where
-  -- servers that aren't touched are kept
-  pub untouched : AllClosed (work kept s) → KeepsServers kept s s
-  untouched closed = record { names = refl; faults = λ n. omega arith; reads = λ a n lt. omega arith; closed = closed }
-
   -- nothing was done
   pub nothing_done : (t : Option (List ℕ)) (events : World → List (Event World)) → StoppedIn kept s s t t events
   nothing_done t events = λ w stands. stopped_before (Stands (names s)) w (events w) (held kept s) t stands
@@ -106,15 +101,6 @@ output_reads before now (errors.Damaged n a cause) h = absurd h
 -- ---- two parts in turn
 
 module _ {K : Type 0} (kept : K → Kept) (s0 s1 s2 : Sites K) where
-  -- both keep the servers
-  pub keeps_both : KeepsServers kept s0 s1 → KeepsServers kept s1 s2 → KeepsServers kept s0 s2
-  keeps_both first second = record {
-    names = second.names ∙ first.names;
-    faults = λ n. omega (arith, first.faults n, second.faults n);
-    reads = λ a n lt. let later = second.reads a n lt in omega (arith, later, first.reads a n (omega (arith, later, lt)));
-    closed = second.closed;
-  }
-
   -- damage that the second met, both met; if the servers stood for a world before the first, they did so after it
   pub met_later : (n : ℕ) (a : Area) (cause : DamageCause) → KeepsServers kept s0 s1 → ((w : World) → Stands (names s0) (held kept s0) w → (v : World) × Stands (names s0) (held kept s1) v) → MetDamage kept s1 s2 n a cause → MetDamage kept s0 s2 n a cause
   met_later n a cause keeps stands met = record {

@@ -7,7 +7,8 @@ use Rattle.run_core.specs.Runs.{Event}
 use Rattle.run_commands.specs.parts.Parts.{Happened, StoppedIn}
 use Rattle.run_commands.specs.parts.Refusing.{refused}
 use Rattle.run_commands.specs.parts.laws.Exits.{err_also, ok_also, if_err_also}
-use Rattle.run_commands.specs.parts.laws.Parts.{refusal_written, refusal_begun, untouched, output_cause}
+use Rattle.site_store.specs.laws.Counts.{keeps_itself}
+use Rattle.run_commands.specs.parts.laws.Parts.{refusal_written, refusal_begun, output_cause}
 use Rattle.session_core.specs.Commands.{talk_of}
 use Rattle.session_core.proofs.Verbs.{not_carried_out}
 use Rattle.session_core.proofs.commands.run_command.Goals as goal
@@ -34,7 +35,7 @@ returns g c =
     record {
       ok = subst (λ (talk : Option (ℕ → World → List (Event World))). IfOk c.refuse.result (Happened kept sites sites t u (λ w. option_map_or (λ events. events c.args.number w) talk (refused unknown)))) (sym none) (ok_also c.refuse.result (refusal_written kept sites t u unknown) c.refuse.ensures.ok);
       stopped = subst (λ (talk : Option (ℕ → World → List (Event World))). OnErr c.refuse.result (StoppedIn kept sites sites t u (λ w. option_map_or (λ events. events c.args.number w) talk (refused unknown)))) (sym none) (err_also c.refuse.result (refusal_begun kept sites t u unknown) c.refuse.ensures.stopped);
-      servers = untouched kept sites c.requires.closed;
+      servers = keeps_itself kept sites c.requires.closed;
       cause = if_err_also c.refuse.result (output_cause kept sites sites (g.O.Sink.faults c.args.output.now) (g.O.Sink.faults c.refuse.new.output)) c.refuse.ensures.cause;
       counts = c.refuse.ensures.counts;
     }

@@ -2,9 +2,10 @@ use Rattle.std.proofs.Common.{◌+◌, ℕ, List, sym, subst, arith}
 use Rattle.std.proofs.lemmas.Result.{err_from_is_err_and}
 use Rattle.run_core.specs.Runs.{last_world}
 use Rattle.site_store.specs.Views.{held}
+use Rattle.site_store.specs.laws.Counts.{keeps_then}
 use Rattle.world_store.specs.Stands.{Stands}
 use Rattle.run_commands.specs.parts.laws.Exits.{on_err}
-use Rattle.run_commands.specs.parts.laws.Parts.{keeps_both, later_cause, happened_both, stopped_first, stopped_second, stands_after}
+use Rattle.run_commands.specs.parts.laws.Parts.{later_cause, happened_both, stopped_first, stopped_second, stands_after}
 use Rattle.session_core.specs.Commands.{command_line_events}
 use Rattle.session_core.specs.Talk.{end_events}
 use Rattle.session_core.proofs.Feeding.{is_feed, keeps_later}
@@ -43,7 +44,7 @@ returns-in_err-answer g c =
     record {
       ok = rw p.1 tt;
       stopped = on_err c.from_residual-in_err-answer.result (stopped_second kept s0 s1 s2 keeps.names t u v first second c.in_ok-ended.ended c.in_ok-ended.ensures.ok c.in_err-answer.ensures.stopped);
-      servers = keeps_both kept s0 s1 s2 keeps c.run_line.ensures.servers;
+      servers = keeps_then kept s0 s1 s2 keeps c.run_line.ensures.servers;
       cause = rw (p.1, p.2) (later_cause kept s0 s1 s2 (g.O.Sink.faults c.args.output.now) (g.O.Sink.faults c.end_bodies.new.output) (g.O.Sink.faults c.run_line.new.output) c.in_err-answer.field-0.0 keeps (stands_after kept s0 s1 t u first second c.in_ok-ended.ended c.in_ok-ended.ensures.ok) c.end_bodies.ensures.counts c.in_err-answer.ensures.cause);
       counts = omega (arith, c.end_bodies.ensures.counts, c.run_line.ensures.counts);
     }
@@ -71,7 +72,7 @@ returns g c =
         keeps = keeps_later 1 (c.args.number + 1) answer.bodies (omega arith) answers.keeps;
       };
       stopped = tt;
-      servers = keeps_both kept s0 s1 s2 keeps c.run_line.ensures.servers;
+      servers = keeps_then kept s0 s1 s2 keeps c.run_line.ensures.servers;
       cause = tt;
       counts = omega (arith, c.end_bodies.ensures.counts, c.run_line.ensures.counts);
     }

@@ -2,9 +2,10 @@ use Rattle.std.proofs.Common.{◌≤◌, ◌∙◌, ◌+◌, ◌||◌, ℕ, Ok, 
 use Rattle.std.proofs.lemmas.Result.{err_from_is_err_and}
 use Rattle.script_lines.specs.Script.{lines_left, line_number}
 use Rattle.site_store.specs.Views.{names, held}
+use Rattle.site_store.specs.laws.Counts.{keeps_itself, keeps_then}
 use Rattle.world_store.specs.Stands.{Stands}
 use Rattle.run_commands.specs.parts.laws.Exits.{on_err}
-use Rattle.run_commands.specs.parts.laws.Parts.{untouched, keeps_both, later_cause}
+use Rattle.run_commands.specs.parts.laws.Parts.{later_cause}
 use Rattle.session_core.specs.Bodies.{KeepsBodies}
 use Rattle.session_core.specs.Lines.{GoesOn}
 use Rattle.session_core.proofs.Answered.{line_answered, line_stopped, end_answered, end_stopped}
@@ -19,7 +20,7 @@ pub loop-bodies-init : goal.loop-bodies-init
 loop-bodies-init g c = record {
   going = λ w at. begins (Stands (names c.args.sites.now)) w (held g.K.Keeper.kept c.args.sites.now) (g.O.Sink.taken c.args.output.now) at (g.I.Source.left c.args.input.now) (line_number c.in_ok-script.script) (lines_left c.in_ok-script.script (g.I.Source.left c.args.input.now))
       c.in_ok-script.ensures.number (c.in_ok-script.ensures.lines (g.I.Source.left c.args.input.now));
-  servers = untouched g.K.Keeper.kept c.args.sites.now c.requires;
+  servers = keeps_itself g.K.Keeper.kept c.args.sites.now c.requires;
   none = c.in_ok-script.ensures.none;
   keeps = tt;
   total = c.in_ok-script.ensures.total (g.I.Source.left c.args.input.now);
@@ -106,7 +107,7 @@ loop-bodies-preserved g c =
     answer answers in
     record {
       going = λ w at. subst (λ (n : ℕ). GoesOn (Stands (names c.args.sites.now)) (g.I.Source.left c.args.input.now) w answer.bodies n (lines_left c.take.new.self later) (held g.K.Keeper.kept c.answer_line.new.sites) (g.O.Sink.taken c.args.output.now) (g.O.Sink.taken c.answer_line.new.output) (c.loop-bodies.refused || answer.refused)) c.number-number.ensures.is (going w at);
-      servers = keeps_both g.K.Keeper.kept c.args.sites.now c.loop-bodies.sites c.answer_line.new.sites c.loop-bodies.invariant.servers c.answer_line.ensures.servers;
+      servers = keeps_then g.K.Keeper.kept c.args.sites.now c.loop-bodies.sites c.answer_line.new.sites c.loop-bodies.invariant.servers c.answer_line.ensures.servers;
       none = c.take.ensures.none;
       keeps = subst (λ (n : ℕ). KeepsBodies (n + 1) answer.bodies) c.number-number.ensures.is answers.keeps;
       total = c.take.ensures.total later ∙ c.in_ok-kind.ensures.total ∙ c.loop-bodies.invariant.total;
@@ -116,13 +117,13 @@ loop-bodies-preserved g c =
     }
 
 pub returns-in_err-script-clause-servers : goal.returns-in_err-script-clause-servers
-returns-in_err-script-clause-servers g c = untouched g.K.Keeper.kept c.args.sites.now c.requires
+returns-in_err-script-clause-servers g c = keeps_itself g.K.Keeper.kept c.args.sites.now c.requires
 
 pub returns-in_err-answer-clause-servers : goal.returns-in_err-answer-clause-servers
-returns-in_err-answer-clause-servers g c = keeps_both g.K.Keeper.kept c.args.sites.now c.loop-bodies.sites c.answer_line.new.sites c.loop-bodies.invariant.servers c.answer_line.ensures.servers
+returns-in_err-answer-clause-servers g c = keeps_then g.K.Keeper.kept c.args.sites.now c.loop-bodies.sites c.answer_line.new.sites c.loop-bodies.invariant.servers c.answer_line.ensures.servers
 
 pub returns-in_err-ended-clause-servers : goal.returns-in_err-ended-clause-servers
-returns-in_err-ended-clause-servers g c = keeps_both g.K.Keeper.kept c.args.sites.now c.loop-bodies.sites c.end_bodies.new.sites c.loop-bodies.invariant.servers c.end_bodies.ensures.servers
+returns-in_err-ended-clause-servers g c = keeps_then g.K.Keeper.kept c.args.sites.now c.loop-bodies.sites c.end_bodies.new.sites c.loop-bodies.invariant.servers c.end_bodies.ensures.servers
 
 pub returns-clause-servers : goal.returns-clause-servers
-returns-clause-servers g c = keeps_both g.K.Keeper.kept c.args.sites.now c.loop-bodies.sites c.end_bodies.new.sites c.loop-bodies.invariant.servers c.end_bodies.ensures.servers
+returns-clause-servers g c = keeps_then g.K.Keeper.kept c.args.sites.now c.loop-bodies.sites c.end_bodies.new.sites c.loop-bodies.invariant.servers c.end_bodies.ensures.servers

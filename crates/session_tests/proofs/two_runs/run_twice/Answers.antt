@@ -1,11 +1,11 @@
 use Rattle.std.proofs.Common.{List, ℕ, map, sym, subst}
 use Rattle.std.specs.Prelude.{string_bytes}
 use Rattle.keep_core.specs.Contents.{Contents}
-use Rattle.run_commands.specs.parts.laws.Parts.{keeps_both}
 use Rattle.session_core.specs.Inputs.{OfInput}
 use Rattle.session_core.specs.Session.{Asks, run_events}
 use Rattle.session_tests.specs.TwoRuns.{HasBegun}
 use Rattle.site_store.specs.Views.{names, held}
+use Rattle.site_store.specs.laws.Counts.{keeps_then}
 use Rattle.world_store.specs.Stands.{Stands}
 use Rattle.session_tests.proofs.Begun.{begun, both_begun}
 use Rattle.session_tests.proofs.two_runs.run_twice.Goals as goal
@@ -27,5 +27,5 @@ returns g c =
           (λ v at. let asks_on = subst (λ (l : List (List ℕ)). Asks (map string_bytes c.args.words.now) l opening) (sym same) asks in
           subst (λ (l : List (List ℕ)). OfInput (g.I.Source.left c.args.second.now) (λ bytes. HasBegun (Stands l) (run_events opening bytes v) v (held kept s2))) same
           (begun (Stands (names s1)) (λ bytes. run_events opening bytes v) v (held kept s2) (g.I.Source.left c.args.second.now) (g.O.Sink.taken c.session-one.new.output) (g.O.Sink.taken c.session-two.new.output) c.session-two.result (λ done. c.session-two.ensures.done done opening v asks_on (subst (λ (l : List (List ℕ)). Stands l (held kept s1) v) (sym same) at)) (λ stopped. c.session-two.ensures.stopped stopped opening v asks_on (subst (λ (l : List (List ℕ)). Stands l (held kept s1) v) (sym same) at))));
-      servers = keeps_both kept s0 s1 s2 c.session-one.ensures.servers c.session-two.ensures.servers;
+      servers = keeps_then kept s0 s1 s2 c.session-one.ensures.servers c.session-two.ensures.servers;
     }

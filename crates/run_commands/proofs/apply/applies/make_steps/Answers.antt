@@ -3,9 +3,10 @@ use Rattle.std.proofs.lemmas.Result.{err_from_is_err_and}
 use Rattle.repl_model.specs.World.{World}
 use Rattle.run_core.specs.Runs.{last_world}
 use Rattle.site_store.specs.Views.{names, held}
+use Rattle.site_store.specs.laws.Counts.{keeps_itself, keeps_then}
 use Rattle.world_store.specs.Stands.{Stands}
 use Rattle.run_commands.specs.parts.laws.Exits.{on_err}
-use Rattle.run_commands.specs.parts.laws.Parts.{untouched, keeps_both, output_cause, output_reads, later_cause}
+use Rattle.run_commands.specs.parts.laws.Parts.{output_cause, output_reads, later_cause}
 use Rattle.run_commands.proofs.Applying.{applies_first, made_more, ended_refused, stopped_in_step, ended_rested, stopped_at_count, never_all}
 use Rattle.run_commands.specs.apply.Progress.{TakesStep, TakesSteps, no_steps, one_more}
 use Rattle.run_commands.proofs.ToldSteps.{tells_none}
@@ -19,7 +20,7 @@ loop-steps-init g c =
     record {
       applies = λ w stands. let k = c.requires.most w stands in applies_first (Stands (names s0)) c.args.number c.args.id.now c.args.most w (g.O.Sink.taken c.args.output.now) (held kept s0) k.0 stands k.1 k.2;
       told = no_steps (g.O.Sink.taken c.args.output.now);
-      servers = untouched kept s0 c.requires.closed;
+      servers = keeps_itself kept s0 c.requires.closed;
       counts = omega arith;
     }
 
@@ -49,7 +50,7 @@ returns-in_err-make_step g c =
           stopped_in_step (Stands (names s0)) number id c.args.most w t n lt (held kept s1) u at (held kept s2) u2
           (stopped_there kept s0 s1 s2 inv.servers.names number id v u u2 (c.in_err-make_step.ensures.stopped v (stands_there kept s0 s1 s2 inv.servers.names number id v at.stands))));
       no_rest = rw (p.1, p.2) (tells_none t u2 c.args.source c.in_err-make_step.field-0.0 c.in_err-make_step.ensures.read);
-      servers = keeps_both kept s0 s1 s2 inv.servers c.make_step.ensures.servers;
+      servers = keeps_then kept s0 s1 s2 inv.servers c.make_step.ensures.servers;
       cause = rw (p.1, p.2) (later_cause kept s0 s1 s2 (g.O.Sink.faults c.args.output.now) (g.O.Sink.faults c.loop-steps.output) (g.O.Sink.faults c.make_step.new.output) c.in_err-make_step.field-0.0 inv.servers
           (λ w stands. let at = inv.applies w stands in (last_world w at.done, at.stands)) inv.counts c.in_err-make_step.ensures.cause);
       counts = omega (arith, inv.counts, c.make_step.ensures.counts);
@@ -75,7 +76,7 @@ returns-in-Refused g c =
           (went_there kept s0 s1 s2 inv.servers.names number id v u u2 came.0) (sym c.in-Refused.is ∙ came.1);
       stopped = tt;
       no_rest = tt;
-      servers = keeps_both kept s0 s1 s2 inv.servers c.make_step.ensures.servers;
+      servers = keeps_then kept s0 s1 s2 inv.servers c.make_step.ensures.servers;
       cause = tt;
       counts = omega (arith, inv.counts, c.make_step.ensures.counts);
     }
@@ -100,7 +101,7 @@ loop-steps-preserved g c =
           made_more (Stands (names s0)) number id c.args.most w (g.O.Sink.taken c.args.output.now) c.loop-steps.steps c.loop-steps-test.true (held kept s1) u at (held kept s2) u2
           c.next_actions_come_to_rest.ensures (λ h x there. there.sound) (went_there kept s0 s1 s2 inv.servers.names number id v u u2 came.0) (sym c.in-Made.is ∙ came.1);
       told = one_more (g.O.Sink.taken c.args.output.now) u u2 c.loop-steps.steps line.0 inv.told line.1 line.2;
-      servers = keeps_both kept s0 s1 s2 inv.servers c.make_step.ensures.servers;
+      servers = keeps_then kept s0 s1 s2 inv.servers c.make_step.ensures.servers;
       counts = omega (arith, inv.counts, c.make_step.ensures.counts);
     }
 
@@ -119,7 +120,7 @@ returns-in_err-reply-in-Rested g c =
     let between = g.O.Sink.faults c.make_step.new.output in
     let now = g.O.Sink.faults c.reply.new.output in
     let error = c.in_err-reply-in-Rested.field-0.0 in
-    let keeps = keeps_both kept s0 s1 s2 inv.servers c.make_step.ensures.servers in
+    let keeps = keeps_then kept s0 s1 s2 inv.servers c.make_step.ensures.servers in
     let p = err_from_is_err_and c.from_residual-in_err-reply-in-Rested.result c.from_residual-in_err-reply-in-Rested.ensures.1 in
     record {
       ok = rw p.1 tt;
@@ -161,7 +162,7 @@ returns-in-Rested g c =
           (went_there kept s0 s1 s2 inv.servers.names number id v u u2 came.0) (sym c.in-Rested.is ∙ came.1) (g.O.Sink.taken c.reply.new.output) c.in_ok-reply-in-Rested.ensures.ok;
       stopped = tt;
       no_rest = tt;
-      servers = keeps_both kept s0 s1 s2 inv.servers c.make_step.ensures.servers;
+      servers = keeps_then kept s0 s1 s2 inv.servers c.make_step.ensures.servers;
       cause = tt;
       counts = omega (arith, inv.counts, c.make_step.ensures.counts, c.reply.ensures.counts);
     }

@@ -1,7 +1,8 @@
 use Rattle.std.proofs.Common.{◌≡◌, ◌∙◌, true, false, sym, subst}
 use Rattle.repl_types.specs.declared.refusal.Refusal.TheVariants as refusals
 use Rattle.run_commands.specs.parts.laws.Exits.{err_also, ok_also, if_err_also}
-use Rattle.run_commands.specs.parts.laws.Parts.{output_cause, output_reads, untouched}
+use Rattle.site_store.specs.laws.Counts.{keeps_itself}
+use Rattle.run_commands.specs.parts.laws.Parts.{output_cause, output_reads}
 use Rattle.run_commands.specs.apply.Progress.{Progressed, StoppedStep}
 use Rattle.run_commands.specs.apply.StepEvents.{Outcome, next_outcome, is_carried_out}
 use Rattle.run_commands.proofs.FoundSets.{is_read_only}
@@ -25,7 +26,7 @@ returns-then-not-is_carried_out g c =
       stopped = err_also c.refuse_step.result (λ wrote. λ w k stands placed. declined_begun kept s s w stands (next_outcome number w k) refusal (uncarried_declined number w k set placed uncarried) t u wrote) c.refuse_step.ensures.stopped;
       lines = ok_also c.refuse_step.result (λ progress wrote. no_line t u progress wrote.0) c.refuse_step.ensures.ok;
       read = if_err_also c.refuse_step.result (output_reads (g.O.Sink.faults c.args.output.now) (g.O.Sink.faults c.refuse_step.new.output)) c.refuse_step.ensures.cause;
-      servers = untouched kept s c.requires.closed;
+      servers = keeps_itself kept s c.requires.closed;
       cause = if_err_also c.refuse_step.result (output_cause kept s s (g.O.Sink.faults c.args.output.now) (g.O.Sink.faults c.refuse_step.new.output)) c.refuse_step.ensures.cause;
       counts = c.refuse_step.ensures.counts;
     }

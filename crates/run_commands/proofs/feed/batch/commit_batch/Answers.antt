@@ -7,13 +7,14 @@ use Rattle.faults.specs.declared.call_errors.AppendError.TheVariants as errors
 use Rattle.keep_core.specs.Revealed.{Takes, TakesPrefix}
 use Rattle.repl_model.specs.World.{World}
 use Rattle.site_store.specs.Views.{names, held}
+use Rattle.site_store.specs.laws.Counts.{keeps_itself}
 use Rattle.source_log.specs.Appending.{HasNotAppended, BlamesOrStops}
 use Rattle.source_log.specs.Rules.{ShowsDamage}
 use Rattle.world_store.specs.Stands.{Stands}
 use Rattle.run_core.specs.Runs.{lines_of}
 use Rattle.run_commands.specs.parts.Refusing.{refused}
 use Rattle.run_commands.specs.parts.laws.Exits.{on_err}
-use Rattle.run_commands.specs.parts.laws.Parts.{nothing_done, untouched, output_cause}
+use Rattle.run_commands.specs.parts.laws.Parts.{nothing_done, output_cause}
 use Rattle.run_commands.specs.feed.FeedEvents.{batch_events}
 use Rattle.run_commands.proofs.Batches.{none_taken, server_refused, server_refusal_begun, all_appended, last_is, record_refused, record_refusal_begun, append_stopped, ends_run, append_cause}
 use Rattle.run_commands.proofs.feed.batch.commit_batch.Goals as goal
@@ -38,7 +39,7 @@ returns-in_err-clone g c =
       ok = rw p.1 tt;
       last = rw p.1 tt;
       stopped = on_err c.from_residual.result (nothing_done kept c.args.sites.now (g.O.Sink.taken c.args.output.now) (batch_events c.args.feed.now));
-      servers = untouched kept c.args.sites.now c.requires.closed;
+      servers = keeps_itself kept c.args.sites.now c.requires.closed;
       cause = rw (p.1, p.2) (record { streams = tt; servers = tt });
       counts = omega arith;
     }
@@ -57,7 +58,7 @@ returns-in_err-refuse_by g c =
       last = rw p.1 tt;
       stopped = on_err c.from_residual-in_err-refuse_by.result (server_refusal_begun kept s0 c.requires.closed feed c.in_default.ensures t u
           (subst (λ (name : List ℕ). TakesPrefix t u (lines_of (refused (refusals.NoSuchServer name)))) same c.in_err-refuse_by.ensures.stopped));
-      servers = untouched kept s0 c.requires.closed;
+      servers = keeps_itself kept s0 c.requires.closed;
       cause = rw (p.1, p.2) (output_cause kept s0 s0 (g.O.Sink.faults c.args.output.now) (g.O.Sink.faults c.refuse_by.new.output) c.in_err-refuse_by.field-0.0 c.in_err-refuse_by.ensures.cause);
       counts = c.refuse_by.ensures.counts;
     }
@@ -74,7 +75,7 @@ returns-in_default g c =
       ok = server_refused kept s0 c.requires.closed feed c.in_default.ensures t u true (refl, subst (λ (name : List ℕ). Takes t u (lines_of (refused (refusals.NoSuchServer name)))) same c.in_ok-refuse_by.ensures.ok.1);
       last = tt;
       stopped = tt;
-      servers = untouched kept s0 c.requires.closed;
+      servers = keeps_itself kept s0 c.requires.closed;
       cause = tt;
       counts = c.refuse_by.ensures.counts;
     }

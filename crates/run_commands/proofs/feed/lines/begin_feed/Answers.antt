@@ -5,9 +5,10 @@ use Rattle.std.proofs.lemmas.Result.{err_from_is_err_and}
 use Rattle.repl_types.specs.declared.refusal.Refusal.TheVariants as refusals
 use Rattle.site_store.specs.Servers.{HasNone, IsPlace}
 use Rattle.site_store.specs.Views.{names}
+use Rattle.site_store.specs.laws.Counts.{keeps_itself}
 use Rattle.run_commands.specs.parts.Refusing.{refused}
 use Rattle.run_commands.specs.parts.laws.Exits.{on_err}
-use Rattle.run_commands.specs.parts.laws.Parts.{happened_as, stopped_as, refusal_written, refusal_begun, all_done, untouched, output_cause}
+use Rattle.run_commands.specs.parts.laws.Parts.{happened_as, stopped_as, refusal_written, refusal_begun, all_done, output_cause}
 use Rattle.run_commands.specs.feed.FeedEvents.{begin_events}
 use Rattle.run_commands.proofs.BodyLines.{nothing_begins, feed_begins, name_refused, none_begins}
 use Rattle.run_commands.proofs.feed.lines.begin_feed.Goals as goal
@@ -37,7 +38,7 @@ returns-in_err-refuse_by g c =
       feed = rw p.1 tt;
       stopped = on_err c.from_residual.result (stopped_as kept sites sites t u (λ w. refused (refusals.NoSuchServer name)) (begin_events name) (name_refused kept sites c.requires name none)
           (refusal_begun kept sites t u (refusals.NoSuchServer name) c.in_err-refuse_by.ensures.stopped));
-      servers = untouched kept sites c.requires;
+      servers = keeps_itself kept sites c.requires;
       cause = rw (p.1, p.2) (output_cause kept sites sites (g.O.Sink.faults c.args.output.now) (g.O.Sink.faults c.refuse_by.new.output) c.in_err-refuse_by.field-0.0 c.in_err-refuse_by.ensures.cause);
       counts = c.refuse_by.ensures.counts;
     }
@@ -56,7 +57,7 @@ returns-then-is_none g c =
       after = none_begins kept sites c.requires name none;
       feed = tt;
       stopped = tt;
-      servers = untouched kept sites c.requires;
+      servers = keeps_itself kept sites c.requires;
       cause = tt;
       counts = c.refuse_by.ensures.counts;
     }
@@ -73,7 +74,7 @@ returns g c =
       after = feed_begins kept sites c.requires name place.0 place.1;
       feed = (record { users = tt; few = omega arith }, refl);
       stopped = tt;
-      servers = untouched kept sites c.requires;
+      servers = keeps_itself kept sites c.requires;
       cause = tt;
       counts = omega arith;
     })

@@ -3,7 +3,8 @@ use Rattle.std.specs.Prelude.{is_none}
 use Rattle.std.proofs.lemmas.Result.{err_from_is_err_and}
 use Rattle.repl_types.specs.declared.refusal.Refusal.TheVariants as refusals
 use Rattle.run_commands.specs.parts.laws.Exits.{on_err, err_also, ok_also}
-use Rattle.run_commands.specs.parts.laws.Parts.{happened_as, stopped_as, nothing_done, untouched}
+use Rattle.site_store.specs.laws.Counts.{keeps_itself}
+use Rattle.run_commands.specs.parts.laws.Parts.{happened_as, stopped_as, nothing_done}
 use Rattle.run_commands.specs.feed.FeedEvents.{record_events, refused_events, feed_line_events}
 use Rattle.run_commands.proofs.BodyLines.{line_read, after_read, line_unread, after_unread, ok_both}
 use Rattle.run_commands.proofs.Feeds.{feed_within}
@@ -53,7 +54,7 @@ returns-in-Err-Memory g c =
       after = tt;
       feed = tt;
       stopped = nothing_done kept c.args.sites.now (g.O.Sink.taken c.args.output.now) (feed_line_events c.args.feed c.args.number c.args.text.now);
-      servers = untouched kept c.args.sites.now c.requires.closed;
+      servers = keeps_itself kept c.args.sites.now c.requires.closed;
       cause = record { streams = tt; servers = tt };
       counts = omega arith;
     }

@@ -3,7 +3,8 @@ use Rattle.std.specs.Prelude.{not}
 use Rattle.std.proofs.lemmas.Result.{err_from_is_err_and}
 use Rattle.run_commands.specs.parts.Parts.{Happened}
 use Rattle.run_commands.specs.parts.laws.Exits.{on_err}
-use Rattle.run_commands.specs.parts.laws.Parts.{happened_as, stopped_as, nothing_done, all_done, untouched}
+use Rattle.site_store.specs.laws.Counts.{keeps_itself}
+use Rattle.run_commands.specs.parts.laws.Parts.{happened_as, stopped_as, nothing_done, all_done}
 use Rattle.run_commands.specs.feed.FeedEvents.{batch_events, record_events}
 use Rattle.run_commands.specs.feed.Feeds.{committed, is_full, IsFeed}
 use Rattle.run_commands.specs.declared.feed.feed.Feed.{Feed}
@@ -30,7 +31,7 @@ returns-in_err-more g c =
       ok = rw p.1 tt;
       after = rw p.1 tt;
       stopped = on_err c.from_residual.result (nothing_done kept c.args.sites.now (g.O.Sink.taken c.args.output.now) (record_events c.args.feed c.args.number c.args.logged));
-      servers = untouched kept c.args.sites.now c.requires.closed;
+      servers = keeps_itself kept c.args.sites.now c.requires.closed;
       cause = rw (p.1, p.2) (record { streams = tt; servers = tt });
       counts = omega arith;
     }
@@ -49,7 +50,7 @@ returns-then-len-lt-BATCH_LIMIT g c =
       ok = happened_as kept s0 s0 t t (λ w. []) (record_events feed number r) (λ w stands. nothing_fed feed number r few w) false (all_done kept s0 t);
       after = c.in_ok-more.ensures ∙ waits feed number r few;
       stopped = tt;
-      servers = untouched kept s0 c.requires.closed;
+      servers = keeps_itself kept s0 c.requires.closed;
       cause = tt;
       counts = omega arith;
     }

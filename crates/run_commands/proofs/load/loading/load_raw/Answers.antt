@@ -2,12 +2,13 @@ use Rattle.std.proofs.Common.{◌≡◌, ◌∙◌, true, false, sym, subst, ari
 use Rattle.faults.specs.declared.fault.Fault.{Fault}
 use Rattle.repl_model.specs.World.{World}
 use Rattle.site_store.specs.Views.{names, held}
+use Rattle.site_store.specs.laws.Counts.{keeps_itself}
 use Rattle.world_store.specs.Stands.{Stands}
 use Rattle.load_defs.specs.Loading.{HasNotLoaded}
 use Rattle.run_commands.specs.load.LoadEvents.{has_carried_out_sets, raw_events}
 use Rattle.run_commands.specs.parts.Refusing.{refused}
 use Rattle.run_commands.specs.parts.laws.Exits.{err_also, ok_also, if_err_also}
-use Rattle.run_commands.specs.parts.laws.Parts.{refusal_written, refusal_begun, happened_as, stopped_as, untouched, output_cause}
+use Rattle.run_commands.specs.parts.laws.Parts.{refusal_written, refusal_begun, happened_as, stopped_as, output_cause}
 use Rattle.run_commands.proofs.LoadDamage.{load_cause}
 use Rattle.run_commands.proofs.LoadEvents.{not_carried_out, load_written, load_begun, refused_load, refused_load_begun, stopped_load}
 use Rattle.run_commands.proofs.load.loading.load_raw.Goals as goal
@@ -25,7 +26,7 @@ returns-then-not-has_carried_out_sets g c =
     record {
       ok = ok_also c.refuse.result (λ answer wrote. happened_as kept sites sites t u (λ w. refused refusal) (raw_events raw) (λ w stands. same w) answer (refusal_written kept sites t u refusal answer wrote)) c.refuse.ensures.ok;
       stopped = err_also c.refuse.result (λ wrote. stopped_as kept sites sites t u (λ w. refused refusal) (raw_events raw) (λ w stands. same w) (refusal_begun kept sites t u refusal wrote)) c.refuse.ensures.stopped;
-      servers = untouched kept sites c.requires.closed;
+      servers = keeps_itself kept sites c.requires.closed;
       cause = if_err_also c.refuse.result (output_cause kept sites sites (g.O.Sink.faults c.args.output.now) (g.O.Sink.faults c.refuse.new.output)) c.refuse.ensures.cause;
       counts = c.refuse.ensures.counts;
     }

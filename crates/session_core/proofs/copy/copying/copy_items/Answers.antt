@@ -2,7 +2,8 @@ use Rattle.std.proofs.Common.{false}
 use Rattle.std.specs.Prelude.{Some}
 use Rattle.std.proofs.lemmas.Result.{err_from_is_err_and}
 use Rattle.run_commands.specs.parts.laws.Exits.{on_err}
-use Rattle.run_commands.specs.parts.laws.Parts.{keeps_both, stands_after}
+use Rattle.site_store.specs.laws.Counts.{keeps_then}
+use Rattle.run_commands.specs.parts.laws.Parts.{stands_after}
 use Rattle.run_commands.specs.load.LoadEvents.{load_text_events}
 use Rattle.session_core.specs.copy.unwritten.laws.Causes.{part_blamed, servers_later}
 use Rattle.session_core.specs.copy.CopyEvents.{copy_text, silent, brought_events}
@@ -51,7 +52,7 @@ returns-in_err-any g c =
       ok = rw p.1 tt;
       stopped = on_err c.from_residual-in_err-any.result (stops_after kept s0 s1 s2 keeps.names t u first brought_events (g.I.Source.left c.args.input.now) happened c.in_err-any.ensures.stopped);
       ended = rw (p.1, p.2) c.in_err-any.ensures.ended;
-      servers = keeps_both kept s0 s1 s2 keeps c.bring_copy.ensures.servers;
+      servers = keeps_then kept s0 s1 s2 keeps c.bring_copy.ensures.servers;
       cause = rw (p.1, p.2) (servers_later kept s0 s1 s2 e keeps (stands_after kept s0 s1 t t first first false happened) c.in_err-any.ensures.cause);
     }
 
@@ -67,6 +68,6 @@ returns g c =
       ok = reads_after kept s0 s1 s2 c.load_items.ensures.servers.names t u (silent (load_text_events (Some copy_text))) brought_events (g.I.Source.left c.args.input.now) c.in_ok-any.any (c.in_ok-load_items.ensures.ok t) c.in_ok-any.ensures.ok;
       stopped = tt;
       ended = c.in_ok-any.ensures.ended;
-      servers = keeps_both kept s0 s1 s2 c.load_items.ensures.servers c.bring_copy.ensures.servers;
+      servers = keeps_then kept s0 s1 s2 c.load_items.ensures.servers c.bring_copy.ensures.servers;
       cause = tt;
     }

@@ -4,10 +4,10 @@ use Rattle.std.proofs.lemmas.Result.{err_from_is_err_and}
 use Rattle.repl_model.specs.World.{World}
 use Rattle.run_core.specs.Runs.{Event}
 use Rattle.site_store.specs.Views.{names, held}
+use Rattle.site_store.specs.laws.Counts.{keeps_itself, keeps_then}
 use Rattle.world_store.specs.Stands.{Stands}
 use Rattle.run_commands.specs.parts.Parts.{Happened, StoppedIn}
 use Rattle.run_commands.specs.parts.laws.Exits.{on_err}
-use Rattle.run_commands.specs.parts.laws.Parts.{untouched, keeps_both}
 use Rattle.session_core.specs.copy.unwritten.laws.Causes.{part_blamed, streams_unwritten, servers_later}
 use Rattle.session_core.specs.copy.fed.FedInput.{input_events}
 use Rattle.session_core.specs.copy.CopyEvents.{shown_events, fed_events}
@@ -27,7 +27,7 @@ returns-in_err-source g c =
       ok = rw p.1 tt;
       stopped = on_err c.from_residual.result (λ w at. nothing_read (Stands (names s0)) (g.I.Source.left c.args.input.now) fed_events w (held kept s0) (g.O.Sink.taken c.args.output.now) at);
       ended = rw (p.1, p.2) tt;
-      servers = untouched kept s0 c.requires;
+      servers = keeps_itself kept s0 c.requires;
       cause = rw (p.1, p.2) tt;
     }
 
@@ -79,7 +79,7 @@ returns-in_err-any g c =
       ok = rw p.1 tt;
       stopped = on_err c.from_residual-in_err-any.result (shown_stopped kept s0 s1 s2 keeps.names t u lines refused left fed shown);
       ended = rw (p.1, p.2) (part_blamed kept s1 s2 left (g.I.Source.faults c.args.input.now) (g.I.Source.faults c.feed_input.new.input) (g.O.Sink.faults c.args.output.now) (g.O.Sink.faults c.show_fed.new.output) e c.in_err-any.ensures.cause);
-      servers = keeps_both kept s0 s1 s2 keeps c.show_fed.ensures.servers;
+      servers = keeps_then kept s0 s1 s2 keeps c.show_fed.ensures.servers;
       cause = rw (p.1, p.2) (servers_later kept s0 s1 s2 e keeps (reads_stand kept s0 s1 left (Some []) (Some lines) (input_events (codes "src")) refused fed) c.in_err-any.ensures.cause.servers);
     }
 
@@ -103,6 +103,6 @@ returns g c =
       ok = feed_happened kept s0 s1 s2 keeps.names t u lines refused left any fed shown;
       stopped = tt;
       ended = c.in_ok-refused.ensures.ended;
-      servers = keeps_both kept s0 s1 s2 keeps c.show_fed.ensures.servers;
+      servers = keeps_then kept s0 s1 s2 keeps c.show_fed.ensures.servers;
       cause = tt;
     }

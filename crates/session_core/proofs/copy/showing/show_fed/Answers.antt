@@ -2,7 +2,8 @@ use Rattle.std.proofs.Common.{◌≤◌, false, arith}
 use Rattle.std.specs.Prelude.{None, codes}
 use Rattle.std.proofs.lemmas.Result.{err_from_is_err_and}
 use Rattle.run_commands.specs.parts.laws.Exits.{on_err}
-use Rattle.run_commands.specs.parts.laws.Parts.{keeps_both, happened_both, stopped_first, stopped_second, stands_after, later_cause}
+use Rattle.site_store.specs.laws.Counts.{keeps_then}
+use Rattle.run_commands.specs.parts.laws.Parts.{happened_both, stopped_first, stopped_second, stands_after, later_cause}
 use Rattle.run_commands.specs.capture.CaptureEvents.{capture_events}
 use Rattle.session_core.specs.copy.CopyEvents.{silent, applied_events}
 use Rattle.session_core.proofs.copy.showing.show_fed.Goals as goal
@@ -44,7 +45,7 @@ returns-in_err-any g c =
     record {
       ok = rw p.1 tt;
       stopped = on_err c.from_residual-in_err-any.result (λ fed known. stopped_second kept s0 s1 s2 keeps.names t t u first (applied_events fed) false happened (c.in_err-any.ensures.stopped fed known));
-      servers = keeps_both kept s0 s1 s2 keeps c.apply_copy.ensures.servers;
+      servers = keeps_then kept s0 s1 s2 keeps c.apply_copy.ensures.servers;
       cause = rw (p.1, p.2) (later_cause kept s0 s1 s2 count count later c.in_err-any.field-0.0 keeps (stands_after kept s0 s1 t t first first false happened) le c.in_err-any.ensures.cause);
       counts = c.apply_copy.ensures.counts;
     }
@@ -61,7 +62,7 @@ returns g c =
     record {
       ok = λ fed known. happened_both kept s0 s1 s2 keeps.names t t u (silent (capture_events (codes "src") None None)) (applied_events fed) false c.in_ok-any.any (c.in_ok-capture_items.ensures.ok t) (c.in_ok-any.ensures.ok fed known);
       stopped = tt;
-      servers = keeps_both kept s0 s1 s2 keeps c.apply_copy.ensures.servers;
+      servers = keeps_then kept s0 s1 s2 keeps c.apply_copy.ensures.servers;
       cause = tt;
       counts = c.apply_copy.ensures.counts;
     }

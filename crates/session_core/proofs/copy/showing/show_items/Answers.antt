@@ -3,7 +3,8 @@ use Rattle.std.specs.Prelude.{IfOk, OnErr, codes}
 use Rattle.std.proofs.lemmas.Result.{err_from_is_err_and}
 use Rattle.run_commands.specs.parts.Parts.{Happened, StoppedIn}
 use Rattle.run_commands.specs.parts.laws.Exits.{on_err}
-use Rattle.run_commands.specs.parts.laws.Parts.{nothing_done, untouched}
+use Rattle.site_store.specs.laws.Counts.{keeps_itself}
+use Rattle.run_commands.specs.parts.laws.Parts.{nothing_done}
 use Rattle.run_commands.specs.target.TargetEvents.{target_events}
 use Rattle.session_core.proofs.copy.showing.show_items.Goals as goal
 
@@ -15,7 +16,7 @@ returns-in_err-target g c =
     record {
       ok = rw p.1 tt;
       stopped = on_err c.from_residual.result (nothing_done kept s0 (g.O.Sink.taken c.args.output.now) (target_events 0 (codes "dst") (codes "items_copy")));
-      servers = untouched kept s0 c.requires;
+      servers = keeps_itself kept s0 c.requires;
       cause = rw (p.1, p.2) (record { streams = tt; servers = tt });
       counts = omega arith;
     }
@@ -28,7 +29,7 @@ returns-in_err-copy g c =
     record {
       ok = rw p.1 tt;
       stopped = on_err c.from_residual-in_err-copy.result (nothing_done kept s0 (g.O.Sink.taken c.args.output.now) (target_events 0 (codes "dst") (codes "items_copy")));
-      servers = untouched kept s0 c.requires;
+      servers = keeps_itself kept s0 c.requires;
       cause = rw (p.1, p.2) (record { streams = tt; servers = tt });
       counts = omega arith;
     }

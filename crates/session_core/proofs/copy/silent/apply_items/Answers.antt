@@ -4,7 +4,8 @@ use Rattle.std.proofs.lemmas.Result.{err_from_is_err_and}
 use Rattle.repl_types.specs.declared.record.SetId.{SetId}
 use Rattle.run_commands.specs.parts.Parts.{Happened, StoppedIn}
 use Rattle.run_commands.specs.parts.laws.Exits.{on_err}
-use Rattle.run_commands.specs.parts.laws.Parts.{nothing_done, untouched}
+use Rattle.site_store.specs.laws.Counts.{keeps_itself}
+use Rattle.run_commands.specs.parts.laws.Parts.{nothing_done}
 use Rattle.session_core.specs.copy.unwritten.laws.Causes.{cause_unwritten}
 use Rattle.session_core.specs.copy.unwritten.laws.Unwritten.{happened_unwritten, stopped_in_unwritten}
 use Rattle.run_commands.specs.apply.StepEvents.{apply_events}
@@ -19,7 +20,7 @@ returns-in_err-set g c =
     record {
       ok = rw p.1 tt;
       stopped = on_err c.from_residual.result (λ t. nothing_done kept s0 t (silent (apply_events 0 copy_set)));
-      servers = untouched kept s0 c.requires;
+      servers = keeps_itself kept s0 c.requires;
       cause = λ count. rw (p.1, p.2) (record { streams = tt; servers = tt });
     }
 

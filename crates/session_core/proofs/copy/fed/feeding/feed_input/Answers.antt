@@ -6,10 +6,11 @@ use Rattle.line_input.specs.Input.{left_of, total_of, ReadsLine}
 use Rattle.line_input.specs.Limits.{input_limit}
 use Rattle.line_input.specs.declared.input.Next.{Next}
 use Rattle.site_store.specs.Views.{names, held}
+use Rattle.site_store.specs.laws.Counts.{keeps_itself, keeps_then}
 use Rattle.world_store.specs.Stands.{Stands}
 use Rattle.run_commands.specs.parts.Parts.{StoppedIn}
 use Rattle.run_commands.specs.parts.laws.Exits.{on_err}
-use Rattle.run_commands.specs.parts.laws.Parts.{untouched, keeps_both, later_cause}
+use Rattle.run_commands.specs.parts.laws.Parts.{later_cause}
 use Rattle.session_core.specs.copy.unwritten.laws.Causes.{part_blamed}
 use Rattle.session_core.specs.copy.fed.FedInput.{input_events}
 use Rattle.session_core.specs.copy.fed.Lines.{next_events, next_after, Feeds}
@@ -29,7 +30,7 @@ returns-in_err-lines g c =
       ok = rw p.1 tt;
       stopped = on_err c.from_residual.result (λ w at. nothing_read (Stands (names s0)) (g.I.Source.left c.args.input.now) (input_events c.args.server) w (held kept s0) (g.O.Sink.taken c.args.output.now) at);
       ended = rw (p.1, p.2) tt;
-      servers = untouched kept s0 c.requires;
+      servers = keeps_itself kept s0 c.requires;
       cause = rw (p.1, p.2) tt;
       counts = omega arith;
     }
@@ -139,7 +140,7 @@ returns-in_err-feed-2 g c =
       stopped = on_err c.from_residual-in_err-feed-2.result (
           line_stopped kept s0 s1 s2 inv.servers.names c.args.server left t u u2 c.loop-feed.feed c.loop-feed.number before now inv.going c.in_ok-next.next c.next_line.new.line.items c.in_ok-next.ensures.line more c.in_ok-next.ensures.whole line);
       ended = rw (p.1, p.2) (part_blamed kept s0 s2 left (g.I.Source.faults c.args.input.now) (g.I.Source.faults c.next_line.new.source) count later e cause);
-      servers = keeps_both kept s0 s1 s2 inv.servers c.feed_next.ensures.servers;
+      servers = keeps_then kept s0 s1 s2 inv.servers c.feed_next.ensures.servers;
       cause = rw (p.1, p.2) cause.servers;
       counts = omega (arith, inv.output_counts, c.feed_next.ensures.counts);
     }
@@ -174,7 +175,7 @@ loop-feed-preserved g c =
     let feeds = subst (λ (bytes : List ℕ). Feeds kept s1 s2 u u2 (is_none feed) (next_events feed number next bytes) (next_after feed number next bytes) number after) c.deref.ensures.value c.in_ok-feed-2.ensures.ok in
     record {
       going = line_fed kept s0 s1 s2 inv.servers.names c.args.server left t u u2 feed number before now inv.going next c.next_line.new.line.items c.in_ok-next.ensures.line more c.in_ok-next.ensures.whole after feeds;
-      servers = keeps_both kept s0 s1 s2 inv.servers c.feed_next.ensures.servers;
+      servers = keeps_then kept s0 s1 s2 inv.servers c.feed_next.ensures.servers;
       feeds = fed_later number after feeds.fed;
       total = c.in_ok-next.ensures.spends.total ∙ inv.total;
       few = omega (arith, inv.few, c.in_ok-next.ensures.spends.budget more);
@@ -211,7 +212,7 @@ returns-in_err-refused g c =
       stopped = on_err c.from_residual-in_err-refused.result (
           end_stopped kept s0 s1 s2 inv.servers.names c.args.server left t u u2 c.loop-feed.feed c.loop-feed.number before now inv.going c.in_ok-next.next c.next_line.new.line.items c.in_ok-next.ensures.line ended c.in_err-refused.ensures.stopped);
       ended = rw (p.1, p.2) (part_blamed kept s0 s2 left (g.I.Source.faults c.args.input.now) (g.I.Source.faults c.next_line.new.source) count later e cause);
-      servers = keeps_both kept s0 s1 s2 inv.servers c.end_lines.ensures.servers;
+      servers = keeps_then kept s0 s1 s2 inv.servers c.end_lines.ensures.servers;
       cause = rw (p.1, p.2) cause.servers;
       counts = omega (arith, inv.output_counts, c.end_lines.ensures.counts);
     }
@@ -236,7 +237,7 @@ returns g c =
       ok = end_fed kept s0 s1 s2 inv.servers.names c.args.server left t u u2 c.loop-feed.feed c.loop-feed.number before now inv.going c.in_ok-next.next line c.in_ok-next.ensures.line ended c.in_ok-refused.refused c.in_ok-refused.ensures.ok;
       stopped = tt;
       ended = all_read left later (g.I.Source.left c.next_line.new.source) c.loop-feed.lines c.next_line.new.self line inv.total (subst (λ (n : Next). ReadsLine n line before now) ended c.in_ok-next.ensures.line) c.in_ok-next.ensures.spends.total c.next_line.new.self.limited;
-      servers = keeps_both kept s0 s1 s2 inv.servers c.end_lines.ensures.servers;
+      servers = keeps_then kept s0 s1 s2 inv.servers c.end_lines.ensures.servers;
       cause = tt;
       counts = omega (arith, inv.output_counts, c.end_lines.ensures.counts);
     }
