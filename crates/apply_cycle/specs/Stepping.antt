@@ -77,8 +77,8 @@ module _ {K : Type 0} (kept : K → Kept) (old new : Sites K) where
   ReadsIfBlock (blocks upto) = ReadsOnly is_read_in_block kept old new
   ReadsIfBlock other = Unit {0}
 
-  -- Somebody is to blame for a fault, and each server holds what it held, or at a fault of a keeper what the failed commit took.
-  -- A refusal blames nobody, and leaves what each server holds.
+  -- Somebody is to blame for a fault. Each server holds what it held, but one whose keeper failed may hold something else. A
+  -- refusal blames nobody, and leaves what each server holds.
   abbrev pub IsBlamed : (ℕ → Area → DamageCause → Type 0) → Fault → Type 0
   IsBlamed damage (faults.Refused refusal) = held kept new ≡ held kept old
   IsBlamed damage e = BlamesUnchanged kept old new damage e
