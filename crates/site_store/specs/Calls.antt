@@ -145,7 +145,7 @@ abbrev pub IsMemoryOr : Fault → Fault → Type 0
 IsMemoryOr fault e = (e ≡ faults.Memory) ⊎ (e ≡ fault)
 
 -- What is held after a call of one commit failed: what was held; or if the keeper of a server failed, that server may hold
--- something else, which the failed commit took.
+-- something else.
 abbrev pub HoldsOrInDoubt : {K : Type 0} → (K → Kept) → Sites K → Sites K → Fault → Type 0
 HoldsOrInDoubt kept old new e = (held kept new ≡ held kept old) ⊎ ((s : ℕ) × (saw : Option Contents) × (e ≡ faults.Keeper s) × (held kept new ≡ slice_set (held kept old) s saw))
 
