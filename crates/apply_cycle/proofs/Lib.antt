@@ -1,3 +1,4 @@
 mod BlockSteps
 mod Blocked
+mod CycleSteps
 mod StepCases

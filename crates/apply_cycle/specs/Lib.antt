@@ -1,3 +1,4 @@
 pub mod Blocks
+pub mod Cycling
 pub mod Stepping
 pub mod laws

@@ -1,16 +1,18 @@
 //! A step of a read-only set: its next action, in one commit or none.
 //!
 //! `step` makes what a set does next: a signal, a refresh, a block, a report, or nothing
-//! (`specs/Stepping.antt`). `block_step` has the targets of a set's members take the captured
-//! changes of an interval, and puts the set's state and the next entry of its trail, in one commit
-//! at the target. It reads no log, no source and nothing spilled. `specs/Blocks.antt` says what the
-//! commit makes of a world, and `specs/laws/NextBlocks.antt` what is known where a block is what
-//! the set does next: no change of the interval is missing, and its end is captured.
+//! (`specs/Stepping.antt`). `cycle` makes the steps of the set of a name until there is nothing to
+//! do (`specs/Cycling.antt`), and `most_steps` says how many that may be. `block_step` has the
+//! targets of a set's members take the captured changes of an interval, and puts the set's state
+//! and the next entry of its trail, in one commit at the target. It reads no log, no source and
+//! nothing spilled. `specs/Blocks.antt` says what the commit makes of a world, and
+//! `specs/laws/NextBlocks.antt` what is known where a block is what the set does next: no change of
+//! the interval is missing, and its end is captured.
 //!
 //! It stands on `subs_sets`, which says what the set does next, on `full_refresh` and
 //! `prune_control`, which make the other actions, on `target_steps`, which puts a step at a target,
 //! and on `action_worlds` and `action_store`, which say what the commit makes of a world and of
-//! what the servers hold. `run_commands` uses it.
+//! what the servers hold, and that a set comes to rest. `run_commands` uses it.
 //!
 //! For example, the targets of a set have reached 3, and its source has captured the units at 7 and
 //! at 12. If the set has no limit on a block, its next block is from 3 to 12. If a call fails
@@ -18,8 +20,10 @@
 #![tactic(auto)]
 
 mod blocks;
+mod cycles;
 mod laws;
 mod steps;
 
 pub use blocks::block_step;
+pub use cycles::{cycle, most_steps};
 pub use steps::step;

@@ -19,7 +19,8 @@ use Rattle.site_store.specs.declared.sites.Sites.{Sites}
 use Rattle.world_store.specs.Stands.{Stands}
 use Rattle.set_places.specs.Places.{HasSourceRow, HasTargetRow, IsPlaced, IsKnownAs}
 use Rattle.set_places.specs.declared.placed_set.PlacedSet.{PlacedSet}
-use Rattle.run_commands.specs.apply.Progress.{MakesAtMost, MayMake}
+use Rattle.apply_cycle.specs.Cycling.{MakesAtMost}
+use Rattle.run_commands.specs.apply.Progress.{MayMake}
 use Rattle.run_commands.specs.apply.StepEvents.{events_of, events_from, apply_events}
 use Rattle.run_commands.proofs.MadeSteps.{unknown_declined}
 
@@ -35,19 +36,3 @@ may_make kept s0 s1 looks id set known most at = λ w stands.
     let before = stood_before kept s0 s1 looks w stands in
     let k = known w before in
     (k.0, k.1, at w k.0 before k.2)
-
--- a set that is placed after reads was placed before them
-pub placed_before : {K : Type 0} (kept : K → Kept) (s0 s1 : Sites K) → Looks kept s0 s1 → (set : PlacedSet) → IsPlaced kept s1 set → IsPlaced kept s0 set
-placed_before kept s0 s1 looks set placed = record {
-  source = record {
-    within = subst (λ (l : List (List ℕ)). set.source < length l) looks.stays.passes.names placed.source.within;
-    row = subst (λ (saw : Option Contents). IfSome saw (HasSourceRow set.at_source)) (looks_sees kept s0 s1 looks set.source) placed.source.row;
-    fits = placed.source.fits;
-  };
-  target = record {
-    within = subst (λ (l : List (List ℕ)). set.target < length l) looks.stays.passes.names placed.target.within;
-    row = subst (λ (saw : Option Contents). IfSome saw (HasTargetRow set.at_target)) (looks_sees kept s0 s1 looks set.target) placed.target.row;
-    fits = placed.target.fits;
-  };
-  apart = placed.apart;
-}

@@ -10,7 +10,6 @@ mod FoundSets
 pub mod LoadDamage
 pub mod LoadEvents
 mod MadeSteps
-mod MostSteps
 mod NamedSteps
 mod Outcomes
 mod ShowEvents

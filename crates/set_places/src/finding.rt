@@ -1,6 +1,7 @@
 //! The set of a name is found.
 
-ghost use Rattle.std.specs.Prelude.{◌<◌, length, OnOk, OnErr, IfOk, IfErr, IfSome};
+ghost use Rattle.std.specs.Prelude.{◌≡◌, ◌<◌, length, Some, OnOk, OnErr, IfOk, IfErr, IfSome};
+ghost use Rattle.repl_types.specs.declared.refusal.Refusal.TheVariants as refusals;
 ghost use Rattle.repl_model.specs.World.{World};
 ghost use Rattle.site_store.specs.Damage.{IsNoDamage};
 ghost use Rattle.site_store.specs.Servers.{AllClosed};
@@ -16,10 +17,10 @@ use crate::placed_set::PlacedSet;
 use faults::Fault;
 use keep_core::Keeper;
 use repl_definitions::{SourceSet, TargetSet};
-use repl_types::SetId;
+use repl_types::{Refusal, SetId};
 use row_codec::{Table2, Table3};
 use site_store::Sites;
-use std::alloc::Global;
+use std::alloc::{AllocError, Global};
 
 /// The set whose row stands at a target, if it stands at its source too.
 fn find_from<K: Keeper>(
@@ -108,4 +109,15 @@ pub fn find_set<K: Keeper>(
         }
     }
     Ok(None)
+}
+
+/// The refusal of a name that no set has.
+pub fn unknown_set(id: &SetId) -> Result<Refusal, AllocError>
+    ensures { IfOk result (λ refusal. refusal
+        ≡ refusals.NoSuchSet id.now.qual (Some id.now.name)) }
+{
+    Ok(Refusal::NoSuchSet {
+        qual: id.qual.clone()?,
+        name: Some(id.name.clone()?),
+    })
 }

@@ -173,13 +173,19 @@ pub fn change_rows(alloc: Global, sites: &mut Sites<MapKeeper>) -> Result<(), Fa
     capture_all(alloc, sites)
 }
 
-/// The servers hq and shop, with the set, and the row (1) in its table.
-pub fn new_servers(alloc: Global) -> Result<Sites<MapKeeper>, Fail> {
+/// The servers hq and shop, with the set.
+pub fn loaded_servers(alloc: Global) -> Result<Sites<MapKeeper>, Fail> {
     let mut sites = servers_with(alloc, MapKeeper::new(alloc), MapKeeper::new(alloc))?;
     a_text_that_is_read_is_whole();
     let raw = read_defs(alloc, DEFINITIONS.as_bytes())?;
     sites.rollback_all();
     load(&mut sites, alloc, &raw)?;
+    Ok(sites)
+}
+
+/// The same, with the row (1) in the table of the set.
+pub fn new_servers(alloc: Global) -> Result<Sites<MapKeeper>, Fail> {
+    let mut sites = loaded_servers(alloc)?;
     append_one(alloc, &mut sites, insert(alloc, 1)?)?;
     append_one(alloc, &mut sites, commit(alloc)?)?;
     Ok(sites)

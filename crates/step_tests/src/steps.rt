@@ -6,11 +6,11 @@ ghost use Rattle.site_store.specs.Servers.{AllClosed};
 ghost use Rattle.site_store.specs.Views.{work};
 ghost use Rattle.set_places.specs.Places.{IsPlaced};
 
-use apply_cycle::step;
+use apply_cycle::{cycle, step};
 use copy_targets::CopyTargets;
 use faults::{Fault, Stepped};
 use keep_core::Keeper;
-use repl_types::{Name, SetId};
+use repl_types::{List, Name, SetId};
 use set_places::{PlacedSet, find_set};
 use site_store::Sites;
 use std::alloc::Global;
@@ -57,4 +57,15 @@ pub fn next_step<K: Keeper>(
         return Ok(Stepped::Idle);
     };
     step(sites, alloc, &set, &mut CopyTargets)
+}
+
+/// Lets the set of a name take its steps until there is nothing to do. They are added to the list.
+pub fn all_steps<K: Keeper>(
+    alloc: Global,
+    sites: &mut Sites<K>,
+    id: &SetId,
+    done: &mut List<Stepped>,
+) -> Result<(), Fault> {
+    sites.rollback_all();
+    cycle(sites, alloc, id, &mut CopyTargets, done)
 }

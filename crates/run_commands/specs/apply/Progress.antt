@@ -79,10 +79,6 @@ IsKnown kept sites set = (w : World) → Stands (names sites) (held kept sites) 
 abbrev pub ForKnown : {K : Type 0} → (K → Kept) → Sites K → PlacedSet → (World → KnownSet → Type 0) → Type 0
 ForKnown kept sites set says = (w : World) (k : KnownSet) → Stands (names sites) (held kept sites) w → IsPlacedAs w k set → says w k
 
--- there that set, by its source, makes at most so many steps
-abbrev pub MakesAtMost : {K : Type 0} → (K → Kept) → Sites K → PlacedSet → ℕ → Type 0
-MakesAtMost kept sites set most = (w : World) (k : KnownSet) → Stands (names sites) (held kept sites) w → IsPlacedAs w k set → most ≡ k.source.captured + 5
-
--- and the set of a name, which is known there
+-- there the set of a name is known, and makes at most so many steps
 abbrev pub MayMake : {K : Type 0} → (K → Kept) → Sites K → SetId → ℕ → Type 0
 MayMake kept sites id most = (w : World) → Stands (names sites) (held kept sites) w → (k : KnownSet) × (known_set w id ≡ Some k) × (most ≡ k.source.captured + 5)

@@ -10,23 +10,21 @@ ghost use Rattle.world_store.specs.Stands.{Stands};
 ghost use Rattle.set_places.specs.Places.{IsPlaced, IsKnownAs};
 ghost use Rattle.run_commands.specs.parts.Causes.{PartHasCause, FoundByRead};
 ghost use Rattle.run_commands.specs.parts.Parts.{Happened, StoppedIn};
-ghost use Rattle.run_commands.specs.apply.Progress.{IsKnown, MakesAtMost, MayMake, TellsNoRest};
+ghost use Rattle.run_commands.specs.apply.Progress.{IsKnown, MayMake, TellsNoRest};
+ghost use Rattle.apply_cycle.specs.Cycling.{MakesAtMost};
 ghost use Rattle.set_places.specs.declared.placed_set.PlacedSet.{PlacedSet};
 ghost use Rattle.run_commands.specs.apply.StepEvents.{apply_events};
 
 use crate::apply::steps::{Progress, make_step};
 use crate::parts::{RunError, error_of_fault, refuse_set, reply};
 use action_worlds::next_actions_come_to_rest;
+use apply_cycle::most_steps;
 use keep_core::{Keeper, Sink};
 use repl_types::{Area, DamageCause, SetId};
 use reply_text::Reply;
 use set_places::{PlacedSet, find_set};
 use site_store::Sites;
 use std::alloc::Global;
-use subs_sets::captured_point;
-
-/// How many steps a set makes at most beside those that the captured units call for.
-const MORE_STEPS: u64 = 5;
 
 /// How many steps a set that was found makes at most. Nothing is changed.
 fn most_of<K: Keeper>(alloc: Global, sites: &mut Sites<K>, set: &PlacedSet) -> Result<u64, RunError>
@@ -41,8 +39,8 @@ fn most_of<K: Keeper>(alloc: Global, sites: &mut Sites<K>, set: &PlacedSet) -> R
     ensures cause { (count : ℕ)
         → IfErr result (PartHasCause K.kept sites.old sites.new count count) }
 {
-    match captured_point(sites, alloc, set) {
-        Ok(point) => Ok(point.saturating_add(MORE_STEPS)),
+    match most_steps(sites, alloc, set) {
+        Ok(most) => Ok(most),
         Err(fault) => Err(error_of_fault(fault)),
     }
 }

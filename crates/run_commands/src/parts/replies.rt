@@ -12,7 +12,8 @@ use crate::parts::run_error::RunError;
 use keep_core::{Sink, write_line};
 use repl_types::{Refusal, SetId};
 use reply_text::{Reply, write_refusal, write_reply};
-use std::alloc::{AllocError, Global};
+use set_places::unknown_set;
+use std::alloc::Global;
 
 /// Writes the line of a refusal, and says that something was refused. After an error a prefix of
 /// the line was taken.
@@ -28,17 +29,6 @@ pub fn refuse<O: Sink>(alloc: Global, output: &mut O, refusal: &Refusal) -> Resu
     write_refusal(refusal, &mut line)?;
     write_line(output, &line)?;
     Ok(true)
-}
-
-/// Why the name of no set is refused.
-fn unknown_set(id: &SetId) -> Result<Refusal, AllocError>
-    ensures { IfOk result (λ refusal. refusal
-        ≡ refusals.NoSuchSet id.now.qual (Some id.now.name)) }
-{
-    Ok(Refusal::NoSuchSet {
-        qual: id.qual.clone()?,
-        name: Some(id.name.clone()?),
-    })
 }
 
 /// Writes the line that refuses the name of no set, and says that something was refused. After an

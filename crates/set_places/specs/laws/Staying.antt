@@ -8,7 +8,7 @@ use Rattle.site_store.specs.Calls.{Begins}
 use Rattle.site_store.specs.Servers.{AllClosed}
 use Rattle.site_store.specs.Views.{names, work}
 use Rattle.server_steps.specs.Calls.{Looks}
-use Rattle.server_steps.specs.laws.Reads.{sees_on}
+use Rattle.server_steps.specs.laws.Reads.{looks_sees, sees_on}
 use Rattle.set_places.specs.declared.placed_set.PlacedSet.{PlacedSet}
 use Rattle.set_places.specs.Places.{HasSourceRow, HasTargetRow, IsPlacedAtSource, IsPlacedAtTarget, IsPlaced}
 use Rattle.set_places.specs.laws.Commits.{begun_sees_all}
@@ -35,6 +35,22 @@ module _ {K : Type 0} (kept : K → Kept) (s0 s1 : Sites K) (set : PlacedSet) wh
   -- both are
   pub placed_stays : IsPlaced kept s0 set → Looks kept s0 s1 → IsPlaced kept s1 set
   placed_stays placed look = record { source = placed_at_source_stays placed.source look; target = placed_at_target_stays placed.target look; apart = placed.apart }
+
+-- a set that is placed after reads was placed before them
+pub placed_before : {K : Type 0} (kept : K → Kept) (s0 s1 : Sites K) → Looks kept s0 s1 → (set : PlacedSet) → IsPlaced kept s1 set → IsPlaced kept s0 set
+placed_before kept s0 s1 looks set placed = record {
+  source = record {
+    within = subst (λ (l : List (List ℕ)). set.source < length l) looks.stays.passes.names placed.source.within;
+    row = subst (λ (saw : Option Contents). IfSome saw (HasSourceRow set.at_source)) (looks_sees kept s0 s1 looks set.source) placed.source.row;
+    fits = placed.source.fits;
+  };
+  target = record {
+    within = subst (λ (l : List (List ℕ)). set.target < length l) looks.stays.passes.names placed.target.within;
+    row = subst (λ (saw : Option Contents). IfSome saw (HasTargetRow set.at_target)) (looks_sees kept s0 s1 looks set.target) placed.target.row;
+    fits = placed.target.fits;
+  };
+  apart = placed.apart;
+}
 
 -- ---- after a transaction was begun at a server
 

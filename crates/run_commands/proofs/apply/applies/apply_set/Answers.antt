@@ -12,7 +12,8 @@ use Rattle.run_commands.specs.parts.laws.Exits.{err_also, ok_also, if_err_also}
 use Rattle.run_commands.specs.parts.laws.Looking.{looked_keeps, happened_looked, stopped_looked, refused_after, begun_after, closed_after, keeps_after, cause_looked, stops_keeps, stops_before, stops_run, stops_reads, stops_cause}
 use Rattle.run_commands.specs.parts.laws.Parts.{output_cause, output_reads}
 use Rattle.run_commands.specs.apply.StepEvents.{apply_events}
-use Rattle.run_commands.proofs.FoundApplying.{unknown_applied, placed_before}
+use Rattle.set_places.specs.laws.Staying.{placed_before}
+use Rattle.run_commands.proofs.FoundApplying.{unknown_applied}
 use Rattle.run_commands.proofs.MadeSteps.{known_after}
 use Rattle.run_commands.proofs.apply.applies.apply_set.Goals as goal
 

@@ -4,21 +4,17 @@ use Rattle.server_steps.specs.laws.Reads.{looks_none}
 use Rattle.subs_sets.specs.Rules.{source_rules}
 use Rattle.target_steps.specs.laws.AtServers.{captured_undamaged}
 use Rattle.run_commands.specs.parts.laws.Looking.{looked_keeps, stops_keeps, stops_run, stops_reads, stops_cause}
-use Rattle.run_commands.proofs.MostSteps.{most_is}
 use Rattle.run_commands.proofs.StepDamage.{source_shown}
 use Rattle.run_commands.proofs.apply.applies.most_of.Goals as goal
-
-pub captured_point-requires : goal.captured_point-requires
-captured_point-requires g c = record { placed = c.requires.placed.source }
 
 pub returns-in-Ok : goal.returns-in-Ok
 returns-in-Ok g c =
     let kept = g.K.Keeper.kept in
     let s0 = c.args.sites.now in
-    let s1 = c.captured_point.new.sites in
+    let s1 = c.most_steps.new.sites in
     record {
       ok = c.in-Ok.ensures.ok;
-      most = most_is kept s0 c.args.set.now c.requires.closed c.in-Ok.point c.saturating_add.result c.in-Ok.ensures.point c.saturating_add.ensures;
+      most = c.in-Ok.ensures.most;
       stopped = tt;
       read = tt;
       servers = looked_keeps kept s0 s1 c.in-Ok.ensures.ok c.requires.closed;
@@ -29,13 +25,13 @@ pub error_of_fault-requires : goal.error_of_fault-requires
 error_of_fault-requires g c =
     let s0 = c.args.sites.now in
     let source = c.args.set.now.source in
-    stops_run g.K.Keeper.kept s0 c.captured_point.new.sites source_rules source_shown (λ s. s ≡ source) (λ s is. subst (λ (m : ℕ). m < length (names s0)) (sym is) c.requires.placed.source.within) c.in-Err.fault c.in-Err.ensures.fault
+    stops_run g.K.Keeper.kept s0 c.most_steps.new.sites source_rules source_shown (λ s. s ≡ source) (λ s is. subst (λ (m : ℕ). m < length (names s0)) (sym is) c.requires.placed.source.within) c.in-Err.fault c.in-Err.ensures.fault
 
 pub returns-in-Err : goal.returns-in-Err
 returns-in-Err g c =
     let kept = g.K.Keeper.kept in
     let s0 = c.args.sites.now in
-    let s1 = c.captured_point.new.sites in
+    let s1 = c.most_steps.new.sites in
     let set = c.args.set.now in
     let here = λ (s : ℕ). s ≡ set.source in
     let within = λ (s : ℕ) (is : s ≡ set.source). subst (λ (m : ℕ). m < length (names s0)) (sym is) c.requires.placed.source.within in
