@@ -29,6 +29,7 @@ mod table_id;
 mod table_run;
 mod table_runs;
 
+pub use area_counts::AreaCounts;
 pub use bytes_sink::BytesSink;
 pub use bytes_source::BytesSource;
 pub use map_keeper::MapKeeper;

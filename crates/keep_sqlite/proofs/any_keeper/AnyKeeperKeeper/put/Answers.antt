@@ -1,0 +1,7 @@
+use Rattle.keep_sqlite.proofs.any_keeper.AnyKeeperKeeper.put.Goals as goal
+
+pub returns-in-Map-clause-ok : goal.returns-in-Map-clause-ok
+returns-in-Map-clause-ok g c = rw c.in-Map.is c.put.ensures.ok
+
+pub returns-in-Map-clause-err : goal.returns-in-Map-clause-err
+returns-in-Map-clause-err g c = rw c.in-Map.is c.put.ensures.err

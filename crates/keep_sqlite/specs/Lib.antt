@@ -1,0 +1,2 @@
+pub mod AnyKeepers
+pub mod Keepers
