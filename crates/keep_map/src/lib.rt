@@ -2,8 +2,9 @@
 //! sees what each failure leaves.
 //!
 //! Below it are `keep_core`, whose traits it implements, `rows_in_runs`, and `repl_types`, whose
-//! lists and areas it takes. Above it, the tests of `site_store` and of `sqlrep` use it; no
-//! contract above names it. Its types reveal all that they hold.
+//! lists and areas it takes. Above it, `sqlrep` keeps its servers in it, the tests of the layers
+//! between use it, and `keep_sqlite` counts by its `AreaCounts`. Its types reveal all that they
+//! hold.
 //!
 //! A `MapKeeper` holds the rows of each table in a run of rising keys (`rows_in_runs`), and beside
 //! the runs, in one tree, the rows whose keys came out of order. No key has a row in both, and a

@@ -2,9 +2,8 @@
 //!
 //! A `SqliteKeeper` keeps a server's contents in the one table `kv` of a database, by the crate
 //! `sqlite`: a row for each key, with its area and its table. `SqliteKeeper::open` keeps it in a
-//! file, where it stays after the run, and `open_in_memory` in memory, for tests of some thousand
-//! rows. An `AnyKeeper` is such a keeper or a `MapKeeper`, so that servers of both kinds can stand
-//! side by side in one run.
+//! file, where it stays after the run, and `open_in_memory` in memory, for tests. An `AnyKeeper` is
+//! such a keeper or a `MapKeeper`, so that servers of both kinds can stand side by side in one run.
 //!
 //! Below it are `keep_core`, whose trait it implements, `keep_map`, for the other keeper and for
 //! the counts of areas, and `repl_types`.

@@ -36,7 +36,8 @@ impl<S: Alter> Model for SqliteKeeper<S> {
 }
 
 impl SqliteKeeper<MemStore> {
-    /// A keeper in memory, which holds nothing.
+    /// A keeper in memory, which holds nothing. Its first change after a rollback takes time by all
+    /// its rows, so it is for tests with few rows.
     pub fn open_in_memory(alloc: Global) -> Result<SqliteKeeper<MemStore>, KeepError>
         ensures { IfOk result (λ keeper. kept_of keeper ≡ kept_new) }
     {
@@ -105,6 +106,7 @@ impl<S: Alter> SqliteKeeper<S> {
         }
     }
 
+    /// `begin` at the database, or `Failed` if the keeper is dead.
     fn try_begin(&mut self) -> Result<(), KeepError>
         ensures same { self.new ≡ self.old }
         ensures dead { self.old.is_dead ≡ true → result ≡ Err KeepError.Failed }
@@ -113,6 +115,7 @@ impl<S: Alter> SqliteKeeper<S> {
         calls::run(&mut self.conn, BEGIN)
     }
 
+    /// `commit` at the database, or `Failed` if the keeper is dead.
     fn try_commit(&mut self) -> Result<(), KeepError>
         ensures same { self.new ≡ self.old }
         ensures dead { self.old.is_dead ≡ true → result ≡ Err KeepError.Failed }
@@ -121,6 +124,7 @@ impl<S: Alter> SqliteKeeper<S> {
         calls::run(&mut self.conn, COMMIT)
     }
 
+    /// `get` at the database, or `Failed` if the keeper is dead.
     fn try_get(
         &mut self,
         area: Area,
@@ -136,6 +140,7 @@ impl<S: Alter> SqliteKeeper<S> {
         calls::get(&mut self.conn, area, table, key, out)
     }
 
+    /// `next` at the database, or `Failed` if the keeper is dead.
     fn try_next(
         &mut self,
         area: Area,
@@ -153,6 +158,7 @@ impl<S: Alter> SqliteKeeper<S> {
         calls::next(&mut self.conn, area, table, after, key, out)
     }
 
+    /// `put` at the database, or `Failed` if the keeper is dead.
     fn try_put(&mut self, area: Area, table: u32, key: &[u8], value: &[u8]) -> Result<(), KeepError>
         ensures same { self.new ≡ self.old }
         ensures dead { self.old.is_dead ≡ true → result ≡ Err KeepError.Failed }
@@ -161,6 +167,7 @@ impl<S: Alter> SqliteKeeper<S> {
         calls::put(&mut self.conn, area, table, key, value)
     }
 
+    /// `remove` at the database, or `Failed` if the keeper is dead.
     fn try_remove(&mut self, area: Area, table: u32, key: &[u8]) -> Result<bool, KeepError>
         ensures same { self.new ≡ self.old }
         ensures dead { self.old.is_dead ≡ true → result ≡ Err KeepError.Failed }
