@@ -1,11 +1,8 @@
 //! Keepers in files, over several openings of one file.
 
-ghost use Rattle.std.specs.Prelude.{length};
-
 use crate::calls::{commit_put, gives};
 use keep_core::KeepError;
 use keep_sqlite::{AnyKeeper, SqliteKeeper};
-use std::alloc::Global;
 use std::test::Fail;
 use std::{env, fs, io, process};
 

@@ -1,7 +1,7 @@
 //! A keeper over a database in memory, alone and as one of either kind, beside a map.
 
-ghost use Rattle.std.specs.Prelude.{IfOk, OnOk};
-ghost use Rattle.keep_core.specs.Kept.{IsClosed, IsOpen};
+ghost use Rattle.std.specs.Prelude.{IfOk};
+ghost use Rattle.keep_core.specs.Kept.{IsClosed};
 ghost use Rattle.keep_sqlite.specs.AnyKeepers.{any_kept};
 
 use crate::calls::{commit_put, gives, gives_keys, put};
@@ -13,21 +13,17 @@ use sqlite::MemStore;
 use std::alloc::Global;
 use std::test::Fail;
 
-/// A keeper of either kind, over a database.
-fn database(alloc: Global) -> Result<AnyKeeper<MemStore>, KeepError>
+/// A keeper of either kind, which is a map or over a database.
+fn either(alloc: Global, is_map: bool) -> Result<AnyKeeper<MemStore>, KeepError>
     ensures { IfOk result (λ keeper. IsClosed (any_kept keeper)) }
 {
+    if is_map {
+        return Ok(AnyKeeper::Map(MapKeeper::new(alloc)));
+    }
     match SqliteKeeper::open_in_memory(alloc) {
         Ok(keeper) => Ok(AnyKeeper::Sqlite(keeper)),
         Err(error) => Err(error),
     }
-}
-
-/// A keeper of either kind, which is a map.
-fn map(alloc: Global) -> AnyKeeper<MemStore>
-    ensures { IsClosed (any_kept result) }
-{
-    AnyKeeper::Map(MapKeeper::new(alloc))
 }
 
 /// Puts a value and rolls back. Answers whether the key is there.
@@ -42,14 +38,23 @@ fn put_and_roll_back<K: Keeper>(keeper: &mut K, alloc: Global) -> Result<bool, K
 }
 
 #[test]
-fn a_rollback_takes_a_put_back(rt: HostRuntime) -> Result<(), Fail> {
+fn a_rollback_takes_back_a_put_into_a_database(rt: HostRuntime) -> Result<(), Fail> {
+    let mut keeper = SqliteKeeper::open_in_memory(rt.alloc())?;
+    assert_eq!(rt; put_and_roll_back(&mut keeper, rt.alloc()), Ok(false));
+    Ok(())
+}
+
+#[test]
+fn a_rollback_takes_back_a_put_at_a_keeper_of_either_kind(rt: HostRuntime) -> Result<(), Fail> {
     let alloc = rt.alloc();
-    let mut alone = SqliteKeeper::open_in_memory(alloc)?;
-    assert_eq!(rt; put_and_roll_back(&mut alone, alloc), Ok(false));
-    let mut any = database(alloc)?;
-    assert_eq!(rt; put_and_roll_back(&mut any, alloc), Ok(false));
-    let mut any = map(alloc);
-    assert_eq!(rt; put_and_roll_back(&mut any, alloc), Ok(false));
+    for is_map in [false, true] {
+        let mut keeper = either(alloc, is_map)?;
+        assert_eq!(rt;
+            put_and_roll_back(&mut keeper, alloc),
+            Ok(false),
+            "{is_map}"
+        );
+    }
     Ok(())
 }
 
@@ -68,10 +73,14 @@ fn commit_and_roll_back<K: Keeper>(keeper: &mut K, alloc: Global) -> Result<bool
 #[test]
 fn a_rollback_leaves_what_was_committed_before(rt: HostRuntime) -> Result<(), Fail> {
     let alloc = rt.alloc();
-    let mut any = database(alloc)?;
-    assert_eq!(rt; commit_and_roll_back(&mut any, alloc), Ok(true));
-    let mut any = map(alloc);
-    assert_eq!(rt; commit_and_roll_back(&mut any, alloc), Ok(true));
+    for is_map in [false, true] {
+        let mut keeper = either(alloc, is_map)?;
+        assert_eq!(rt;
+            commit_and_roll_back(&mut keeper, alloc),
+            Ok(true),
+            "{is_map}"
+        );
+    }
     Ok(())
 }
 
@@ -94,10 +103,10 @@ fn order_prefixes<K: Keeper>(keeper: &mut K, alloc: Global) -> Result<bool, Keep
 #[test]
 fn keys_come_in_byte_order_and_a_prefix_first(rt: HostRuntime) -> Result<(), Fail> {
     let alloc = rt.alloc();
-    let mut any = database(alloc)?;
-    assert_eq!(rt; order_prefixes(&mut any, alloc), Ok(true));
-    let mut any = map(alloc);
-    assert_eq!(rt; order_prefixes(&mut any, alloc), Ok(true));
+    for is_map in [false, true] {
+        let mut keeper = either(alloc, is_map)?;
+        assert_eq!(rt; order_prefixes(&mut keeper, alloc), Ok(true), "{is_map}");
+    }
     Ok(())
 }
 
@@ -116,10 +125,10 @@ fn put_elsewhere<K: Keeper>(keeper: &mut K, alloc: Global) -> Result<bool, KeepE
 #[test]
 fn areas_and_tables_are_apart(rt: HostRuntime) -> Result<(), Fail> {
     let alloc = rt.alloc();
-    let mut any = database(alloc)?;
-    assert_eq!(rt; put_elsewhere(&mut any, alloc), Ok(true));
-    let mut any = map(alloc);
-    assert_eq!(rt; put_elsewhere(&mut any, alloc), Ok(true));
+    for is_map in [false, true] {
+        let mut keeper = either(alloc, is_map)?;
+        assert_eq!(rt; put_elsewhere(&mut keeper, alloc), Ok(true), "{is_map}");
+    }
     Ok(())
 }
 
@@ -138,10 +147,10 @@ fn remove_twice<K: Keeper>(keeper: &mut K, alloc: Global) -> Result<bool, KeepEr
 #[test]
 fn a_removed_row_is_gone(rt: HostRuntime) -> Result<(), Fail> {
     let alloc = rt.alloc();
-    let mut any = database(alloc)?;
-    assert_eq!(rt; remove_twice(&mut any, alloc), Ok(true));
-    let mut any = map(alloc);
-    assert_eq!(rt; remove_twice(&mut any, alloc), Ok(true));
+    for is_map in [false, true] {
+        let mut keeper = either(alloc, is_map)?;
+        assert_eq!(rt; remove_twice(&mut keeper, alloc), Ok(true), "{is_map}");
+    }
     Ok(())
 }
 
@@ -163,9 +172,9 @@ fn put_longest<K: Keeper>(keeper: &mut K, alloc: Global) -> Result<bool, KeepErr
 #[test]
 fn the_longest_key_and_value_come_back(rt: HostRuntime) -> Result<(), Fail> {
     let alloc = rt.alloc();
-    let mut any = database(alloc)?;
-    assert_eq!(rt; put_longest(&mut any, alloc), Ok(true));
-    let mut any = map(alloc);
-    assert_eq!(rt; put_longest(&mut any, alloc), Ok(true));
+    for is_map in [false, true] {
+        let mut keeper = either(alloc, is_map)?;
+        assert_eq!(rt; put_longest(&mut keeper, alloc), Ok(true), "{is_map}");
+    }
     Ok(())
 }
