@@ -1,5 +1,5 @@
 -- What a clause sees of a keeper over a database.
-use Rattle.std.specs.Prelude.{ℕ, if◌then◌else◌, Option, Some, None, Result, Ok, Err, true, false}
+use Rattle.std.specs.Prelude.{ℕ, if◌then◌else◌, Some, None, Result, Ok, Err, true, false}
 use Rattle.keep_core.specs.Kept.{Kept}
 use Rattle.keep_core.specs.declared.keeper.KeepError.{KeepError}
 use Rattle.keep_core.specs.declared.keeper.KeepError.TheVariants.{Memory, Failed}
