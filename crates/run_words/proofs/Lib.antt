@@ -1,3 +1,5 @@
+pub mod CellCounts
 pub mod OneServer
 pub mod OneOpening
+pub mod Ranges
 pub mod Together

@@ -70,11 +70,10 @@ same_servers (x ∷ xs) (y ∷ ys) p q e =
     cc
 
 -- a server more has a word more
-pub one_word_more : {X Y Z : Type 0} (f : X → Y) (g : Z → Y) (xs : List X) (i : ℕ) (x : X) (zs : List Z) (z : Z) → i < length xs → x ≡ get_or xs i x → f x ≡ g z → map f (take i xs) ≡ map g zs
+pub one_word_more : {X Y Z : Type 0} (f : X → Y) (g : Z → Y) (xs : List X) (i : ℕ) (d : X) (zs : List Z) (z : Z) → i < length xs → f (get_or xs i d) ≡ g z → map f (take i xs) ≡ map g zs
     → map f (take (i + 1) xs) ≡ map g (zs ++ z ∷ [])
-one_word_more {X} {Y} f g xs i x zs z lt is same before =
-    map_more f xs i x lt ∙ ap (λ (ys : List Y). ys ++ f (get_or xs i x) ∷ []) before
-    ∙ ap (λ (y : Y). map g zs ++ y ∷ []) (ap f (sym is) ∙ same) ∙ sym (map-append g zs (z ∷ []))
+one_word_more {X} {Y} f g xs i d zs z lt same before =
+    map_more f xs i d lt ∙ ap (λ (ys : List Y). ys ++ f (get_or xs i d) ∷ []) before ∙ ap (λ (y : Y). map g zs ++ y ∷ []) same ∙ sym (map-append g zs (z ∷ []))
 
 -- a word that is of no server isn't among the words of servers
 pub no_server_at : (words : List (List ℕ)) (servers : List ServerWord) (i : ℕ) (word : List ℕ) → i < length words → word ≡ get_or words i [] → ((server : ServerWord) → IsServerWord server → word ≢ word_of server)

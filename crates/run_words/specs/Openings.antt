@@ -1,19 +1,14 @@
 -- What the words of a command line say.
-use Rattle.std.specs.Prelude.{◌≡◌, ◌≢◌, ℕ, ◌<◌, ◌≤◌, IsTrue, codes, List, [], ◌∷◌, ◌++◌, length, map}
+use Rattle.std.specs.Prelude.{◌≡◌, ◌≢◌, ℕ, ◌<◌, ◌≤◌, IsTrue, codes, decimal, List, [], ◌∷◌, ◌++◌, length, map, Option, Some, None}
 use Rattle.std.specs.List.{All, AllPairs}
 use Rattle.std.specs.Str.{IsUtf8}
+use Rattle.clap.specs.Words.{all_of, fault_of, first_of}
 use Rattle.repl_types.specs.Name.{is_name}
 use Rattle.run_words.specs.declared.opening.Opening.{Opening}
 use Rattle.run_words.specs.declared.opening.Opening.TheVariants.{Copy, Servers}
 use Rattle.run_words.specs.declared.opening.ServerWord.{ServerWord}
-
--- the most servers of a run
-abbrev pub server_limit : ℕ
-server_limit = 16
-
--- the most bytes of a path
-abbrev pub path_limit : ℕ
-path_limit = 1000
+use Rattle.run_words.specs.Command.{rows, server_app, with_program}
+use Rattle.run_words.specs.Limits.{server_limit, path_limit, least_cells, most_cells, usual_cells}
 
 -- the path of a server that is kept in memory
 abbrev pub map_path : List ℕ
@@ -46,17 +41,33 @@ pub record AreServerWords (servers : List ServerWord) : Type 0 where
   pub each : All IsServerWord servers
   pub together : AllPairs GoTogether servers
 
+-- a run has 16 to 1,048,576 cells
+abbrev pub IsCellCount : ℕ → Type 0
+IsCellCount cells = (least_cells ≤ cells) × (cells ≤ most_cells)
+
 -- what a run may be asked to do
 abbrev pub IsOpening : Opening → Type 0
 IsOpening Copy = Unit {0}
-IsOpening (Servers servers) = AreServerWords servers
+IsOpening (Servers cells servers) = IsCellCount cells × AreServerWords servers
 
--- the words for it: the one word `copy`, or a word for each server
-abbrev pub opening_words : Opening → List (List ℕ)
-opening_words Copy = codes "copy" ∷ []
-opening_words (Servers servers) = map word_of servers
+-- the text of `--cells` is the number's decimal digits; if there is no text, the number is the usual one
+abbrev pub SaysCells : Option (List ℕ) → ℕ → Type 0
+SaysCells None cells = cells ≡ usual_cells
+SaysCells (Some text) cells = text ≡ decimal cells
+
+-- the command takes the words, with the program's name before them, and reads this number of cells and the words of these
+-- servers
+pub record AreScriptWords (words : List (List ℕ)) (cells : ℕ) (servers : List ServerWord) : Type 0 where
+  pub taken : fault_of server_app (with_program words) ≡ []
+  pub option : SaysCells (first_of (codes "cells") (rows words)) cells
+  pub values : all_of (codes "servers") (rows words) ≡ Some (map word_of servers)
+
+-- the words say it: `copy` by the one word `copy`, and a script by the words that the command takes
+abbrev pub Say : List (List ℕ) → Opening → Type 0
+Say words Copy = words ≡ codes "copy" ∷ []
+Say words (Servers cells servers) = AreScriptWords words cells servers
 
 -- the words of a command line ask for this
 pub record AreWordsOf (words : List (List ℕ)) (opening : Opening) : Type 0 where
   pub right : IsOpening opening
-  pub spelled : words ≡ opening_words opening
+  pub spelled : Say words opening

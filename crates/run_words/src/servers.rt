@@ -1,14 +1,18 @@
 //! The servers that words name.
 
-ghost use Rattle.std.specs.Prelude.{◌≡◌, ◌≢◌, ◌↔◌, IsTrue, IfOk, List, map, string_bytes};
+ghost use Rattle.std.specs.Prelude.{◌≡◌, ◌≢◌, ◌↔◌, IsTrue, IfOk, List, map};
 ghost use Rattle.std.specs.List.{All, AllPairs};
+ghost use Rattle.clap.specs.Walk.{texts};
 ghost use Rattle.run_words.specs.declared.opening.ServerWord.{ServerWord};
-ghost use Rattle.run_words.specs.Openings.{word_of, IsServerWord, GoTogether};
+ghost use Rattle.run_words.specs.Openings.{word_of, IsServerWord, GoTogether, AreServerWords};
 
 use crate::opening::{MAP_PATH, ServerWord};
 use repl_commands::WordsError;
 use repl_types::{List, Name, Text};
 use std::alloc::Global;
+
+/// The most servers of a run.
+pub const SERVER_LIMIT: usize = 16;
 
 /// The most bytes of a path.
 const PATH_LIMIT: usize = 1000;
@@ -35,16 +39,16 @@ fn read_server(alloc: Global, word: &str) -> Result<ServerWord, WordsError>
 }
 
 /// The servers of the words, one a word.
-pub fn read_servers(alloc: Global, words: &[String]) -> Result<List<ServerWord>, WordsError>
+fn read_each(alloc: Global, words: &[&str]) -> Result<List<ServerWord>, WordsError>
     ensures ok { IfOk result (λ servers. All IsServerWord servers
-        × (map string_bytes words.now ≡ map word_of servers)) }
+        × (texts words.now ≡ map word_of servers)) }
     ensures usage { result ≡ Err WordsError.Usage
         → (servers : List ServerWord) → All IsServerWord servers
-        → map string_bytes words.now ≢ map word_of servers }
+        → texts words.now ≢ map word_of servers }
 {
     let mut servers = List::new(alloc);
     for word in words {
-        servers.push(read_server(alloc, word.as_str())?)?;
+        servers.push(read_server(alloc, word)?)?;
     }
     Ok(servers)
 }
@@ -64,7 +68,7 @@ fn goes_with(server: &ServerWord, others: &[ServerWord]) -> bool
 }
 
 /// Whether any two of these servers may be servers of one run.
-pub fn all_go_together(servers: &[ServerWord]) -> bool
+fn all_go_together(servers: &[ServerWord]) -> bool
     ensures { IsTrue result ↔ AllPairs GoTogether servers.now }
 {
     for (place, server) in servers.iter().enumerate() {
@@ -73,4 +77,23 @@ pub fn all_go_together(servers: &[ServerWord]) -> bool
         }
     }
     true
+}
+
+/// The servers of the words, one a word, if they may be the servers of one run.
+pub fn read_servers(alloc: Global, words: &[&str]) -> Result<List<ServerWord>, WordsError>
+    ensures ok { IfOk result (λ servers. AreServerWords servers
+        × (texts words.now ≡ map word_of servers)) }
+    ensures usage { result ≡ Err WordsError.Usage
+        → (servers : List ServerWord) → AreServerWords servers
+        → texts words.now ≢ map word_of servers }
+{
+    // The command takes 1 to 16 words here, but no clause of it says so of the list that it gives.
+    if words.is_empty() || words.len() > SERVER_LIMIT {
+        return Err(WordsError::Usage);
+    }
+    let servers = read_each(alloc, words)?;
+    if !all_go_together(servers.as_slice()) {
+        return Err(WordsError::Usage);
+    }
+    Ok(servers)
 }

@@ -4,13 +4,12 @@ ghost use Rattle.std.specs.Prelude.{◌≡◌, ◌↔◌, [], ◌∷◌, IsTrue,
 ghost use Rattle.run_words.specs.declared.opening.Opening.{Opening};
 ghost use Rattle.run_words.specs.Openings.{AreWordsOf};
 
+use crate::cells::read_cells;
+use crate::command::{cells_text, server_matches, server_texts, words_of_program};
 use crate::opening::Opening;
-use crate::servers::{all_go_together, read_servers};
+use crate::servers::read_servers;
 use repl_commands::WordsError;
 use std::alloc::Global;
-
-/// The most servers of a run.
-const SERVER_LIMIT: usize = 16;
 
 /// Whether the words are the one word `copy`.
 fn asks_copy(words: &[String]) -> bool
@@ -31,12 +30,14 @@ pub fn server_words(alloc: Global, words: &[String]) -> Result<Opening, WordsErr
     if asks_copy(words) {
         return Ok(Opening::Copy);
     }
-    if words.is_empty() || words.len() > SERVER_LIMIT {
+    let all = words_of_program(alloc, words)?;
+    let matches = server_matches(alloc, all.as_slice())?;
+    let Some(cells) = read_cells(cells_text(&matches)) else {
         return Err(WordsError::Usage);
-    }
-    let servers = read_servers(alloc, words)?;
-    if !all_go_together(servers.as_slice()) {
+    };
+    let Some(texts) = server_texts(&matches) else {
         return Err(WordsError::Usage);
-    }
-    Ok(Opening::Servers { servers })
+    };
+    let servers = read_servers(alloc, texts)?;
+    Ok(Opening::Servers { cells, servers })
 }

@@ -17,17 +17,17 @@ use Rattle.session_core.specs.Talk.{script_events}
 -- the names of the servers that a run needs, in order: `copy` needs a source and a target
 abbrev pub server_names : Opening → List (List ℕ)
 server_names Copy = codes "src" ∷ codes "dst" ∷ []
-server_names (Servers servers) = map (λ server. server.name) servers
+server_names (Servers cells servers) = map (λ server. server.name) servers
 
 -- the words ask for this run, and the servers are those that it needs
 pub record Asks (given names : List (List ℕ)) (opening : Opening) : Type 0 where
   pub words : AreWordsOf given opening
   pub servers : server_names opening ≡ names
 
--- what the run does with an input, from a world on
+-- what the run does with an input, from a world on; whatever the number of cells
 abbrev pub run_events : Opening → List ℕ → World → List (Event World)
 run_events Copy input w = copy_events input w
-run_events (Servers servers) input w = script_events input w
+run_events (Servers cells servers) input w = script_events input w
 
 -- ---- how a run ends
 

@@ -58,7 +58,8 @@ use std::alloc::Global;
 /// line for each row of the copy at `dst`, a line with the count of rows, and then a line that
 /// reports what the feed refused, if there is something.
 ///
-/// A script is read to its end, line by line. At `load` the definitions of its body are loaded when
+/// A script is read to its end, line by line. What it does doesn't depend on the number of cells
+/// that the words say, which nothing uses yet. At `load` the definitions of its body are loaded when
 /// the body ends, at the next line of a command or at the end of the input, and a line says how
 /// many were new; sets of other targets than user copies aren't taken yet. At `feed` of a server
 /// each body line that isn't blank is a record for the server's log. Records are appended together

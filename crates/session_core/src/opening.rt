@@ -21,6 +21,7 @@ use site_store::Sites;
 use std::alloc::Global;
 
 /// Carries out a run, and says whether something was refused. After an error it stopped on its way.
+/// A script is carried out in the same way whatever its number of cells.
 pub fn run_opening<K: Keeper, I: Source, O: Sink>(
     alloc: Global,
     opening: &Opening,

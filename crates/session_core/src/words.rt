@@ -43,7 +43,7 @@ fn are_asked<K: Keeper>(opening: &Opening, sites: &Sites<K>) -> bool
 {
     match opening {
         Opening::Copy => are_of_copy(sites),
-        Opening::Servers { servers } => are_these(servers.as_slice(), sites),
+        Opening::Servers { servers, .. } => are_these(servers.as_slice(), sites),
     }
 }
 

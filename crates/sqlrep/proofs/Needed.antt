@@ -41,8 +41,8 @@ two_apart (suc i) (suc (suc j)) before within same = absurd (omega arith)
 -- the servers that a run needs are servers
 pub are_needed : (opening : Opening) → IsOpening opening → AreServers (server_names opening)
 are_needed Copy is = record { some = omega arith; few = omega arith; apart = two_apart }
-are_needed (Servers servers) is = record {
-  some = omega (arith, is.some, length-map {A = ServerWord} {B = List ℕ});
-  few = omega (arith, is.few, length-map {A = ServerWord} {B = List ℕ});
-  apart = apart servers is.together;
+are_needed (Servers cells servers) is = record {
+  some = omega (arith, is.1.some, length-map {A = ServerWord} {B = List ℕ});
+  few = omega (arith, is.1.few, length-map {A = ServerWord} {B = List ℕ});
+  apart = apart servers is.1.together;
 }

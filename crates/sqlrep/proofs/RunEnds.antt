@@ -34,7 +34,7 @@ each_name (s ∷ ss) each = ((each 0 s (omega arith)).name, each_name ss (λ i d
 
 spelled : (opening : Opening) → IsOpening opening → AllByRecursion (λ name. IsTrue (is_name name)) (server_names opening)
 spelled Copy is = (refl, (refl, tt))
-spelled (Servers servers) is = each_name servers is.each
+spelled (Servers cells servers) is = each_name servers is.1.each
 
 -- the servers that a run needs may be a group of servers
 pub needed_names : (opening : Opening) → IsOpening opening → AreServerNames (server_names opening)

@@ -14,7 +14,7 @@ use Rattle.site_store.specs.declared.site.Site.{Site}
 -- the name of the first server that isn't kept in memory, and so can't be opened yet; `copy` has none
 abbrev pub on_disk : Opening → Option (List ℕ)
 on_disk Copy = None
-on_disk (Servers servers) = option_map (λ server. server.name) (find (λ server. not (bytes_eq server.path map_path)) servers)
+on_disk (Servers cells servers) = option_map (λ server. server.name) (find (λ server. not (bytes_eq server.path map_path)) servers)
 
 -- The servers have these names, and each one's keeper is new: it holds nothing, and plans no failure.
 pub record AreNew (names : List (List ℕ)) (servers : List (Site MapKeeper)) : Type 0 where

@@ -29,7 +29,7 @@ fn first_on_disk(servers: &[ServerWord]) -> Option<&ServerWord>
 pub fn on_disk(opening: &Opening) -> Option<&Name>
     ensures { option_map (λ name. name.now) result ≡ on_disk_lem opening.now }
 {
-    let Opening::Servers { servers } = opening else {
+    let Opening::Servers { servers, .. } = opening else {
         return None;
     };
     match first_on_disk(servers.as_slice()) {
@@ -72,7 +72,7 @@ pub fn needed_names(alloc: Global, opening: &Opening) -> Result<List<Name>, Allo
 {
     match opening {
         Opening::Copy => copy_names(alloc),
-        Opening::Servers { servers } => names_of_servers(alloc, servers.as_slice()),
+        Opening::Servers { servers, .. } => names_of_servers(alloc, servers.as_slice()),
     }
 }
 
