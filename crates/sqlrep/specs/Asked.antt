@@ -3,16 +3,23 @@ use Rattle.std.specs.Prelude.{ℕ, codes, List, Bool, true, false, not, ◌&&◌
 use Rattle.std.specs.List.{list_all, list_any}
 use Rattle.clap.specs.Faults.{fault_of}
 use Rattle.clap.specs.Kinds.{Kinds}
-use Rattle.clap.specs.Simple.{App, new_app, on_top, with_subcommand}
-use Rattle.clap.specs.Walk.{is_empty}
+use Rattle.clap.specs.Simple.{App, new_app, on_top, with_rule, with_subcommand}
+use Rattle.clap.specs.Walk.{Rule, is_empty}
 use Rattle.clap.specs.declared.error.kind.ErrorKind.{ErrorKind}
 use Rattle.clap.specs.declared.error.kind.ErrorKind.TheVariants.{DisplayHelp, DisplayVersion}
+use Rattle.run_words.specs.Command.{cells_rule, servers_rule}
 
--- what a parse reads of the words that the program takes
+-- an argument whose value has a name in the help
+abbrev pub with_value_name : Rule → Rule
+with_value_name rule = record rule { value_names = 1 }
+
+-- what a parse reads of a command that has a version, and no subcommand `help`
+abbrev pub program_app : App
+program_app = on_top (λ s. record s { has_version = true; subcommand_negates_reqs = true; disable_help_subcommand = true }) (new_app (codes "sqlrep"))
+
+-- what a parse reads of the words that the program takes: those of a script, or `copy`
 abbrev pub sqlrep_app : App
-sqlrep_app = with_subcommand
-    (on_top (λ s. record s { has_version = true; subcommand_required = true; disable_help_subcommand = true }) (new_app (codes "sqlrep")))
-    (new_app (codes "copy")).top
+sqlrep_app = with_subcommand (with_rule (with_rule program_app (with_value_name cells_rule)) (with_value_name servers_rule)) (new_app (codes "copy")).top
 
 -- the answer is a text that was asked for, and no mistake in the words
 abbrev pub is_shown : ErrorKind → Bool

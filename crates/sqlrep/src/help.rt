@@ -1,12 +1,21 @@
 //! What `--help` and `--version` print.
 
-ghost use Rattle.std.specs.Prelude.{◌≡◌, map, string_bytes, IfOk, IsNone, IsSome, IsTrue};
-ghost use Rattle.clap.specs.Simple.{app_of};
-ghost use Rattle.sqlrep.specs.Asked.{sqlrep_app, asks_text, asks_nothing};
+ghost use Rattle.std.specs.Prelude.{◌≡◌, false, map, string_bytes, IfOk, IsNone, IsSome};
+ghost use Rattle.std.specs.Prelude.{IsTrue};
+ghost use Rattle.clap.specs.Words.{app_of, rule_of};
+ghost use Rattle.run_words.specs.Command.{cells_rule, servers_rule};
+ghost use Rattle.sqlrep.specs.Asked.{program_app, sqlrep_app, with_value_name};
+ghost use Rattle.sqlrep.specs.Asked.{asks_text, asks_nothing};
 
-use clap::Command;
 use clap::error::ErrorKind;
+use clap::{Arg, Command};
+use run_words::{cells_arg, servers_arg};
 use std::alloc::{AllocError, Global};
+
+/// The words of the two commands.
+const USAGE: &str = "\
+sqlrep [--cells N] NAME=PATH...
+       sqlrep copy";
 
 /// What the help says of a script and its servers.
 const AFTER_HELP: &str = "\
@@ -25,20 +34,54 @@ The script comes on standard input, one command on each line:
 Sets of user copies are taken. Other forms of these commands, and prune, refresh,
 stop, generate, rounds and audit, aren't carried out yet and are refused as unknown.";
 
-/// The words that the program takes.
+/// The option of a script.
+fn cells_with_help<'a>(alloc: Global) -> Arg<'a>
+    ensures rule { rule_of result ≡ with_value_name cells_rule }
+    ensures local { result.global ≡ false }
+{
+    cells_arg(alloc).value_name("N").help(
+        "How many cells of 64 bytes a capture is to have for changes in flight:\n\
+         16 to 1048576, usually 16384. Nothing uses it yet",
+    )
+}
+
+/// The servers of a script.
+fn servers_with_help<'a>(alloc: Global) -> Arg<'a>
+    ensures rule { rule_of result ≡ with_value_name servers_rule }
+    ensures local { result.global ≡ false }
+{
+    servers_arg(alloc)
+        .value_name("NAME=PATH")
+        .help("The servers at which the script on standard input is run")
+}
+
+/// The program, without its words.
+fn program_command<'a>(alloc: Global) -> Result<Command<'a>, AllocError>
+    ensures { IfOk result (λ command. app_of command ≡ program_app) }
+{
+    Ok(
+        Command::new(alloc, "sqlrep")
+            .bin_name("sqlrep")?
+            .version("0.1.0")
+            .about("Staged SQL replication")
+            .override_usage(USAGE)
+            .after_help(AFTER_HELP)
+            .subcommand_negates_reqs(true)
+            .disable_help_subcommand(true),
+    )
+}
+
+/// The words that the program takes: those of a script, with the option and the servers that
+/// `server_words` reads, or `copy`.
 fn sqlrep_command<'a>(alloc: Global) -> Result<Command<'a>, AllocError>
     ensures { IfOk result (λ command. app_of command ≡ sqlrep_app) }
 {
     let copy = Command::new(alloc, "copy").about(
         "Reads log records on standard input and prints the rows of the copy of items",
     );
-    Command::new(alloc, "sqlrep")
-        .bin_name("sqlrep")?
-        .version("0.1.0")
-        .about("Staged SQL replication")
-        .after_help(AFTER_HELP)
-        .subcommand_required(true)
-        .disable_help_subcommand(true)
+    program_command(alloc)?
+        .arg(cells_with_help(alloc))?
+        .arg(servers_with_help(alloc))?
         .subcommand(copy)
 }
 
