@@ -24,7 +24,7 @@ fn commit_in(rt: &HostRuntime, path: &str, closes: bool) -> Result<(), KeepError
 
 /// Opens a file as a keeper of either kind, and closes it. Answers whether it gives that value.
 fn is_kept_in(rt: &HostRuntime, path: &str) -> Result<bool, KeepError> {
-    let mut keeper = AnyKeeper::open_file(rt, path)?;
+    let mut keeper = AnyKeeper::Sqlite(SqliteKeeper::open(rt, path)?);
     let answer = gives(&mut keeper, rt.alloc(), b"k", b"v")?;
     keeper.close()?;
     Ok(answer)

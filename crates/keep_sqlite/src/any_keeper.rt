@@ -1,14 +1,12 @@
 //! A keeper in memory, or one in a database.
 
-ghost use Rattle.std.specs.Prelude.{◌≡◌, IfOk};
-ghost use Rattle.keep_sqlite.specs.Keepers.{kept_new};
 ghost use Rattle.keep_sqlite.specs.AnyKeepers.{any_kept};
 
 use crate::SqliteKeeper;
 use keep_core::{KeepError, Keeper};
 use keep_map::MapKeeper;
 use repl_types::Area;
-use sqlite::{Alter, File, FileStore};
+use sqlite::{Alter, FileStore};
 use sqlite_disk::Disk;
 
 /// A keeper in memory, or one in a database. It does what the one that it is does.
@@ -16,18 +14,6 @@ use sqlite_disk::Disk;
 pub enum AnyKeeper<S: Alter> {
     Map(MapKeeper),
     Sqlite(SqliteKeeper<S>),
-}
-
-impl AnyKeeper<FileStore<File>> {
-    /// A keeper in a file, as `SqliteKeeper::open` opens it.
-    pub fn open_file(rt: &HostRuntime, path: &str) -> Result<AnyKeeper<FileStore<File>>, KeepError>
-        ensures { IfOk result (λ keeper. any_kept keeper ≡ kept_new) }
-    {
-        match SqliteKeeper::open(rt, path) {
-            Ok(keeper) => Ok(AnyKeeper::Sqlite(keeper)),
-            Err(error) => Err(error),
-        }
-    }
 }
 
 impl<D: Disk + Drop> AnyKeeper<FileStore<D>> {

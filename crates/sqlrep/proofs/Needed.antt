@@ -10,6 +10,7 @@ use Rattle.run_words.specs.declared.opening.ServerWord.{ServerWord}
 use Rattle.run_words.specs.Openings.{IsOpening, GoTogether}
 use Rattle.site_store.specs.Servers.{AreServers, AreApart}
 use Rattle.session_core.specs.Session.{server_names}
+use Rattle.sqlrep.specs.Opened.{needed_servers}
 
 -- the name at a place
 name_at : (servers : List ServerWord) (k : ℕ) (d : ServerWord) → k < length servers → get_or (map (λ s. s.name) servers) k [] ≡ (get_or servers k d).name
@@ -46,3 +47,8 @@ are_needed (Servers cells servers) is = record {
   few = omega (arith, is.1.few, length-map {A = ServerWord} {B = List ℕ});
   apart = apart servers is.1.together;
 }
+
+-- they have the names of the words that say how they are kept
+pub names_needed : (opening : Opening) → map (λ word. word.name) (needed_servers opening) ≡ server_names opening
+names_needed Copy = refl
+names_needed (Servers cells servers) = refl

@@ -1,12 +1,11 @@
 -- Runs at servers that were just opened, and how they end.
-use Rattle.std.proofs.Common.{◌≡◌, ◌≤◌, ◌<◌, ◌∙◌, ℕ, List, [], ◌∷◌, map, length, true, codes, refl, sym, ap, subst, zero, suc, arith}
+use Rattle.std.proofs.Common.{◌≡◌, ◌≤◌, ◌∙◌, ℕ, List, [], ◌∷◌, map, true, refl, sym, ap, subst, suc, arith}
 use Rattle.std.specs.Prelude.{Option, Some, None, IsTrue}
 use Rattle.std.specs.List.{All, AllByRecursion}
 use Rattle.keep_core.specs.Contents.{Contents, nothing}
-use Rattle.keep_map.specs.Keepers.{kept_of}
-use Rattle.keep_map.specs.declared.map_keeper.MapKeeper.{MapKeeper}
+use Rattle.keep_sqlite.specs.AnyKeepers.{any_kept}
+use Rattle.keep_sqlite.specs.declared.any_keeper.AnyKeeper.{AnyKeeper}
 use Rattle.repl_model.specs.Sound.{AreServerNames, empty_world}
-use Rattle.repl_model.specs.World.{World}
 use Rattle.repl_types.specs.Name.{is_name}
 use Rattle.repl_types.specs.declared.status.Status.{Status}
 use Rattle.repl_types.specs.declared.status.Status.TheVariants as statuses
@@ -20,10 +19,10 @@ use Rattle.site_store.specs.Views.{list_of, names, held}
 use Rattle.site_store.specs.declared.sites.Sites.{Sites}
 use Rattle.world_store.specs.Stands.{Stands}
 use Rattle.sqlrep.specs.Endings.{code_of, done_code, usage_code}
-use Rattle.sqlrep.specs.Opened.{AreNew}
+use Rattle.sqlrep.specs.Opened.{needed_servers, all_in_memory, AreOpened}
 use Rattle.sqlrep.specs.Runs.{RanWhole}
-use Rattle.sqlrep.proofs.Needed.{are_needed}
-use Rattle.sqlrep.proofs.NewServers.{all_apart, new_held}
+use Rattle.sqlrep.proofs.Needed.{are_needed, names_needed}
+use Rattle.sqlrep.proofs.NewServers.{all_apart, all_held}
 
 -- ---- what is asked of the servers
 
@@ -42,15 +41,21 @@ needed_names opening is =
     let needed = are_needed opening is in
     record { few = needed.few; spelled = spelled opening is; differ = all_apart (server_names opening) needed.apart }
 
-module _ (opening : Opening) (given : List (List ℕ)) (sites : Sites MapKeeper) (asked : AreWordsOf given opening) (new : AreNew (server_names opening) (list_of sites)) where
+module _ {S : Type 0} (opening : Opening) (given : List (List ℕ)) (sites : Sites (AnyKeeper S)) (asked : AreWordsOf given opening) (opened : AreOpened (needed_servers opening) (list_of sites)) where
+  -- their names are those that the run needs
+  named : names sites ≡ server_names opening
+  named = opened.named ∙ names_needed opening
+
   -- the words ask for a run at servers that were opened for it
   pub asks_here : Asks given (names sites) opening
-  asks_here = record { words = asked; servers = sym new.named }
+  asks_here = record { words = asked; servers = sym named }
 
-  -- these stand for the empty world
-  pub stands_empty : ((names : List (List ℕ)) → AreServerNames names → Stands names (map (λ name. Some nothing) names) (empty_world names)) → Stands (names sites) (held kept_of sites) (empty_world (server_names opening))
-  stands_empty empty = subst (λ (h : List (Option Contents)). Stands (names sites) h (empty_world (server_names opening))) (sym (new_held (server_names opening) (list_of sites) new))
-      (subst (λ (l : List (List ℕ)). Stands l (map (λ name. Some nothing) (server_names opening)) (empty_world (server_names opening))) (sym new.named) (empty (server_names opening) (needed_names opening asked.right)))
+  -- if all are in memory, they stand for the empty world
+  pub stands_empty : IsTrue (all_in_memory (needed_servers opening)) → ((names : List (List ℕ)) → AreServerNames names → Stands names (map (λ name. Some nothing) names) (empty_world names)) → Stands (names sites) (held any_kept sites) (empty_world (server_names opening))
+  stands_empty in_memory empty =
+      let all : held any_kept sites ≡ map (λ name. Some nothing) (server_names opening) = all_held (needed_servers opening) (list_of sites) opened in_memory ∙ ap (map (λ name. Some nothing)) (names_needed opening) in
+      subst (λ (h : List (Option Contents)). Stands (names sites) h (empty_world (server_names opening))) (sym all)
+      (subst (λ (l : List (List ℕ)). Stands l (map (λ name. Some nothing) (server_names opening)) (empty_world (server_names opening))) (sym named) (empty (server_names opening) (needed_names opening asked.right)))
 
 -- ---- how it ends
 

@@ -4,6 +4,8 @@ use Rattle.repl_types.specs.declared.area.Area.{Area}
 use Rattle.repl_types.specs.declared.area.Area.TheVariants as areas
 use Rattle.repl_types.specs.declared.status.Status.{Status}
 use Rattle.repl_types.specs.declared.status.Status.TheVariants as statuses
+use Rattle.sqlrep.specs.declared.servers.OpenError.{OpenError}
+use Rattle.sqlrep.specs.declared.servers.OpenError.TheVariants as opening
 
 -- the exit status
 abbrev pub code_of : Status → ℕ
@@ -68,3 +70,8 @@ status_line_of names (statuses.Damaged server area cause) = Some (damaged_line (
 -- the line if a server of this name can't be opened
 abbrev pub cannot_open_line : List ℕ → List ℕ
 cannot_open_line name = codes "sqlrep: cannot open " ++ name
+
+-- the line if servers can't be opened
+abbrev pub unopened_line : OpenError → List ℕ
+unopened_line opening.Memory = memory_line
+unopened_line (opening.CannotOpen name) = cannot_open_line name

@@ -5,8 +5,9 @@ ghost use Rattle.std.specs.Option.{option_map};
 ghost use Rattle.sqlrep.specs.Endings.{code_of, area_name as area_name_lem, status_line_of};
 ghost use Rattle.sqlrep.specs.Endings.{memory_line, keeper_line as keeper_line_lem};
 ghost use Rattle.sqlrep.specs.Endings.{damaged_line as damaged_line_lem};
-ghost use Rattle.sqlrep.specs.Endings.{cannot_open_line as cannot_open_line_lem};
+ghost use Rattle.sqlrep.specs.Endings.{cannot_open_line as cannot_open_line_lem, unopened_line};
 
+use crate::servers::OpenError;
 use repl_types::{Area, Name, Status};
 use std::alloc::{AllocError, Global};
 
@@ -136,12 +137,16 @@ pub fn ending_of(alloc: Global, status: &Status, names: &[Name]) -> Result<Endin
     })
 }
 
-/// The end of a run at a server of this name, which can't be opened.
-pub fn cannot_open(alloc: Global, name: &Name) -> Result<Ending, AllocError>
+/// The end of a run whose servers can't be opened, but for want of memory.
+pub fn ending_unopened(alloc: Global, error: &OpenError) -> Result<Ending, AllocError>
     ensures code { IfOk result (λ ending. ending.code ≡ code_of (Status.KeeperFault 0)) }
     ensures line { IfOk result (λ ending. option_map string_bytes ending.line
-        ≡ Some (cannot_open_line_lem name.now)) }
+        ≡ Some (unopened_line error.now)) }
 {
+    let name = match error {
+        OpenError::Memory => return Err(AllocError),
+        OpenError::CannotOpen(name) => name,
+    };
     let line = cannot_open_line(alloc, name)?;
     Ok(Ending {
         code: exit_code(&Status::KeeperFault(0)),

@@ -21,8 +21,8 @@ sqlrep [--cells N] NAME=PATH...
 const AFTER_HELP: &str = "\
 A script runs at 1 to 16 servers, each named by a word NAME=PATH:
   NAME   the name by which the script calls the server
-  PATH   where the server is kept; :map: keeps it in memory for this run, and no
-         other path can be opened yet
+  PATH   the SQLite file where the server is kept, which is made if there is
+         none; :map: keeps the server in memory for this run
 
 The script comes on standard input, one command on each line:
   load                 loads the definitions on the body lines, which begin with |

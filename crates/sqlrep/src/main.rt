@@ -2,9 +2,9 @@
 //! on standard input and prints the copy of the items.
 //!
 //! The program stands on `session_core`, whose `session` does the work and says what a run
-//! promises. What is here opens the servers in memory, gives `session` the words of the command
-//! line and the standard streams, and hands its status to the caller. `sqlrep --help` says which
-//! words it takes.
+//! promises. What is here opens the servers, in memory or in files, gives `session` the words of the
+//! command line and the standard streams, closes the servers, and hands the status to the caller.
+//! `sqlrep --help` says which words it takes.
 //!
 //! For example, of the two lines `insert 1 items 1 'pen'` and `commit 1 ann 100` it prints, at the
 //! word `copy`, `row 1 'pen'` and `ok rows 1`, and exits with 0.
@@ -17,8 +17,10 @@ ghost use Rattle.run_words.specs.declared.opening.Opening.{Opening};
 ghost use Rattle.run_words.specs.Openings.{AreWordsOf};
 ghost use Rattle.sqlrep.specs.Asked.{asks_text, asks_nothing};
 ghost use Rattle.session_core.specs.Inputs.{OfInput};
-ghost use Rattle.sqlrep.specs.Endings.{done_code, usage_code, cannot_open_line};
-ghost use Rattle.sqlrep.specs.Opened.{on_disk as on_disk_lem};
+ghost use Rattle.sqlrep.specs.Endings.{done_code, usage_code};
+ghost use Rattle.site_store.specs.Views.{list_of};
+ghost use Rattle.sqlrep.specs.Opened.{needed_servers as needed_servers_lem};
+ghost use Rattle.sqlrep.specs.Opened.{AreOpened, all_in_memory};
 ghost use Rattle.sqlrep.specs.Runs.{RanWhole};
 
 mod ending;
@@ -28,15 +30,20 @@ mod streams;
 #[cfg(test)]
 mod tests;
 
-use crate::ending::{Ending, cannot_open, ending_of, error_line, exit_status};
+use crate::ending::{Ending, ending_of, ending_unopened, error_line, exit_status};
 use crate::help::asked_text;
-use crate::servers::{needed_names, on_disk, open_in_memory};
+use crate::servers::{
+    OpenError, close_servers, copy_servers, names_of_servers, needed_servers, open_servers,
+};
 use crate::streams::{Reads, Writes};
 use keep_core::{ReadError, Sink, Source, write_line};
+use keep_sqlite::AnyKeeper;
 use repl_commands::WordsError;
 use repl_types::Status;
-use run_words::{Opening, server_words};
+use run_words::{Opening, ServerWord, server_words};
 use session_core::session;
+use site_store::Sites;
+use sqlite::Alter;
 use std::alloc::{AllocError, Global};
 use std::io;
 use std::process::ExitCode;
@@ -97,42 +104,58 @@ fn run_help(rt: &HostRuntime, words: &[String]) -> Status
     }
 }
 
-/// Runs what an opening asks for at servers in memory, over these streams. The servers hold nothing
-/// at first, so the run begins with the empty world.
-fn run_in_memory<I: Source, O: Sink>(
+/// Runs what an opening asks for at servers that were just opened for it, over these streams. If
+/// all are in memory, they hold nothing, so the run begins with the empty world.
+fn run_at<S: Alter, I: Source, O: Sink>(
     alloc: Global,
     words: &[String],
     opening: &Opening,
+    servers: &[ServerWord],
+    sites: &mut Sites<AnyKeeper<S>>,
     input: &mut I,
     output: &mut O,
 ) -> Result<Ending, AllocError>
-    requires { AreWordsOf (map string_bytes words.now) opening.now }
+    requires words { AreWordsOf (map string_bytes words.now) opening.now }
+    requires servers { servers.now ≡ needed_servers_lem opening.now }
+    requires opened { AreOpened servers.now (list_of sites.old) }
     ensures runs { IfOk result (λ ending. ending.code ≢ usage_code) }
-    ensures whole { IfOk result (λ ending. ending.code ≤ done_code → OfInput (I.left input.old)
+    ensures whole { IsTrue (all_in_memory servers.now) → IfOk result (λ ending.
+        ending.code ≤ done_code → OfInput (I.left input.old)
         (RanWhole opening.now (O.taken output.old) (O.taken output.new) ending.code)) }
 {
     empty_servers_stand();
-    let names = needed_names(alloc, opening)?;
-    let mut sites = open_in_memory(alloc, names.as_slice())?;
-    let status = session(alloc, words, &mut sites, input, output);
+    let names = names_of_servers(alloc, servers)?;
+    let status = session(alloc, words, sites, input, output);
     ending_of(alloc, &status, names.as_slice())
 }
 
-/// Runs what the words of a command line ask for, at the servers that it needs. A server that isn't
-/// in memory can't be opened yet.
+/// Runs what the words of a command line ask for, at the servers that it needs, and closes these.
+/// If one can't be opened, nothing is read or written.
 fn run_opening(rt: &HostRuntime, words: &[String], opening: &Opening) -> Result<Ending, AllocError>
     requires { AreWordsOf (map string_bytes (drop 1 words.now)) opening.now }
-    ensures runs { IfOk result (λ ending. ending.code ≢ usage_code) }
-    ensures on_disk { IfSome (on_disk_lem opening.now) (λ name. IfOk result (λ ending.
-        option_map string_bytes ending.line ≡ Some (cannot_open_line name))) }
+    ensures { IfOk result (λ ending. ending.code ≢ usage_code) }
 {
     let alloc = rt.alloc();
-    if let Some(name) = on_disk(opening) {
-        return cannot_open(alloc, name);
-    }
+    let copy = copy_servers(alloc)?;
+    let servers = needed_servers(opening, copy.as_slice());
+    let mut sites = match open_servers(rt, servers) {
+        Ok(sites) => sites,
+        Err(error) => return ending_unopened(alloc, &error),
+    };
     let mut input = Reads::new(rt.reader());
     let mut output = Writes::new(io::writer(rt));
-    run_in_memory(alloc, after_name(words), opening, &mut input, &mut output)
+    let given = after_name(words);
+    let answer = run_at(
+        alloc,
+        given,
+        opening,
+        servers,
+        &mut sites,
+        &mut input,
+        &mut output,
+    );
+    close_servers(sites.into_list());
+    answer
 }
 
 /// Does what the words of a command line ask for.
