@@ -12,7 +12,7 @@ use Rattle.repl_types.specs.declared.change_row.CdRow.{CdRow}
 use Rattle.repl_types.specs.declared.change_row.Op.{Op}
 use Rattle.repl_types.specs.declared.change_row.Op.TheVariants.{I, U, D}
 use Rattle.repl_types.specs.laws.Lists.{all_append, all_filter, all_weaker, filter_all, filter_alike, filter_none}
-use Rattle.faults.specs.declared.fault.Counts.{Counts}
+use Rattle.repl_types.specs.declared.fault.Counts.{Counts}
 use Rattle.keep_core.specs.Contents.{Contents, Table, IsLastKey, IsNextKey}
 use Rattle.repl_definitions.specs.declared.member.Member.{Member}
 use Rattle.repl_records.specs.Capture.{IsChangeRow, change_row_spelling}
@@ -25,21 +25,20 @@ use Rattle.rows_in_order.specs.laws.After.{after_first, after_next}
 use Rattle.rows_in_order.specs.laws.Fitting.{fits_next}
 use Rattle.rows_in_order.specs.laws.Rising.{no_row}
 use Rattle.site_store.specs.Damage.{ShownBefore}
-use Rattle.stored_defs.specs.Reading.{RowFits}
-use Rattle.stored_defs.specs.laws.Passing.{any_seen, if_seen}
-use Rattle.capture_rows.specs.StoredChanges.{stored_change}
+use Rattle.world_store.specs.SpelledRows.{RowFits}
+use Rattle.site_store.specs.laws.Passing.{any_seen, if_seen, if_both_seen}
+use Rattle.stored_commits.specs.units.StoredChanges.{stored_change}
 use Rattle.world_store.specs.TargetRows.{count_op, is_insert, is_update, is_delete}
 use Rattle.cd_tables.specs.StoredRows.{change_of}
 use Rattle.cd_tables.specs.laws.SoundChanges.{ChangeRowFits}
-use Rattle.copy_changes.specs.ChangedCopies.{with_change, with_changes}
+use Rattle.stored_commits.specs.copies.ChangedCopies.{with_change, with_changes}
 use Rattle.apply_copies.specs.Changing.{one_more, counted, start_of, NextIs, NoneIs, TakesRow, TakesNext, TakesAll, HasChanges, rows_between}
 use Rattle.apply_copies.specs.Loading.{is_target}
 use Rattle.apply_copies.specs.Rules.{target_rules}
 use Rattle.target_steps.specs.Taking.{counts_of}
 use Rattle.apply_copies.specs.laws.ChangesUndamaged.{changes_apart}
-use Rattle.subs_sets.specs.laws.FewRows.{filter_few}
+use Rattle.world_store.specs.laws.FewRows.{filter_few}
 use Rattle.apply_copies.proofs.ChangeKeys.{units_rise, starts_at}
-use Rattle.apply_copies.proofs.CopiedRows.{both_seen}
 
 -- ---- counts
 
@@ -188,7 +187,7 @@ module _ (saw : Option Contents) (table number : ℕ) (source : SourceTable) (me
       record {
         others = λ a n other. row.others a n other ∙ before.others a n other;
         shown = λ n a cause h. before.shown n a cause (row.shown n a cause h);
-        takes = both_seen saw
+        takes = if_both_seen saw
             (λ s. (rows : List (CdKey × ChangeRow)) → HasChanges table rows s → IsPart source member low upto rows after counts (c areas.Target number) (d areas.Target number))
             (λ s. NextIs table after change s)
             (λ s. (rows : List (CdKey × ChangeRow)) → HasChanges table rows s → IsPart source member low upto rows key more (c areas.Target number) (e areas.Target number))
@@ -202,7 +201,7 @@ module _ (saw : Option Contents) (table number : ℕ) (source : SourceTable) (me
   taken_all after counts c d e fits before last = record {
     others = λ a n other. ap (λ (f : Contents). f a n) last.0 ∙ before.others a n other;
     shown = λ n. subst (ShownBefore (target_rules n) c) (sym last.0) (before.shown n);
-    takes = both_seen saw
+    takes = if_both_seen saw
         (λ s. (rows : List (CdKey × ChangeRow)) → HasChanges table rows s → IsPart source member low upto rows after counts (c areas.Target number) (d areas.Target number))
         (λ s. NoneIs table after upto s)
         (λ s. (rows : List (CdKey × ChangeRow)) → HasChanges table rows s → (e areas.Target number ≡ with_changes source member (rows_between low upto rows) (c areas.Target number)) × (counts ≡ counts_of (rows_between low upto rows)))

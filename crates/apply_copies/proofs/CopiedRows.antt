@@ -22,16 +22,16 @@ use Rattle.rows_in_order.specs.laws.After.{after_all, after_first, after_next}
 use Rattle.rows_in_order.specs.laws.Fitting.{fits_next}
 use Rattle.rows_in_order.specs.laws.Rising.{no_row}
 use Rattle.rows_in_order.specs.laws.Written.{written_last}
-use Rattle.log_rows.specs.laws.StandingRows.{rows_apart}
+use Rattle.stored_commits.specs.records.laws.StandingRows.{rows_apart}
 use Rattle.site_store.specs.Damage.{ShownBefore}
 use Rattle.site_store.specs.laws.Damage.{adds_put, shown_before}
-use Rattle.stored_defs.specs.Reading.{RowFits}
-use Rattle.stored_defs.specs.laws.Passing.{any_seen, if_seen}
+use Rattle.world_store.specs.SpelledRows.{RowFits}
+use Rattle.site_store.specs.laws.Passing.{any_seen, if_seen, if_both_seen}
 use Rattle.world_store.specs.Tables.{no_rows}
 use Rattle.apply_copies.specs.Copying.{CanBeCopied, LoadsSelected, LoadsRow, HasRows, selected, copied, LoadsNext, LoadsAll}
 use Rattle.apply_copies.specs.Loading.{is_target}
 use Rattle.apply_copies.specs.Rules.{target_rules}
-use Rattle.subs_sets.specs.laws.FewRows.{filter_few}
+use Rattle.world_store.specs.laws.FewRows.{filter_few}
 use Rattle.apply_copies.specs.laws.Values.{target_row_fits}
 
 -- ---- one row
@@ -60,11 +60,6 @@ front_before (r ∷ rs) row back rise = (later rs rise.0, front_before rs row ba
     later : (qs : List (Values × Values)) → AllAfter key_spelling (key_spelling r.0) (qs ++ row ∷ back) → bytes_cmp (key_spelling r.0) (key_spelling row.0) ≡ Less
     later [] after = after.0
     later (q ∷ qs) after = later qs after.1
-
--- what two reads of one server say, if it is seen
-pub both_seen : (saw : Option Contents) (P Q R : Contents → Type 0) → ((s : Contents) → P s → Q s → R s) → IfSome saw P → IfSome saw Q → IfSome saw R
-both_seen None P Q R step p q = tt
-both_seen (Some s) P Q R step p q = step s p q
 
 module _ (member : Member) where
   -- the row that a row makes, under its key
@@ -175,7 +170,7 @@ module _ (saw : Option Contents) (table number : ℕ) (member : Member) where
   loaded_next after put sum n key c d e fit sums before step = record {
     others = λ a m other. loaded_others number member key step.0 n d e step.3 a m other ∙ before.others a m other;
     shown = λ n a cause h. before.shown n a cause (step.3.shown n a cause h);
-    copies = both_seen saw
+    copies = if_both_seen saw
         (λ s. (rows : List (Values × Values)) → HasRows table rows s → c areas.Target number ≡ no_rows → IsPart member rows after put (d areas.Target number))
         (λ s. IsNextKey (s areas.Source table) after (key_spelling key) (row_spelling step.0))
         (λ s. (rows : List (Values × Values)) → HasRows table rows s → c areas.Target number ≡ no_rows → IsPart member rows (key_spelling key) sum (e areas.Target number))
@@ -188,7 +183,7 @@ module _ (saw : Option Contents) (table number : ℕ) (member : Member) where
   loaded_all after put c d e before last = record {
     others = λ a n other. ap (λ (f : Contents). f a n) last.0 ∙ before.others a n other;
     shown = λ n. subst (ShownBefore (target_rules n) c) (sym last.0) (before.shown n);
-    copies = both_seen saw
+    copies = if_both_seen saw
         (λ s. (rows : List (Values × Values)) → HasRows table rows s → c areas.Target number ≡ no_rows → IsPart member rows after put (d areas.Target number))
         (λ s. IsLastKey (s areas.Source table) after)
         (λ s. (rows : List (Values × Values)) → HasRows table rows s → c areas.Target number ≡ no_rows → (e areas.Target number ≡ table_from_rows key_spelling copy_spelling (copied member rows)) × (put ≡ length (selected member rows)))

@@ -1,17 +1,17 @@
 -- What one server is seen to have, while calls go on at another: proofs.
 use Rattle.std.proofs.Common.{◌≡◌, ◌≢◌, ℕ, List, get_or, ap, sym, subst}
 use Rattle.std.specs.Prelude.{Option, Some, None, IsSome}
-use Rattle.faults.specs.declared.fault.Fault.{Fault}
+use Rattle.repl_types.specs.declared.fault.Fault.{Fault}
 use Rattle.keep_core.specs.Contents.{Contents}
 use Rattle.keep_core.specs.Kept.{Kept, seen_of}
 use Rattle.site_store.specs.declared.sites.Sites.{Sites}
 use Rattle.site_store.specs.Views.{work, sees, IsOpenAt, IsClosedAt}
 use Rattle.site_store.specs.laws.Transactions.{other_work}
 use Rattle.site_store.specs.Damage.{Rules, Shows, Damages}
-use Rattle.server_steps.specs.Calls.{Looks, GoesOn, Breaks}
-use Rattle.server_steps.specs.laws.Faults.{stops_as, stops_after}
-use Rattle.server_steps.specs.laws.Steps.{goes_saw, saw_then}
-use Rattle.stored_defs.specs.laws.Passing.{any_seen}
+use Rattle.site_store.specs.one_server.Calls.{Looks, GoesOn, Breaks}
+use Rattle.site_store.specs.one_server.laws.Faults.{stops_as, stops_after}
+use Rattle.site_store.specs.one_server.laws.Steps.{goes_saw, saw_then}
+use Rattle.site_store.specs.laws.Passing.{any_seen}
 
 -- a server at which a transaction is open isn't one at which none is
 pub open_elsewhere : (w : List (Option (Option Contents))) (s q : ℕ) → IsOpenAt w s → IsClosedAt w q → q ≢ s

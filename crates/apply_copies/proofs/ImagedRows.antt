@@ -2,17 +2,17 @@
 use Rattle.std.proofs.Common.{◌≡◌, ℕ, ◌<◌, ◌^◌, true, false, List, length, arith}
 use Rattle.std.specs.Prelude.{◌==◌, ◌&&◌, nat_lt, nat_le}
 use Rattle.std.specs.List.{position_or_len, range_with_len}
-use Rattle.std.proofs.lemmas.Bool.{le-leb, leb-true, lt-ltb, ltb-true}
+use Rattle.std.proofs.lemmas.Bool.{le-leb, leb-true, lt-ltb, ltb-true, and_parts}
 use Rattle.std.proofs.lemmas.List.FromFn.{length-map-range_with_len}
+use Rattle.lists.specs.laws.Members.{each_image}
 use Rattle.repl_types.specs.Sizes.{IsKeySize, key_limit}
 use Rattle.repl_types.specs.ValueText.{IsValue}
 use Rattle.repl_types.specs.declared.change_row.CdRow.{CdRow}
 use Rattle.row_codec.specs.Spelling.{IsRow}
 use Rattle.repl_model.specs.Selection.{SourceTable, imaged_row}
 use Rattle.rows_in_order.specs.laws.Before.{not_both}
-use Rattle.stored_defs.specs.laws.Lists.{all_map, both_true}
 use Rattle.cd_tables.specs.laws.InOrder.{all_always}
-use Rattle.copy_changes.specs.ChangedCopies.{image_of}
+use Rattle.stored_commits.specs.copies.ChangedCopies.{image_of}
 use Rattle.apply_copies.specs.laws.Values.{value_at}
 
 -- it is a row of values
@@ -20,11 +20,11 @@ pub imaged_fits : (source : SourceTable) (change : CdRow) → length source.def.
 imaged_fits source change few fit =
     let n = length source.def.columns in
     let image = image_of source.reg.after change.after in
-    (omega (arith, few, length-map-range_with_len image 0 n), all_map IsValue image (range_with_len 0 n) (all_always (λ (column : ℕ). IsValue (image column)) (λ column. value_at change.after (position_or_len (λ place. place == column) source.reg.after) fit.1) (range_with_len 0 n)))
+    (omega (arith, few, length-map-range_with_len image 0 n), each_image IsValue image (range_with_len 0 n) (all_always (λ (column : ℕ). IsValue (image column)) (λ column. value_at change.after (position_or_len (λ place. place == column) source.reg.after) fit.1) (range_with_len 0 n)))
 
 -- the test for the size of a key passes if it has the size
 pub has_size : (key : List ℕ) → (nat_lt 0 (length key) && nat_le (length key) key_limit) ≡ true → IsKeySize key
-has_size key passes = let both = both_true (nat_lt 0 (length key)) (nat_le (length key) key_limit) passes in record { some = ltb-true 0 (length key) both.0; short = leb-true (length key) key_limit both.1 }
+has_size key passes = let both = and_parts (nat_lt 0 (length key)) (nat_le (length key) key_limit) passes in record { some = ltb-true 0 (length key) both.0; short = leb-true (length key) key_limit both.1 }
 
 -- and fails only if it doesn't
 pub has_no_size : (key : List ℕ) → (nat_lt 0 (length key) && nat_le (length key) key_limit) ≡ false → IsKeySize key → ⊥

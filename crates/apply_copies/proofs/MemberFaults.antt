@@ -7,8 +7,8 @@ use Rattle.repl_types.specs.declared.area.Area.{Area}
 use Rattle.repl_types.specs.declared.area.Area.TheVariants as areas
 use Rattle.repl_types.specs.declared.status.DamageCause.{DamageCause}
 use Rattle.repl_types.specs.declared.status.DamageCause.TheVariants as causes
-use Rattle.faults.specs.declared.fault.Fault.{Fault}
-use Rattle.faults.specs.declared.fault.Fault.TheVariants as faults
+use Rattle.repl_types.specs.declared.fault.Fault.{Fault}
+use Rattle.repl_types.specs.declared.fault.Fault.TheVariants as faults
 use Rattle.keep_core.specs.Contents.{Contents}
 use Rattle.keep_core.specs.Kept.{Kept}
 use Rattle.repl_definitions.specs.Sets.{source_set_spelling}
@@ -19,10 +19,10 @@ use Rattle.site_store.specs.Damage.{Rules, Damages}
 use Rattle.site_store.specs.Views.{sees}
 use Rattle.site_store.specs.laws.Counts.{at_most_itself, passes_then}
 use Rattle.site_store.specs.laws.Damage.{shown_first}
-use Rattle.server_steps.specs.Calls.{Stops, Breaks}
-use Rattle.server_steps.specs.laws.Damage.{unfit_breaks}
-use Rattle.server_steps.specs.laws.Faults.{stops_as}
-use Rattle.load_worlds.specs.laws.Entries.{at_place_in}
+use Rattle.site_store.specs.one_server.Calls.{Stops, Breaks}
+use Rattle.site_store.specs.one_server.laws.Damage.{unfit_breaks}
+use Rattle.site_store.specs.one_server.laws.Faults.{stops_as}
+use Rattle.lists.specs.laws.Numbered.{at_place_in}
 use Rattle.set_places.specs.declared.placed_set.PlacedSet.{PlacedSet}
 use Rattle.set_places.specs.Members.{member_rules}
 use Rattle.set_places.specs.Places.{HasSourceRow, IsPlacedAtSource}

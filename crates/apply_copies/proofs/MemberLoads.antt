@@ -26,9 +26,9 @@ use Rattle.site_store.specs.declared.sites.Sites.{Sites}
 use Rattle.site_store.specs.Views.{sees}
 use Rattle.world_store.specs.Stands.{Reveals}
 use Rattle.world_store.specs.Tables.{no_rows}
-use Rattle.load_worlds.specs.laws.Entries.{at_place_in}
-use Rattle.log_rows.specs.SourceLogs.{SourceRowsStand}
-use Rattle.log_rows.specs.SourceTables.{KeysOfRowsFit}
+use Rattle.lists.specs.laws.Numbered.{at_place_in}
+use Rattle.stored_commits.specs.records.SourceLogs.{SourceRowsStand}
+use Rattle.stored_commits.specs.records.SourceTables.{KeysOfRowsFit}
 use Rattle.set_places.specs.declared.placed_set.PlacedSet.{PlacedSet}
 use Rattle.set_places.specs.Members.{ForSource, IsRegistrationOf}
 use Rattle.set_places.specs.Places.{IsPlacedAs}

@@ -8,7 +8,7 @@ use Rattle.repl_types.specs.declared.area.Area.TheVariants as areas
 use Rattle.repl_types.specs.declared.change_row.CdRow.{CdRow}
 use Rattle.repl_types.specs.declared.refusal.GapPlace.{GapPlace}
 use Rattle.repl_types.specs.declared.refusal.GapPlace.TheVariants as gaps
-use Rattle.faults.specs.declared.fault.Counts.{Counts}
+use Rattle.repl_types.specs.declared.fault.Counts.{Counts}
 use Rattle.keep_core.specs.Contents.{Contents, Table}
 use Rattle.keep_core.specs.Kept.{Kept}
 use Rattle.repl_definitions.specs.declared.member.Member.{Member}
@@ -25,13 +25,13 @@ use Rattle.repl_model.specs.World.{KnownSet, Registered, ServerTable, World, as_
 use Rattle.site_store.specs.declared.sites.Sites.{Sites}
 use Rattle.site_store.specs.Views.{sees}
 use Rattle.world_store.specs.Stands.{Reveals}
-use Rattle.load_worlds.specs.laws.Entries.{at_place_in}
+use Rattle.lists.specs.laws.Numbered.{at_place_in}
 use Rattle.set_places.specs.declared.placed_set.PlacedSet.{PlacedSet}
 use Rattle.set_places.specs.Members.{ForSource, IsRegistrationOf}
 use Rattle.set_places.specs.Places.{IsPlacedAs, IsReadOnly}
 use Rattle.set_places.specs.laws.Known.{is_among, same_def}
 use Rattle.cd_tables.specs.Captured.{captured_changes}
-use Rattle.copy_changes.specs.ChangedCopies.{copy_table, with_change, with_changes, CopyTakesChanges}
+use Rattle.stored_commits.specs.copies.ChangedCopies.{copy_table, with_change, with_changes, CopyTakesChanges}
 use Rattle.apply_copies.specs.declared.source.Source.{Source}
 use Rattle.apply_copies.specs.ChangeRules.{source_of, IsRegisteredIn}
 use Rattle.apply_copies.specs.Changing.{source_as, HasChanges, TakesAll, rows_between}

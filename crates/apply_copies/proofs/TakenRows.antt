@@ -15,7 +15,7 @@ use Rattle.repl_model.specs.Selection.{SourceTable, imaged_row, is_selected, tar
 use Rattle.rows_in_order.specs.laws.Written.{put_here}
 use Rattle.site_store.specs.Damage.{Shows, ShownBefore}
 use Rattle.site_store.specs.laws.Damage.{adds_remove, shown_before}
-use Rattle.copy_changes.specs.ChangedCopies.{key_before, key_after, with_row, with_op}
+use Rattle.stored_commits.specs.copies.ChangedCopies.{key_before, key_after, with_row, with_op}
 use Rattle.apply_copies.specs.Changing.{RemovesBefore, TakesRow}
 use Rattle.apply_copies.specs.Copying.{LoadsSelected, LoadsRow}
 use Rattle.apply_copies.specs.Loading.{is_target}

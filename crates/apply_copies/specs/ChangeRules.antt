@@ -20,14 +20,14 @@ use Rattle.repl_model.specs.Sound.{IsSound}
 use Rattle.repl_model.specs.World.{Server, World}
 use Rattle.site_store.specs.declared.sites.Sites.{Sites}
 use Rattle.site_store.specs.Damage.{Rules, joined, Damages, IsUndamaged}
-use Rattle.stored_defs.specs.Reading.{Spells}
+use Rattle.world_store.specs.SpelledRows.{Spells}
 use Rattle.world_store.specs.Stands.{Holds}
-use Rattle.load_worlds.specs.laws.Members.{In}
+use Rattle.lists.specs.laws.Members.{In}
 use Rattle.set_places.specs.declared.placed_set.PlacedSet.{PlacedSet}
 use Rattle.set_places.specs.Members.{HasRegistration, member_rules}
-use Rattle.capture_rows.specs.StoredChanges.{stored_change}
+use Rattle.stored_commits.specs.units.StoredChanges.{stored_change}
 use Rattle.cd_tables.specs.laws.SoundChanges.{ChangeRowFits}
-use Rattle.copy_changes.specs.ChangedCopies.{key_after}
+use Rattle.stored_commits.specs.copies.ChangedCopies.{key_after}
 use Rattle.apply_copies.specs.Rules.{is_too_wide, target_rules}
 
 -- ---- what may stand there

@@ -8,7 +8,7 @@ use Rattle.repl_types.specs.declared.area.Area.TheVariants as areas
 use Rattle.repl_types.specs.declared.change_row.CdRow.{CdRow}
 use Rattle.repl_types.specs.declared.change_row.Op.{Op}
 use Rattle.repl_types.specs.declared.change_row.Op.TheVariants.{I, U, D}
-use Rattle.faults.specs.declared.fault.Counts.{Counts}
+use Rattle.repl_types.specs.declared.fault.Counts.{Counts}
 use Rattle.keep_core.specs.Contents.{Contents, IsNextKey, IsLastKey, put_at}
 use Rattle.keep_core.specs.Kept.{Kept}
 use Rattle.row_codec.specs.Spelling.{key_spelling}
@@ -20,10 +20,10 @@ use Rattle.repl_records.specs.declared.capture.ChangeRow.{ChangeRow}
 use Rattle.repl_model.specs.Selection.{SourceTable, is_selected}
 use Rattle.site_store.specs.declared.sites.Sites.{Sites}
 use Rattle.site_store.specs.Damage.{ShownBefore}
-use Rattle.capture_rows.specs.StoredChanges.{stored_change}
+use Rattle.stored_commits.specs.units.StoredChanges.{stored_change}
 use Rattle.cd_tables.specs.StoredRows.{change_of, AreChangeRows, HasChangeRows}
 use Rattle.cd_tables.specs.laws.SoundChanges.{ChangeRowFits}
-use Rattle.copy_changes.specs.ChangedCopies.{with_change, with_changes}
+use Rattle.stored_commits.specs.copies.ChangedCopies.{with_change, with_changes}
 use Rattle.target_steps.specs.Taking.{counts_of, change_reads}
 use Rattle.apply_copies.specs.declared.source.Source.{Source}
 use Rattle.apply_copies.specs.ChangeRules.{source_of}

@@ -15,7 +15,7 @@ use Rattle.rows_in_order.specs.Rows.{table_from_rows, AllAfter, IsRising}
 use Rattle.repl_model.specs.Selection.{is_selected, target_row}
 use Rattle.world_store.specs.Tables.{no_rows}
 use Rattle.site_store.specs.Damage.{ShownBefore}
-use Rattle.stored_defs.specs.Reading.{RowFits}
+use Rattle.world_store.specs.SpelledRows.{RowFits}
 use Rattle.apply_copies.specs.Loading.{is_target}
 use Rattle.apply_copies.specs.Rules.{target_rules}
 

@@ -6,4 +6,5 @@ pub mod Keys
 pub mod Loading
 pub mod Rules
 pub mod Taking
+pub mod Copies
 pub mod laws

@@ -21,9 +21,10 @@ use Rattle.repl_definitions.specs.Members.{IsMember}
 use Rattle.repl_model.specs.World.{Server, World}
 use Rattle.site_store.specs.declared.sites.Sites.{Sites}
 use Rattle.site_store.specs.Damage.{Rules, joined, Damages, IsUndamaged}
-use Rattle.stored_defs.specs.Reading.{Spells, table_rules}
+use Rattle.stored_defs.specs.Reading.{table_rules}
+use Rattle.world_store.specs.SpelledRows.{Spells}
 use Rattle.world_store.specs.Stands.{Holds}
-use Rattle.load_worlds.specs.laws.Members.{In}
+use Rattle.lists.specs.laws.Members.{In}
 use Rattle.set_places.specs.declared.placed_set.PlacedSet.{PlacedSet}
 use Rattle.set_places.specs.Members.{member_rules}
 

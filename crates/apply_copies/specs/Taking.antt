@@ -2,7 +2,7 @@
 use Rattle.std.specs.Prelude.{◌≡◌, ℕ, ◌≤◌, Bool, true, false, Some, None, slice_get}
 use Rattle.repl_types.specs.declared.area.Area.{Area}
 use Rattle.repl_types.specs.declared.area.Area.TheVariants as areas
-use Rattle.faults.specs.declared.fault.Counts.{Counts}
+use Rattle.repl_types.specs.declared.fault.Counts.{Counts}
 use Rattle.keep_core.specs.Contents.{Contents}
 use Rattle.keep_core.specs.Kept.{Kept}
 use Rattle.repl_definitions.specs.declared.member.Member.{Member}
@@ -13,7 +13,7 @@ use Rattle.repl_model.specs.Selection.{SourceTable}
 use Rattle.repl_model.specs.World.{KnownSet, source_named}
 use Rattle.site_store.specs.declared.sites.Sites.{Sites}
 use Rattle.site_store.specs.Damage.{ShownBefore}
-use Rattle.copy_changes.specs.ChangedCopies.{copy_table}
+use Rattle.stored_commits.specs.copies.ChangedCopies.{copy_table}
 use Rattle.target_steps.specs.Taking.{counts_of}
 use Rattle.set_places.specs.declared.placed_set.PlacedSet.{PlacedSet}
 use Rattle.set_places.specs.Members.{ForSource}

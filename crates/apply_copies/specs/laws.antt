@@ -6,3 +6,4 @@ pub mod Intervals
 pub mod SourceRows
 pub mod Undamaged
 pub mod Values
+pub mod TargetLaws

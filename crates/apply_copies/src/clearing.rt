@@ -4,16 +4,15 @@ ghost use Rattle.std.specs.Prelude.{◌<◌, length, OnOk, IfOk, IfErr, IfSome};
 ghost use Rattle.row_codec.specs.Spelling.{key_spelling};
 ghost use Rattle.site_store.specs.Records.{after_key};
 ghost use Rattle.site_store.specs.Views.{names, work, IsOpenAt};
-ghost use Rattle.server_steps.specs.Calls.{GoesOn, Breaks};
+ghost use Rattle.site_store.specs.one_server.Calls.{GoesOn, Breaks};
 ghost use Rattle.apply_copies.specs.Clearing.{ClearsNext, Clears};
 ghost use Rattle.apply_copies.specs.Keys.{IsLaterKey};
 ghost use Rattle.apply_copies.specs.Rules.{is_of_load, target_rules};
 ghost use Rattle.set_places.specs.Reading.{ReadsOnly};
 
-use faults::Fault;
 use keep_core::Keeper;
 use repl_records::CopyRow;
-use repl_types::Row;
+use repl_types::{Fault, Row};
 use site_store::Sites;
 use std::alloc::Global;
 

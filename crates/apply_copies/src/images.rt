@@ -4,11 +4,11 @@ ghost use Rattle.std.specs.Prelude.{◌≡◌, ◌&&◌, ◌==◌, nat_lt, nat_l
 ghost use Rattle.std.specs.List.{position, position_or_len};
 ghost use Rattle.repl_types.specs.Sizes.{key_limit};
 ghost use Rattle.row_codec.specs.Spelling.{key_spelling};
-ghost use Rattle.repl_model.specs.Rules.{is_among as is_among_lem};
+ghost use Rattle.lists.specs.Lists.{is_among as is_among_lem};
 ghost use Rattle.repl_model.specs.Selection.{imaged_row as imaged_row_lem};
-ghost use Rattle.copy_changes.specs.ChangedCopies.{image_of as image_of_lem};
-ghost use Rattle.copy_changes.specs.ChangedCopies.{value_before as value_before_lem};
-ghost use Rattle.copy_changes.specs.ChangedCopies.{key_before as key_before_lem};
+ghost use Rattle.stored_commits.specs.copies.ChangedCopies.{image_of as image_of_lem};
+ghost use Rattle.stored_commits.specs.copies.ChangedCopies.{value_before as value_before_lem};
+ghost use Rattle.stored_commits.specs.copies.ChangedCopies.{key_before as key_before_lem};
 ghost use Rattle.apply_copies.specs.ChangeRules.{source_of};
 
 use repl_records::CopyRow;

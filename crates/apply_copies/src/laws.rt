@@ -4,17 +4,18 @@ ghost use Rattle.repl_records.specs.TargetSide.{copy_spelling, IsCopy, HasCopySp
 ghost use Rattle.repl_records.specs.declared.target_side.CopyRow.{CopyRow};
 ghost use Rattle.repl_types.specs.Sizes.{row_limit};
 ghost use Rattle.row_codec.specs.Storable.{IsStorable};
-ghost use Rattle.log_rows.specs.SourceLogs.{SourceRowsStand};
-ghost use Rattle.log_rows.specs.SourceTables.{KeysOfRowsFit, TypedChangesHaveRows};
-ghost use Rattle.log_rows.specs.SourceTables.{RowsStayStanding};
+ghost use Rattle.stored_commits.specs.records.SourceLogs.{SourceRowsStand};
+ghost use Rattle.stored_commits.specs.records.SourceTables.{KeysOfRowsFit, TypedChangesHaveRows};
+ghost use Rattle.stored_commits.specs.records.SourceTables.{RowsStayStanding};
 ghost use Rattle.std.specs.Prelude.{◌≤◌, length};
-ghost use Rattle.copy_changes.specs.ChangedCopies.{CopyTakesChanges};
+ghost use Rattle.stored_commits.specs.copies.ChangedCopies.{CopyTakesChanges};
 ghost use Rattle.apply_copies.specs.ChangeRules.{ChangeSourceIsUndamaged};
 ghost use Rattle.apply_copies.specs.Rules.{SourceIsUndamaged, TargetIsUndamaged};
 
-use copy_changes::a_copy_takes_changes;
-use log_rows::{a_change_is_stored, rows_that_fit_are_storable, the_source_stands};
 use repl_records::records_of_64_values_are_storable;
+use stored_commits::{
+    a_change_is_stored, a_copy_takes_changes, rows_that_fit_are_storable, the_source_stands,
+};
 
 /// A row of at most 64 values can be stored in a copy.
 pub fn laws_of_copies()

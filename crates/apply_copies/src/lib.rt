@@ -5,20 +5,21 @@
 //! each row for which the member's predicate is true, under the row's key. `specs/Loading.antt`
 //! says what it makes of contents, and `specs/Rules.antt` what shows that a server is damaged.
 //!
-//! `apply_rows` takes a target from the copy at one point to the copy at a later one, by the stored
-//! change rows between them alone. It reads these one after another. An insert or an update puts
-//! what the member selects of the row that the after-images show, and an update or a delete removes
-//! the row from before. `specs/Taking.antt` says what it makes of contents, if the interval is
-//! captured whole, and `specs/ChangeRules.antt` what shows that a server is damaged. That the
-//! target is then the later copy is the law of `copy_changes`.
+//! `apply_rows` takes a target from the copy at one point to the copy at a later one, by the
+//! stored change rows between them alone. It reads these one after another. An insert or an update
+//! puts what the member selects of the row that the after-images show, and an update or a delete
+//! removes the row from before. `specs/Taking.antt` says what it makes of contents, if the
+//! interval is captured whole, and `specs/ChangeRules.antt` what shows that a server is damaged.
+//! That the target is then the later copy is a law of `stored_commits`.
 //!
 //! Both work inside the transaction that the caller has open at the target. `copies_are_undamaged`
-//! and `changes_are_undamaged` say that no source of a sound world shows damage, and no target that
-//! has the rows of a copy. `copy_targets` and `show_sets` stand on it. It stands on `set_places`,
-//! which finds a set and its registrations, on `row_expr`, which evaluates columns and predicates,
-//! on `log_rows` and `cd_tables`, which say in what order the rows of a source and its change rows
-//! stand, on `subs_sets`, which bounds their numbers, on `server_steps`, for the words of its
-//! contracts, and on `site_store`.
+//! and `changes_are_undamaged` say that no source of a sound world shows damage, and no target
+//! that has the rows of a copy. `CopyTargets` takes the members of a set that are user copies
+//! through a refresh by `load_rows`, and through a block by `apply_rows`: so `refresh_step` of
+//! `full_refresh` and `step` of `apply_cycle` carry out the steps of a set all of whose members
+//! are user copies. It stands on `set_places`, which finds a set and its registrations, on
+//! `row_expr`, which evaluates columns and predicates, and on `cd_tables`, whose change rows it
+//! reads.
 //!
 //! For example, a member copies `id` and `qty` of the rows of `orders` whose `qty` is at least 10.
 //! Of the rows `(1, 'pen', 20)` and `(2, 'ink', 5)` of the source, its target gets the row `(1,
@@ -34,7 +35,9 @@ mod loading;
 mod rows;
 mod source;
 mod taking;
+mod targets;
 
 pub use laws::{changes_are_undamaged, copies_are_undamaged};
 pub use loading::load_rows;
 pub use taking::apply_rows;
+pub use targets::CopyTargets;

@@ -6,10 +6,10 @@ use Rattle.std.specs.Option.{option_map_or}
 use Rattle.std.proofs.lemmas.Bool.{cond-false}
 use Rattle.repl_types.specs.declared.area.Area.{Area}
 use Rattle.repl_types.specs.declared.status.DamageCause.{DamageCause}
-use Rattle.faults.specs.declared.fault.Counts.{Counts}
-use Rattle.faults.specs.declared.fault.Fault.{Fault}
-use Rattle.faults.specs.declared.fault.Fault.TheVariants as faults
-use Rattle.faults.specs.declared.fault.Stepped.TheVariants as steps
+use Rattle.repl_types.specs.declared.fault.Counts.{Counts}
+use Rattle.repl_types.specs.declared.fault.Fault.{Fault}
+use Rattle.repl_types.specs.declared.fault.Fault.TheVariants as faults
+use Rattle.repl_types.specs.declared.fault.Stepped.TheVariants as steps
 use Rattle.keep_core.specs.Contents.{Contents}
 use Rattle.keep_core.specs.Kept.{Kept}
 use Rattle.repl_definitions.specs.declared.member.Member.{Member}
@@ -25,14 +25,14 @@ use Rattle.repl_model.specs.Trails.{Entry, block, synchpoint, base_of}
 use Rattle.repl_model.specs.World.{Server, World, KnownSet, known_sets}
 use Rattle.world_store.specs.Stands.{Holds, Reveals, Stands}
 use Rattle.world_store.specs.TargetRows.{source_time, trail_entry}
-use Rattle.load_worlds.specs.laws.Entries.{at_place_in}
-use Rattle.load_worlds.specs.laws.KnownSets.{known_stands}
-use Rattle.load_worlds.specs.laws.Members.{In, at_one}
+use Rattle.lists.specs.laws.Numbered.{at_place_in}
+use Rattle.repl_model.specs.laws.KnownSets.{known_stands}
+use Rattle.lists.specs.laws.Members.{In, at_one}
 use Rattle.site_store.specs.declared.sites.Sites.{Sites}
 use Rattle.site_store.specs.Views.{names, held, sees}
-use Rattle.action_store.specs.ActedServers.{Acted, with_step, BlockHolds, OthersHoldAfterStep}
-use Rattle.action_store.specs.StoredSteps.{is_numbered, PutsStep, block_state, BlockIsStored}
-use Rattle.action_worlds.specs.StaysSound.{NextActionsSound, HasRoom}
+use Rattle.stored_commits.specs.actions.ActedServers.{Acted, with_step, BlockHolds, OthersHoldAfterStep}
+use Rattle.stored_commits.specs.actions.StoredSteps.{is_numbered, PutsStep, block_state, BlockIsStored}
+use Rattle.world_commits.specs.actions.StaysSound.{NextActionsSound, HasRoom}
 use Rattle.subs_sets.specs.Cuts.{time_from}
 use Rattle.subs_sets.specs.States.{state_in}
 use Rattle.subs_sets.specs.declared.states.ReadOnlyState.{ReadOnlyState}

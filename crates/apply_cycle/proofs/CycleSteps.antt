@@ -7,10 +7,10 @@ use Rattle.repl_types.specs.declared.area.Area.{Area}
 use Rattle.repl_types.specs.declared.record.SetId.{SetId}
 use Rattle.repl_types.specs.declared.status.DamageCause.{DamageCause}
 use Rattle.repl_types.specs.declared.status.DamageCause.TheVariants as causes
-use Rattle.faults.specs.declared.fault.Fault.{Fault}
-use Rattle.faults.specs.declared.fault.Fault.TheVariants as faults
-use Rattle.faults.specs.declared.fault.Stepped.{Stepped}
-use Rattle.faults.specs.declared.fault.Stepped.TheVariants as steps
+use Rattle.repl_types.specs.declared.fault.Fault.{Fault}
+use Rattle.repl_types.specs.declared.fault.Fault.TheVariants as faults
+use Rattle.repl_types.specs.declared.fault.Stepped.{Stepped}
+use Rattle.repl_types.specs.declared.fault.Stepped.TheVariants as steps
 use Rattle.keep_core.specs.Contents.{Contents}
 use Rattle.keep_core.specs.Kept.{Kept}
 use Rattle.repl_model.specs.AfterActions.{after_action}
@@ -18,17 +18,17 @@ use Rattle.repl_model.specs.NextActions.{Action, signals, refreshes, blocks, rep
 use Rattle.repl_model.specs.Rules.{is_replica_set}
 use Rattle.repl_model.specs.SoundLogs.{log_limit}
 use Rattle.repl_model.specs.World.{World, KnownSet, known_set}
-use Rattle.load_worlds.specs.laws.Entries.{at_place_in}
+use Rattle.lists.specs.laws.Numbered.{at_place_in}
 use Rattle.site_store.specs.Calls.{KeepsServers, IsRead, Blames}
 use Rattle.site_store.specs.laws.Counts.{keeps_passed}
-use Rattle.server_steps.specs.Calls.{Looks}
+use Rattle.site_store.specs.one_server.Calls.{Looks}
 use Rattle.site_store.specs.Damage.{Rules, Shows, IsNoDamage}
 use Rattle.site_store.specs.Servers.{AllClosed}
 use Rattle.site_store.specs.Views.{names, held, work, sees}
 use Rattle.site_store.specs.declared.sites.Sites.{Sites}
 use Rattle.world_store.specs.Stands.{Stands}
-use Rattle.action_worlds.specs.Resting.{commits_world, steps_left, NextActionsRest}
-use Rattle.action_worlds.specs.laws.Resting.{few_steps}
+use Rattle.world_commits.specs.actions.Resting.{commits_world, steps_left, NextActionsRest}
+use Rattle.world_commits.specs.actions.laws.Resting.{few_steps}
 use Rattle.repl_definitions.specs.declared.member.TargetKind.{TargetKind}
 use Rattle.repl_definitions.specs.declared.set.SetDef.{SetDef}
 use Rattle.target_steps.specs.Steps.{TakesEach}

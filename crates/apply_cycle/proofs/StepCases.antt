@@ -4,10 +4,10 @@ use Rattle.std.specs.Prelude.{Option, Result, Ok}
 use Rattle.repl_types.specs.declared.area.Area.{Area}
 use Rattle.repl_types.specs.declared.area.Area.TheVariants as areas
 use Rattle.repl_types.specs.declared.status.DamageCause.{DamageCause}
-use Rattle.faults.specs.declared.fault.Fault.{Fault}
-use Rattle.faults.specs.declared.fault.Fault.TheVariants as faults
-use Rattle.faults.specs.declared.fault.Stepped.{Stepped}
-use Rattle.faults.specs.declared.fault.Stepped.TheVariants as steps
+use Rattle.repl_types.specs.declared.fault.Fault.{Fault}
+use Rattle.repl_types.specs.declared.fault.Fault.TheVariants as faults
+use Rattle.repl_types.specs.declared.fault.Stepped.{Stepped}
+use Rattle.repl_types.specs.declared.fault.Stepped.TheVariants as steps
 use Rattle.keep_core.specs.Contents.{Contents}
 use Rattle.keep_core.specs.Kept.{Kept}
 use Rattle.repl_model.specs.AfterActions.{after_action}
@@ -18,13 +18,13 @@ use Rattle.site_store.specs.declared.sites.Sites.{Sites}
 use Rattle.site_store.specs.Servers.{AllClosed}
 use Rattle.site_store.specs.Views.{names, held, work}
 use Rattle.site_store.specs.Damage.{Rules, Shows, Damages}
-use Rattle.server_steps.specs.Calls.{Looks}
-use Rattle.server_steps.specs.laws.Reads.{looks_sees}
+use Rattle.site_store.specs.one_server.Calls.{Looks}
+use Rattle.site_store.specs.one_server.laws.Reads.{looks_sees}
 use Rattle.set_places.specs.declared.placed_set.PlacedSet.{PlacedSet}
 use Rattle.set_places.specs.Reading.{ReadsOnly}
 use Rattle.set_places.specs.Steps.{HasBecome, MayHaveBecome, BlamesUnchanged}
 use Rattle.set_places.specs.laws.Commits.{unchanged_after}
-use Rattle.source_log.specs.Rules.{all_rules}
+use Rattle.full_refresh.specs.Rules.{all_rules}
 use Rattle.subs_sets.specs.Rules.{is_read, source_rules, state_rules}
 use Rattle.prune_control.specs.Noting as noting
 use Rattle.prune_control.specs.Noting.{mark_rules}

@@ -7,10 +7,10 @@ use Rattle.repl_types.specs.declared.refusal.Refusal.{Refusal}
 use Rattle.repl_types.specs.declared.refusal.Refusal.TheVariants as refusals
 use Rattle.repl_types.specs.declared.status.DamageCause.{DamageCause}
 use Rattle.repl_types.specs.declared.status.DamageCause.TheVariants as causes
-use Rattle.faults.specs.declared.fault.Fault.{Fault}
-use Rattle.faults.specs.declared.fault.Fault.TheVariants as faults
-use Rattle.faults.specs.declared.fault.Stepped.{Stepped}
-use Rattle.faults.specs.declared.fault.Stepped.TheVariants as steps
+use Rattle.repl_types.specs.declared.fault.Fault.{Fault}
+use Rattle.repl_types.specs.declared.fault.Fault.TheVariants as faults
+use Rattle.repl_types.specs.declared.fault.Stepped.{Stepped}
+use Rattle.repl_types.specs.declared.fault.Stepped.TheVariants as steps
 use Rattle.keep_core.specs.Kept.{Kept}
 use Rattle.repl_definitions.specs.declared.member.TargetKind.{TargetKind}
 use Rattle.repl_model.specs.AfterActions.{after_action}
@@ -22,7 +22,7 @@ use Rattle.site_store.specs.Damage.{IsNoDamage}
 use Rattle.site_store.specs.Views.{names, held}
 use Rattle.site_store.specs.declared.sites.Sites.{Sites}
 use Rattle.world_store.specs.Stands.{Stands}
-use Rattle.action_worlds.specs.Resting.{commits_world}
+use Rattle.world_commits.specs.actions.Resting.{commits_world}
 use Rattle.set_places.specs.Places.{IsPlaced, IsPlacedAs, IsReadOnly}
 use Rattle.set_places.specs.Steps.{HasBecome}
 use Rattle.set_places.specs.declared.placed_set.PlacedSet.{PlacedSet}

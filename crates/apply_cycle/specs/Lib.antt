@@ -2,3 +2,8 @@ pub mod Blocks
 pub mod Cycling
 pub mod Stepping
 pub mod laws
+pub use Rattle.full_refresh.specs.Signals
+pub use Rattle.target_steps.specs.Steps
+pub use Rattle.target_steps.specs.Taking
+pub use Rattle.target_steps.specs.laws.AtServers
+pub use Rattle.prune_control.specs.Noting

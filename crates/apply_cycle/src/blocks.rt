@@ -14,8 +14,8 @@ ghost use Rattle.apply_cycle.specs.Blocks.{IsBlockNext, HasBlocked, ShowsDamage}
 ghost use Rattle.apply_cycle.specs.Blocks.{is_read_in_block, ReadsAnswered};
 
 use crate::laws::laws_of_blocks;
-use faults::{Fault, Stepped};
 use keep_core::Keeper;
+use repl_types::{Fault, Stepped};
 use set_places::PlacedSet;
 use site_store::Sites;
 use std::alloc::Global;

@@ -6,7 +6,7 @@ ghost use Rattle.repl_model.specs.World.{World, KnownSet, known_set};
 ghost use Rattle.site_store.specs.Calls.{KeepsServers, IsRead};
 ghost use Rattle.site_store.specs.Servers.{AllClosed};
 ghost use Rattle.site_store.specs.Views.{names, held, work};
-ghost use Rattle.server_steps.specs.Calls.{Looks, Breaks};
+ghost use Rattle.site_store.specs.one_server.Calls.{Looks, Breaks};
 ghost use Rattle.world_store.specs.Stands.{Stands};
 ghost use Rattle.set_places.specs.Places.{IsPlaced, IsKnownAs};
 ghost use Rattle.subs_sets.specs.Rules.{source_rules};
@@ -15,15 +15,14 @@ ghost use Rattle.apply_cycle.specs.Cycling.{HasRested, HasBrokenAfter, IsCaused}
 ghost use Rattle.apply_cycle.specs.Cycling.{TellsNoRest, IsSource, made_of, Adds};
 
 use crate::steps::step;
-use action_worlds::next_actions_come_to_rest;
-use faults::{Fault, Stepped};
 use keep_core::Keeper;
-use repl_types::{Area, DamageCause, List, SetId};
+use repl_types::{Area, DamageCause, Fault, List, SetId, Stepped};
 use set_places::{PlacedSet, find_set, unknown_set};
 use site_store::Sites;
 use std::alloc::Global;
 use subs_sets::{captured_point, is_replica_set};
 use target_steps::Targets;
+use world_commits::next_actions_come_to_rest;
 
 /// How many steps a set makes at most beside those that the captured units call for.
 const MORE_STEPS: u64 = 5;

@@ -1,11 +1,11 @@
 //! The laws that the proofs of this crate cite.
 
-ghost use Rattle.action_worlds.specs.StaysSound.{NextActionsSound};
-ghost use Rattle.action_store.specs.ActedServers.{BlockHolds, OthersHoldAfterStep};
-ghost use Rattle.action_store.specs.StoredSteps.{BlockIsStored};
+ghost use Rattle.world_commits.specs.actions.StaysSound.{NextActionsSound};
+ghost use Rattle.stored_commits.specs.actions.ActedServers.{BlockHolds, OthersHoldAfterStep};
+ghost use Rattle.stored_commits.specs.actions.StoredSteps.{BlockIsStored};
 
-use action_store::{a_step_is_stored, a_target_holds_a_step};
-use action_worlds::next_actions_stay_sound;
+use stored_commits::{a_step_is_stored, a_target_holds_a_step};
+use world_commits::next_actions_stay_sound;
 
 /// What a block makes of a world, and of what its servers hold.
 pub fn laws_of_blocks()

@@ -14,11 +14,10 @@ ghost use Rattle.apply_cycle.specs.Stepping.{ShowsDamage, ShowsReportDamage};
 ghost use Rattle.full_refresh.specs.Signals.{ShowsDamage as ShowsSignalDamage};
 
 use crate::blocks::block_step;
-use faults::{Fault, Stepped};
 use full_refresh::{refresh_step, signal_step};
 use keep_core::Keeper;
 use prune_control::note;
-use repl_types::Refusal;
+use repl_types::{Fault, Refusal, Stepped};
 use set_places::PlacedSet;
 use site_store::Sites;
 use std::alloc::Global;

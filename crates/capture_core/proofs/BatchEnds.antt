@@ -10,7 +10,7 @@ use Rattle.rows_in_order.specs.laws.Written.{differ_numbers}
 use Rattle.run_core.specs.Runs.{Event, commits}
 use Rattle.repl_types.specs.declared.unit.Unit.{Unit}
 use Rattle.repl_model.specs.World.{World}
-use Rattle.capture_worlds.specs.Captures.{captured}
+use Rattle.world_commits.specs.captures.Captures.{captured}
 use Rattle.capture_core.specs.Capturing.{commits_of}
 use Rattle.capture_core.proofs.Batches.{commits_left}
 use Rattle.capture_core.proofs.UnitsInTurn.{captured_none, captured_both}

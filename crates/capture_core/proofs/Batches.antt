@@ -6,7 +6,7 @@ use Rattle.rows_in_order.specs.laws.Written.{differ_numbers}
 use Rattle.run_core.specs.Runs.{Event, commits}
 use Rattle.repl_types.specs.declared.unit.Unit.{Unit}
 use Rattle.repl_model.specs.World.{World}
-use Rattle.capture_worlds.specs.Captures.{captured}
+use Rattle.world_commits.specs.captures.Captures.{captured}
 
 -- the commits that are left when so many units wait for theirs in a world, and these are captured next
 abbrev pub commits_left : ℕ → List ℕ → ℕ → World → List Unit → List (Event World)

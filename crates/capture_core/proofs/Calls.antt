@@ -2,7 +2,7 @@
 use Rattle.std.proofs.Common.{◌≡◌, ℕ, ◌<◌, length, refl, sym, ap, subst, false, ◌∙◌}
 use Rattle.std.proofs.lemmas.List.{length-map}
 use Rattle.std.specs.Prelude.{Some, IfSome}
-use Rattle.faults.specs.declared.fault.Fault.{Fault}
+use Rattle.repl_types.specs.declared.fault.Fault.{Fault}
 use Rattle.keep_core.specs.Contents.{Contents}
 use Rattle.keep_core.specs.Kept.{Kept}
 use Rattle.site_store.specs.declared.sites.Sites.{Sites}
@@ -12,9 +12,9 @@ use Rattle.site_store.specs.Calls.{no_access, Begins}
 use Rattle.site_store.specs.Damage.{Shows, Damages, ShownBefore}
 use Rattle.site_store.specs.laws.Damage.{shown_second}
 use Rattle.site_store.specs.laws.Transactions.{begun_sees}
-use Rattle.server_steps.specs.Calls.{Looks, GoesOn, Breaks}
-use Rattle.server_steps.specs.laws.Faults.{stops_as, stops_after}
-use Rattle.server_steps.specs.laws.Steps.{goes_then, goes_saw, goes_open}
+use Rattle.site_store.specs.one_server.Calls.{Looks, GoesOn, Breaks}
+use Rattle.site_store.specs.one_server.laws.Faults.{stops_as, stops_after}
+use Rattle.site_store.specs.one_server.laws.Steps.{goes_then, goes_saw, goes_open}
 use Rattle.cd_tables.specs.Rules.{rules as unit_rules}
 use Rattle.capture_core.specs.Reading.{LeavesOthers}
 use Rattle.capture_core.specs.Rules.{log_rules, rules}

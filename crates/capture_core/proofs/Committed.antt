@@ -15,9 +15,9 @@ use Rattle.repl_model.specs.World.{Server, World}
 use Rattle.world_store.specs.CaptureRows.{capture_state, capture_rows}
 use Rattle.world_store.specs.Stands.{shown, Holds}
 use Rattle.world_store.specs.Tables.{tables, first_table}
-use Rattle.capture_worlds.specs.Captures.{with_units}
-use Rattle.capture_rows.specs.StoredCaptures.{HasCaptured}
-use Rattle.capture_store.specs.CapturedServers.{is_of_capture, Captured}
+use Rattle.world_commits.specs.captures.Captures.{with_units}
+use Rattle.stored_commits.specs.units.StoredCaptures.{HasCaptured}
+use Rattle.stored_commits.specs.captures.CapturedServers.{is_of_capture, Captured}
 use Rattle.cd_tables.specs.Appending.{is_of_unit}
 use Rattle.capture_core.specs.Committing.{PutsState}
 use Rattle.capture_core.specs.Reading.{HasServer}

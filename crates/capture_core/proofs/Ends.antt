@@ -6,15 +6,15 @@ use Rattle.std.proofs.Math.Seq.{take-append-add}
 use Rattle.std.proofs.lemmas.List.{length-append}
 use Rattle.repl_types.specs.declared.area.Area.TheVariants as areas
 use Rattle.repl_types.specs.declared.unit.Unit.{Unit}
-use Rattle.faults.specs.declared.fault.Fault.{Fault}
+use Rattle.repl_types.specs.declared.fault.Fault.{Fault}
 use Rattle.keep_core.specs.Contents.{Contents, Table}
 use Rattle.keep_core.specs.Kept.{Kept, seen_of}
 use Rattle.keep_core.specs.Revealed.{Takes}
 use Rattle.keep_core.specs.laws.Revealed.{takes_nothing}
-use Rattle.repl_model.specs.Sound.{empty_server, NumbersAreSound}
+use Rattle.repl_model.specs.Sound.{NumbersAreSound}
+use Rattle.repl_model.specs.World.{empty_server, Server, World, server_in}
 use Rattle.repl_model.specs.SoundLogs.{LogIsSound}
-use Rattle.repl_model.specs.World.{Server, World}
-use Rattle.load_worlds.specs.laws.Members.{at_one}
+use Rattle.lists.specs.laws.Members.{at_one}
 use Rattle.run_core.specs.Runs.{Event, commits, last_world, lines_of, Went, Stopped}
 use Rattle.run_core.specs.laws.Runs.{last_append, lines_append, no_part, stopped_before}
 use Rattle.site_store.specs.declared.sites.Sites.{Sites}
@@ -25,12 +25,11 @@ use Rattle.repl_types.specs.declared.area.Area.{Area}
 use Rattle.repl_types.specs.declared.status.DamageCause.{DamageCause}
 use Rattle.site_store.specs.Damage.{Shows, IsUndamaged}
 use Rattle.site_store.specs.laws.Damage.{no_damage, shown_unseen}
-use Rattle.stored_defs.specs.Known.{server_in}
 use Rattle.stored_defs.specs.laws.Standing.{all_at_place, seen_at}
-use Rattle.server_steps.specs.Calls.{Breaks}
-use Rattle.server_steps.specs.laws.Faults.{blames_after}
+use Rattle.site_store.specs.one_server.Calls.{Breaks}
+use Rattle.site_store.specs.one_server.laws.Faults.{blames_after}
 use Rattle.world_store.specs.Stands.{Stands}
-use Rattle.capture_worlds.specs.Captures.{with_units, uncaptured, captured}
+use Rattle.world_commits.specs.captures.Captures.{with_units, uncaptured, captured}
 use Rattle.capture_core.specs.Committing.{CommitsUnits, MayCommitUnits}
 use Rattle.capture_core.specs.Capturing.{counts_of}
 use Rattle.capture_core.specs.Ending.{first_units, first_commits, HeldDamage, HasEnded, HasFailed}

@@ -3,8 +3,8 @@ use Rattle.std.proofs.Common.{◌≡◌, ◌⊎◌, inl, inr, ap, ℕ, List, get
 use Rattle.std.specs.Prelude.{Option, Some, None}
 use Rattle.repl_types.specs.declared.area.Area.{Area}
 use Rattle.repl_types.specs.declared.status.DamageCause.{DamageCause}
-use Rattle.faults.specs.declared.fault.Fault.{Fault}
-use Rattle.faults.specs.declared.fault.Fault.TheVariants as faults
+use Rattle.repl_types.specs.declared.fault.Fault.{Fault}
+use Rattle.repl_types.specs.declared.fault.Fault.TheVariants as faults
 use Rattle.keep_core.specs.Contents.{Contents}
 use Rattle.keep_core.specs.Kept.{Kept, seen_of}
 use Rattle.site_store.specs.declared.sites.Sites.{Sites}
@@ -14,8 +14,8 @@ use Rattle.site_store.specs.Views.{held, work, sees}
 use Rattle.site_store.specs.Calls.{Bounds, no_access, both, Passes, AtServer, Blames, Fails}
 use Rattle.site_store.specs.Damage.{Shows, Damages, IsNoDamage}
 use Rattle.site_store.specs.laws.Counts.{at_most_itself, passes_then}
-use Rattle.server_steps.specs.Calls.{Breaks}
-use Rattle.server_steps.specs.laws.Faults.{stops_as, blames_after, put_fails}
+use Rattle.site_store.specs.one_server.Calls.{Breaks}
+use Rattle.site_store.specs.one_server.laws.Faults.{stops_as, blames_after, put_fails}
 use Rattle.capture_core.specs.Committing.{CommitsUnits, TookUnits, MayCommitUnits}
 use Rattle.capture_core.specs.Ending.{HeldDamage}
 use Rattle.capture_core.specs.Rules.{rules}

@@ -5,10 +5,10 @@ use Rattle.keep_core.specs.Contents.{Contents}
 use Rattle.keep_core.specs.Kept.{Kept}
 use Rattle.site_store.specs.declared.sites.Sites.{Sites}
 use Rattle.site_store.specs.Views.{held}
-use Rattle.stored_defs.specs.Known.{server_in}
-use Rattle.server_steps.specs.Calls.{GoesOn}
-use Rattle.capture_worlds.specs.Captures.{with_units, captured}
-use Rattle.capture_worlds.specs.laws.Servers.{log_stays}
+use Rattle.repl_model.specs.World.{server_in}
+use Rattle.site_store.specs.one_server.Calls.{GoesOn}
+use Rattle.world_commits.specs.captures.Captures.{with_units, captured}
+use Rattle.world_commits.specs.captures.laws.Servers.{log_stays}
 use Rattle.cd_tables.specs.Reading.{ReadsNoLog}
 use Rattle.capture_core.specs.Committing.{Opens, ReadsState, IsStart}
 use Rattle.capture_core.specs.LogReads.{ReadsLog, ReadsEachOnce, ReadsFurther, ReadsFromRestart}

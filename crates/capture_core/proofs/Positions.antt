@@ -20,7 +20,7 @@ use Rattle.repl_model.specs.SoundLogs.{LogIsSound}
 use Rattle.repl_model.specs.World.{Server}
 use Rattle.site_store.specs.Records.{Follows}
 use Rattle.stored_defs.specs.laws.Standing.{all_at_place}
-use Rattle.log_rows.specs.LongerTables.{log_table}
+use Rattle.stored_commits.specs.records.LongerTables.{log_table}
 use Rattle.capture_core.specs.Reading.{IsNextRecord, IsLoggedAfter, ComesNext}
 
 -- spelled positions are in order

@@ -16,9 +16,9 @@ use Rattle.repl_model.specs.Sound.{IsSound}
 use Rattle.repl_model.specs.SoundLogs.{LogIsSound}
 use Rattle.repl_model.specs.Units.{unit_of, open_changes}
 use Rattle.repl_model.specs.World.{Server, World, restart_after}
-use Rattle.load_worlds.specs.laws.Members.{In, at_one}
-use Rattle.capture_worlds.specs.Captures.{with_unit, uncaptured, rows_captured}
-use Rattle.capture_logs.specs.Reading.{in_flight_from, ChangeJoins, EndLeavesNone, RestartIsEarly, OthersAreRead, CommitIsNext, NoneAtTheEnd, RestartsAfter, RestartsAtFirst, HasReadTo}
+use Rattle.lists.specs.laws.Members.{In, at_one}
+use Rattle.world_commits.specs.captures.Captures.{with_unit, uncaptured, rows_captured}
+use Rattle.world_commits.specs.readings.Reading.{in_flight_from, ChangeJoins, EndLeavesNone, RestartIsEarly, OthersAreRead, CommitIsNext, NoneAtTheEnd, RestartsAfter, RestartsAtFirst, HasReadTo}
 use Rattle.txn_buffer.specs.Buffer.{changes_in, first_position}
 use Rattle.txn_buffer.specs.declared.buffer.Buffer.{Buffer}
 use Rattle.capture_core.specs.Reading.{greatest, IsReadTo, HasServer, ComesNext, IsRestart, TakesCommit, HasTaken, TakesNone, TakesOne, ReadsOn, ReadsAll, ReadsUnit, IsNextRecord, IsLoggedAfter}

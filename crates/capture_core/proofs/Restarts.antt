@@ -20,18 +20,18 @@ use Rattle.repl_records.specs.declared.capture.CaptureState.{CaptureState}
 use Rattle.repl_records.specs.declared.record_keys.Single.{Single}
 use Rattle.rows_in_order.specs.Rows.{table_from_rows}
 use Rattle.rows_in_order.specs.laws.Rising.{at_head}
-use Rattle.stored_defs.specs.Reading.{Spells}
+use Rattle.world_store.specs.SpelledRows.{Spells}
 use Rattle.repl_model.specs.Units.{At, positions, units, last_end}
 use Rattle.repl_model.specs.World.{Server, World, is_open_at, restart_after}
 use Rattle.repl_model.specs.Sound.{is_seq, is_seq_or_zero, NumbersAreSound}
 use Rattle.repl_model.specs.SoundLogs.{LogIsSound, log_limit}
-use Rattle.load_worlds.specs.laws.Members.{at_one, some_passes}
+use Rattle.lists.specs.laws.Members.{at_one, some_passes}
 use Rattle.site_store.specs.Records.{or_first}
 use Rattle.world_store.specs.CaptureRows.{capture_state}
 use Rattle.world_store.specs.Stands.{Holds}
 use Rattle.world_store.specs.Tables.{tables, first_table}
-use Rattle.capture_worlds.specs.Captures.{uncaptured}
-use Rattle.capture_logs.specs.Reading.{HasReadTo, StartsEmpty}
+use Rattle.world_commits.specs.captures.Captures.{uncaptured}
+use Rattle.world_commits.specs.readings.Reading.{HasReadTo, StartsEmpty}
 use Rattle.capture_core.specs.Committing.{IsStart, StateIn}
 use Rattle.capture_core.specs.Reading.{UnitsAreWithin, IsReadTo}
 use Rattle.capture_core.specs.declared.progress.Progress.{Progress}

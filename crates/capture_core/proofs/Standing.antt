@@ -9,18 +9,17 @@ use Rattle.std.proofs.lemmas.Option.{same_Some}
 use Rattle.repl_types.specs.declared.unit.Unit.{Unit}
 use Rattle.keep_core.specs.Contents.{Contents}
 use Rattle.keep_core.specs.Kept.{Kept}
-use Rattle.repl_model.specs.Sound.{IsSound, empty_server}
-use Rattle.repl_model.specs.World.{Server, World, server_named}
-use Rattle.load_worlds.specs.laws.Members.{In}
-use Rattle.capture_worlds.specs.Captures.{with_units, uncaptured, captured_server, captured}
-use Rattle.capture_worlds.specs.StaysSound.{CapturesSound, OthersAreNext, AreNext}
-use Rattle.capture_worlds.specs.laws.Servers.{name_stays, named_captured}
-use Rattle.capture_store.specs.CapturedServers.{Captured, CapturedHolds, OthersHold}
+use Rattle.repl_model.specs.Sound.{IsSound}
+use Rattle.repl_model.specs.World.{empty_server, Server, World, server_named, server_in}
+use Rattle.repl_model.specs.laws.GrowingServers.{name_itself, same_name}
+use Rattle.lists.specs.laws.Members.{In}
+use Rattle.world_commits.specs.captures.Captures.{with_units, uncaptured, captured_server, captured}
+use Rattle.world_commits.specs.captures.StaysSound.{CapturesSound, OthersAreNext, AreNext}
+use Rattle.world_commits.specs.captures.laws.Servers.{name_stays, named_captured}
+use Rattle.stored_commits.specs.captures.CapturedServers.{Captured, CapturedHolds, OthersHold}
 use Rattle.site_store.specs.declared.sites.Sites.{Sites}
 use Rattle.site_store.specs.Servers.{AllClosed}
 use Rattle.site_store.specs.Views.{names, held, work}
-use Rattle.stored_defs.specs.Known.{server_in}
-use Rattle.stored_defs.specs.laws.Rows.{text_is, text_itself}
 use Rattle.stored_defs.specs.laws.Standing.{same_count, name_at_place, server_at_place}
 use Rattle.world_store.specs.Stands.{Holds, Reveals, Stands}
 use Rattle.capture_core.proofs.UnitsInTurn.{captured_both, left_after}
@@ -111,13 +110,13 @@ module _ {K : Type 0} (kept : K → Kept) (s0 : Sites K) (closed : AllClosed (wo
 
       pick : (b : Bool) → bytes_eq name (server_in w m).name ≡ b → b ≡ false
       pick false e = refl
-      pick true e = absurd (two (named n ∙ text_is name (server_in w m).name e ∙ sym (named m)) (one_first m n ne))
+      pick true e = absurd (two (named n ∙ same_name name (server_in w m).name e ∙ sym (named m)) (one_first m n ne))
 
   -- ---- after some units
 
   -- the server has captured them
   own_server : (us : List Unit) → captured_server name us server ≡ with_units us server
-  own_server us = ap (λ (b : Bool). cond b (with_units us server) server) (text_itself name)
+  own_server us = ap (λ (b : Bool). cond b (with_units us server) server) (name_itself name)
 
   -- it stands at its place
   at_place : (us : List Unit) → server_in (captured name us w) n ≡ with_units us server
@@ -169,6 +168,6 @@ module _ {K : Type 0} (kept : K → Kept) (s0 : Sites K) (closed : AllClosed (wo
       here : Reveals (captured name vs between) (captured_server name vs (server_in between n)) (Some d)
       here =
           let mine = with_units us server in
-          let own : bytes_eq name mine.name ≡ true = ap (bytes_eq name) (name_stays us server) ∙ text_itself name in
+          let own : bytes_eq name mine.name ≡ true = ap (bytes_eq name) (name_stays us server) ∙ name_itself name in
           subst (λ (s : Server). Reveals (captured name vs between) s (Some d)) (sym (ap (captured_server name vs) (at_place us) ∙ ap (λ (b : Bool). cond b (with_units vs mine) mine) own))
           (d, refl, holds name vs between mine c d sound_between (found_after us) (rest, left_after next us (vs ++ rest) server parts) has takes)

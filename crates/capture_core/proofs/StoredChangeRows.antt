@@ -29,10 +29,11 @@ use Rattle.repl_model.specs.SoundLogs.{LogIsSound}
 use Rattle.repl_model.specs.Tables.{table_of}
 use Rattle.repl_model.specs.Units.{At, positions, change_of, changes_up_to, last_end, unit_at, units}
 use Rattle.repl_model.specs.World.{Registered, Server}
-use Rattle.log_rows.specs.SourceTables.{HasRows, TypedChangesHaveRows}
-use Rattle.stored_defs.specs.laws.Lists.{all_map, all_filter_map, all_numbered}
+use Rattle.stored_commits.specs.records.SourceTables.{HasRows, TypedChangesHaveRows}
+use Rattle.lists.specs.laws.Places.{all_numbered}
+use Rattle.lists.specs.laws.Members.{each_image, each_given}
 use Rattle.world_store.specs.CaptureRows.{change_rows_of}
-use Rattle.capture_rows.specs.StoredChanges.{stored_change}
+use Rattle.stored_commits.specs.units.StoredChanges.{stored_change}
 
 -- ---- what a log has
 
@@ -73,7 +74,7 @@ module _ (typed : TypedChangesHaveRows) where
     changes_fit : (tx before : ℕ) → AllByRecursion PlacedFits (changes_up_to tx before log)
     changes_fit tx before =
         let among = λ (r : At). nat_lt (last_end tx before log) r.0 && nat_lt r.0 before in
-        all_filter_map PlacedFits (change_of tx) (filter among (positions log)) (all_weaker AtFits (λ r. IfSome (change_of tx r) PlacedFits) (filter among (positions log)) (change_fits tx) (all_filter AtFits among (positions log) all))
+        each_given PlacedFits (change_of tx) (filter among (positions log)) (all_weaker AtFits (λ r. IfSome (change_of tx r) PlacedFits) (filter among (positions log)) (change_fits tx) (all_filter AtFits among (positions log) all))
 
     -- the unit that a record ends
     unit_fits : (r : At) → AtFits r → IfSome (unit_at log r) UnitFits
@@ -84,7 +85,7 @@ module _ (typed : TypedChangesHaveRows) where
     -- all units
     units_fit : AllByRecursion UnitFits (units log)
     unfolding units
-    units_fit = all_filter_map UnitFits (unit_at log) (positions log) (all_weaker AtFits (λ r. IfSome (unit_at log r) UnitFits) (positions log) unit_fits all)
+    units_fit = each_given UnitFits (unit_at log) (positions log) (all_weaker AtFits (λ r. IfSome (unit_at log r) UnitFits) (positions log) unit_fits all)
 
 -- ---- the change rows of a registration
 
@@ -173,7 +174,7 @@ change_rows_fit typed server sound r after_few before_few = pick r.active
     logged = all_numbered IsLogRecord AtFits (2 ^ 64) 1 server.log (omega (arith, sound.short)) sound.typed (λ m x lt fits. (lt, fits))
 
     all : (low : ℕ) → AllByRecursion Stored (map stored_change (rows low))
-    all low = all_map Stored stored_change (rows low) (between_fit r.reg after_few before_few server.log low server.captured (units_fit typed server.log logged))
+    all low = each_image Stored stored_change (rows low) (between_fit r.reg after_few before_few server.log low server.captured (units_fit typed server.log logged))
 
     pick : (b : Bool) → AllByRecursion Stored (cond b (map stored_change (rows (max r.start r.floor))) [])
     pick true = all (max r.start r.floor)

@@ -8,7 +8,7 @@ use Rattle.std.specs.Ordering.{ordering_then, is_eq, nat_cmp}
 use Rattle.std.specs.Str.{bytes_eq}
 use Rattle.std.specs.declared.cmp.Ordering.{Ordering}
 use Rattle.std.specs.declared.cmp.Ordering.TheVariants.{Less, Equal, Greater}
-use Rattle.std.proofs.lemmas.Bool.{le-leb}
+use Rattle.std.proofs.lemmas.Bool.{le-leb, and_parts}
 use Rattle.repl_types.specs.Bytes.{bytes_cmp}
 use Rattle.repl_types.specs.Sizes.{row_limit}
 use Rattle.repl_types.specs.declared.change_row.Registration.{Registration}
@@ -24,17 +24,19 @@ use Rattle.rows_in_order.specs.Rows.{table_from_rows}
 use Rattle.rows_in_order.specs.laws.Fitting.{fits_each}
 use Rattle.rows_in_order.specs.laws.Found.{row_of}
 use Rattle.rows_in_order.specs.laws.Rising.{same_is, no_row_at}
-use Rattle.repl_model.specs.Rules.{RegistrationKeepsRules, are_among, places_rise, all_places}
+use Rattle.repl_model.specs.Rules.{RegistrationKeepsRules, all_places}
+use Rattle.lists.specs.Lists.{are_among, places_rise}
 use Rattle.repl_model.specs.SoundDefinitions.{KeepsTable, ServerKeepsRules}
 use Rattle.repl_model.specs.Summaries.{by_key}
 use Rattle.repl_model.specs.World.{Registered, ServerTable, Server, World, registered_of}
-use Rattle.load_worlds.specs.laws.Members.{at_one, at_each}
+use Rattle.repl_model.specs.laws.GrowingServers.{name_itself}
+use Rattle.lists.specs.laws.Members.{at_one, at_each, each_given}
 use Rattle.world_store.specs.CaptureRows.{registration_state_rows}
 use Rattle.world_store.specs.DefinitionRows.{defined_registration, registration_rows, numbered_tables}
 use Rattle.world_store.specs.Tables.{definition_table}
-use Rattle.stored_defs.specs.Reading.{RowFits}
-use Rattle.stored_defs.specs.laws.Lists.{both_true, all_filter_map, all_numbered, among_first, among_below, rising_few}
-use Rattle.stored_defs.specs.laws.Rows.{text_itself, registration_rows_are}
+use Rattle.world_store.specs.SpelledRows.{RowFits}
+use Rattle.lists.specs.laws.Places.{all_numbered, among_first, among_below, rising_few}
+use Rattle.world_store.specs.laws.DefinitionRows.{registration_rows_are}
 use Rattle.cd_tables.specs.Rules.{is_of_table}
 
 -- ---- entries by their keys
@@ -75,9 +77,9 @@ pub few_columns : (t : ServerTable) (reg : Registration) → KeepsTable t → Re
 few_columns t reg keeps rules =
     let def = t.def in
     let n = length def.columns in
-    let after = both_true (places_rise reg.after && are_among (all_places def) reg.after) (are_among reg.after def.key) rules.after in
-    let rising = both_true (places_rise reg.after) (are_among (all_places def) reg.after) after.0 in
-    let before = both_true (places_rise reg.before) (are_among reg.after reg.before) rules.before in
+    let after = and_parts (places_rise reg.after && are_among (all_places def) reg.after) (are_among reg.after def.key) rules.after in
+    let rising = and_parts (places_rise reg.after) (are_among (all_places def) reg.after) after.0 in
+    let before = and_parts (places_rise reg.before) (are_among reg.after reg.before) rules.before in
     let after_below = among_first n reg.after rising.1 in
     let before_below = among_below n reg.after reg.before after_below before.1 in
     (omega (arith, keeps.1, rising_few n reg.after rising.0 after_below), omega (arith, keeps.1, rising_few n reg.before before.0 before_below))
@@ -141,7 +143,7 @@ module _ (world : World) (server : Server) (keeps : ServerKeepsRules world serve
           pick (Some r) h = (h.table, few_columns t r.reg k h)
 
       all_defined : AllByRecursion Defined entries
-      all_defined = all_filter_map Defined defined_registration (numbered_tables server) (all_numbered KeepsTable (λ t. IfSome (defined_registration t) Defined) 256 0 server.tables (omega (arith, keeps.count)) keeps.tables (λ m t lt k. one m t k))
+      all_defined = each_given Defined defined_registration (numbered_tables server) (all_numbered KeepsTable (λ t. IfSome (defined_registration t) Defined) 256 0 server.tables (omega (arith, keeps.count)) keeps.tables (λ m t lt k. one m t k))
 
   -- what stands under a key
   row_at : (key value : List ℕ) → definition_table server 1 key ≡ Some value → (row : List ℕ × DefinedRegistration) × (short_text row.0 ≡ key) × (defined_registration_spelling row.1 ≡ value) × IsDefinedRegistration row.1 × IsPlaced server row
@@ -172,7 +174,7 @@ module _ (world : World) (server : Server) (keeps : ServerKeepsRules world serve
   of_its_table name reg fits has =
       let p = placed_at name reg fits has in
       all_true (bytes_eq reg.registration.table name) (nat_le (length reg.registration.after) row_limit) (nat_le (length reg.registration.before) row_limit)
-      (ap (λ (l : List ℕ). bytes_eq l name) p.under ∙ text_itself name)
+      (ap (λ (l : List ℕ). bytes_eq l name) p.under ∙ name_itself name)
       (le-leb (length reg.registration.after) row_limit p.few.0)
       (le-leb (length reg.registration.before) row_limit p.few.1)
     where

@@ -24,12 +24,12 @@ use Rattle.repl_model.specs.Sound.{IsSound, NumbersAreSound}
 use Rattle.repl_model.specs.SoundDefinitions.{KeepsTable, ServerKeepsRules}
 use Rattle.repl_model.specs.SoundLogs.{LogIsSound}
 use Rattle.repl_model.specs.World.{Registered, ServerTable, Server, World}
-use Rattle.load_worlds.specs.laws.Members.{In, at_one}
-use Rattle.log_rows.specs.SourceTables.{TypedChangesHaveRows}
+use Rattle.lists.specs.laws.Members.{In, at_one}
+use Rattle.stored_commits.specs.records.SourceTables.{TypedChangesHaveRows}
 use Rattle.site_store.specs.Damage.{IsUndamaged, IsSpelt}
 use Rattle.site_store.specs.laws.Damage.{rows_spelt}
-use Rattle.stored_defs.specs.Reading.{Spells}
-use Rattle.stored_defs.specs.laws.Lists.{all_numbered}
+use Rattle.world_store.specs.SpelledRows.{Spells}
+use Rattle.lists.specs.laws.Places.{all_numbered}
 use Rattle.stored_defs.specs.laws.Standing.{all_at_place}
 use Rattle.world_store.specs.CaptureRows.{change_rows_of, registration_state_rows}
 use Rattle.world_store.specs.LogRows.{log_rows}

@@ -9,9 +9,9 @@ use Rattle.repl_types.specs.declared.area.Area.TheVariants as areas
 use Rattle.repl_types.specs.declared.unit.Unit.{Unit}
 use Rattle.keep_core.specs.Contents.{Contents}
 use Rattle.keep_core.specs.Kept.{Kept}
-use Rattle.repl_model.specs.Sound.{empty_server, IsSound, NumbersAreSound}
+use Rattle.repl_model.specs.Sound.{IsSound, NumbersAreSound}
+use Rattle.repl_model.specs.World.{empty_server, Server, World, restart_after, server_in}
 use Rattle.repl_model.specs.SoundLogs.{LogIsSound, log_limit}
-use Rattle.repl_model.specs.World.{Server, World, restart_after}
 use Rattle.run_core.specs.Runs.{Event, commits, last_world, lines_of}
 use Rattle.run_core.specs.laws.Runs.{last_append, lines_append}
 use Rattle.site_store.specs.declared.sites.Sites.{Sites}
@@ -19,14 +19,13 @@ use Rattle.site_store.specs.Servers.{AllClosed}
 use Rattle.site_store.specs.Views.{names, held, work, sees}
 use Rattle.site_store.specs.Calls.{Bounds, no_access, both, Passes, Begins}
 use Rattle.site_store.specs.laws.Counts.{at_most_itself, passes_then}
-use Rattle.stored_defs.specs.Known.{server_in}
 use Rattle.stored_defs.specs.laws.Standing.{all_at_place}
-use Rattle.server_steps.specs.Calls.{GoesOn}
+use Rattle.site_store.specs.one_server.Calls.{GoesOn}
 use Rattle.world_store.specs.CaptureRows.{capture_state}
 use Rattle.world_store.specs.Stands.{Holds, Reveals, Stands}
 use Rattle.world_store.specs.Tables.{tables}
-use Rattle.capture_worlds.specs.Captures.{with_unit, with_units, uncaptured, rows_captured, all_rows_captured, captured}
-use Rattle.capture_store.specs.CapturedServers.{HoldsCaptured}
+use Rattle.world_commits.specs.captures.Captures.{with_unit, with_units, uncaptured, rows_captured, all_rows_captured, captured}
+use Rattle.stored_commits.specs.captures.CapturedServers.{HoldsCaptured}
 use Rattle.capture_core.specs.Committing.{IsStart, IsWorking, Opens, ReadsState, PutsState, CommitsUnits}
 use Rattle.capture_core.specs.Ending.{Laws}
 use Rattle.capture_core.specs.Reading.{greatest, greatest_waiting, KeepsTyped, IsReadTo, HasServer, HasTaken, Counts, LeavesOthers, ReadsUnit, ReadsAll}

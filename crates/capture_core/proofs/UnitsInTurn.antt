@@ -9,10 +9,10 @@ use Rattle.std.proofs.lemmas.List.FromFn.{length-enumerate_from}
 use Rattle.repl_types.specs.declared.unit.Unit.{Unit}
 use Rattle.repl_model.specs.Units.{unit_at, units, positions}
 use Rattle.repl_model.specs.World.{Server, World}
-use Rattle.stored_defs.specs.laws.Lists.{filter_map_few}
-use Rattle.capture_worlds.specs.Captures.{with_unit, with_units, uncaptured, rows_captured, all_rows_captured, captured_server, captured}
-use Rattle.capture_worlds.specs.StaysSound.{OthersAreNext}
-use Rattle.capture_worlds.specs.laws.Servers.{name_stays}
+use Rattle.lists.specs.laws.Places.{filter_map_few}
+use Rattle.world_commits.specs.captures.Captures.{with_unit, with_units, uncaptured, rows_captured, all_rows_captured, captured_server, captured}
+use Rattle.world_commits.specs.captures.StaysSound.{OthersAreNext}
+use Rattle.world_commits.specs.captures.laws.Servers.{name_stays}
 
 -- ---- one server
 

@@ -10,8 +10,8 @@ use Rattle.site_store.specs.Servers.{AllClosed}
 use Rattle.site_store.specs.Views.{names, held, work, sees, IsOpenAt}
 use Rattle.site_store.specs.Calls.{Begins}
 use Rattle.site_store.specs.laws.Transactions.{open_below, other_work}
-use Rattle.server_steps.specs.Calls.{Looks, GoesOn}
-use Rattle.server_steps.specs.laws.Steps.{goes_saw}
+use Rattle.site_store.specs.one_server.Calls.{Looks, GoesOn}
+use Rattle.site_store.specs.one_server.laws.Steps.{goes_saw}
 use Rattle.capture_core.specs.Committing.{IsWorking}
 
 module _ {K : Type 0} (kept : K → Kept) where

@@ -1,17 +1,16 @@
 -- What a capture does in a world, and what it leaves of the servers.
 use Rattle.std.specs.Prelude.{◌≡◌, ◌≢◌, ℕ, ◌%◌, ◌==◌, ◌||◌, min, List, map, take, length, Option, None, slice_index_or}
 use Rattle.std.specs.List.{filter, range_with_len}
-use Rattle.faults.specs.declared.fault.Fault.{Fault}
+use Rattle.repl_types.specs.declared.fault.Fault.{Fault}
 use Rattle.keep_core.specs.Kept.{Kept}
 use Rattle.site_store.specs.declared.sites.Sites.{Sites}
 use Rattle.site_store.specs.Damage.{IsNoDamage}
 use Rattle.site_store.specs.Views.{names, held}
 use Rattle.run_core.specs.Runs.{Event, commits, Went, Stopped}
 use Rattle.repl_types.specs.declared.unit.Unit.{Unit}
-use Rattle.repl_model.specs.World.{Server, World}
+use Rattle.repl_model.specs.World.{Server, World, server_in}
 use Rattle.world_store.specs.Stands.{Stands}
-use Rattle.stored_defs.specs.Known.{server_in}
-use Rattle.capture_worlds.specs.Captures.{with_units, captured, taken_units, all_rows_captured}
+use Rattle.world_commits.specs.captures.Captures.{with_units, captured, taken_units, all_rows_captured}
 use Rattle.capture_core.specs.Reading.{greatest}
 use Rattle.capture_core.specs.declared.captured.Captured.{Captured}
 

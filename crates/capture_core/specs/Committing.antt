@@ -1,8 +1,8 @@
 -- How a capture begins, and what its commits leave of the servers.
 use Rattle.std.specs.Prelude.{◌≡◌, ◌≢◌, ◌⊎◌, ℕ, ◌-◌, [], Option, Some, None, slice_index_or, slice_set}
 use Rattle.repl_types.specs.declared.area.Area.TheVariants as areas
-use Rattle.faults.specs.declared.fault.Fault.{Fault}
-use Rattle.faults.specs.declared.fault.Fault.TheVariants as faults
+use Rattle.repl_types.specs.declared.fault.Fault.{Fault}
+use Rattle.repl_types.specs.declared.fault.Fault.TheVariants as faults
 use Rattle.keep_core.specs.Contents.{Contents, put_at}
 use Rattle.keep_core.specs.Kept.{Kept}
 use Rattle.repl_records.specs.FirstStates.{first_capture}
@@ -13,7 +13,7 @@ use Rattle.site_store.specs.declared.sites.Sites.{Sites}
 use Rattle.site_store.specs.Records.{StateIs}
 use Rattle.site_store.specs.Views.{held, work, sees}
 use Rattle.site_store.specs.Calls.{Bounds, Passes, Commits, Blames}
-use Rattle.server_steps.specs.Calls.{GoesOn}
+use Rattle.site_store.specs.one_server.Calls.{GoesOn}
 use Rattle.txn_buffer.specs.Buffer.{changes_in}
 use Rattle.capture_core.specs.declared.progress.Progress.{Progress}
 

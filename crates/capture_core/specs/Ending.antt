@@ -2,7 +2,7 @@
 use Rattle.std.specs.Prelude.{◌≡◌, ℕ, List, take, Option, Some, None, slice_index_or}
 use Rattle.repl_types.specs.declared.area.Area.{Area}
 use Rattle.repl_types.specs.declared.status.DamageCause.{DamageCause}
-use Rattle.faults.specs.declared.fault.Fault.{Fault}
+use Rattle.repl_types.specs.declared.fault.Fault.{Fault}
 use Rattle.keep_core.specs.Kept.{Kept}
 use Rattle.site_store.specs.declared.sites.Sites.{Sites}
 use Rattle.site_store.specs.Damage.{Shows, IsNoDamage}
@@ -10,14 +10,13 @@ use Rattle.site_store.specs.Views.{names, held}
 use Rattle.site_store.specs.Calls.{Bounds, Passes, KeepsServers, Blames}
 use Rattle.run_core.specs.Runs.{Event, Went, Stopped}
 use Rattle.repl_types.specs.declared.unit.Unit.{Unit}
-use Rattle.repl_model.specs.World.{World}
+use Rattle.repl_model.specs.World.{World, server_in}
 use Rattle.world_store.specs.Stands.{Stands}
-use Rattle.stored_defs.specs.Known.{server_in}
-use Rattle.log_rows.specs.SourceTables.{TypedChangesHaveRows}
-use Rattle.capture_worlds.specs.Captures.{uncaptured}
-use Rattle.capture_worlds.specs.StaysSound.{CapturesSound, OthersAreNext}
-use Rattle.capture_logs.specs.Reading.{StartsEmpty}
-use Rattle.capture_store.specs.CapturedServers.{HoldsCaptured, CapturedHolds, OthersHold}
+use Rattle.stored_commits.specs.records.SourceTables.{TypedChangesHaveRows}
+use Rattle.world_commits.specs.captures.Captures.{uncaptured}
+use Rattle.world_commits.specs.captures.StaysSound.{CapturesSound, OthersAreNext}
+use Rattle.world_commits.specs.readings.Reading.{StartsEmpty}
+use Rattle.stored_commits.specs.captures.CapturedServers.{HoldsCaptured, CapturedHolds, OthersHold}
 use Rattle.capture_core.specs.Capturing.{commits_of, counts_of}
 use Rattle.capture_core.specs.Reading.{greatest, UnitsAreWithin}
 use Rattle.capture_core.specs.Rules.{rules}

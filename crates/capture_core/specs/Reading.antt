@@ -12,11 +12,11 @@ use Rattle.repl_model.specs.Units.{units}
 use Rattle.repl_model.specs.World.{Server, World, restart_after}
 use Rattle.repl_model.specs.Sound.{IsSound}
 use Rattle.world_store.specs.CaptureRows.{capture_state}
-use Rattle.load_worlds.specs.laws.Members.{In}
-use Rattle.log_rows.specs.LongerTables.{log_table}
-use Rattle.capture_worlds.specs.Captures.{with_unit, uncaptured, rows_captured}
-use Rattle.capture_rows.specs.StoredCaptures.{HasCaptured}
-use Rattle.capture_logs.specs.Reading.{in_flight_from, HasReadTo}
+use Rattle.lists.specs.laws.Members.{In}
+use Rattle.stored_commits.specs.records.LongerTables.{log_table}
+use Rattle.world_commits.specs.captures.Captures.{with_unit, uncaptured, rows_captured}
+use Rattle.stored_commits.specs.units.StoredCaptures.{HasCaptured}
+use Rattle.world_commits.specs.readings.Reading.{in_flight_from, HasReadTo}
 use Rattle.txn_buffer.specs.Buffer.{changes_in, IsLeastFirst}
 use Rattle.txn_buffer.specs.declared.buffer.Buffer.{Buffer}
 use Rattle.site_store.specs.Damage.{ShownBefore}

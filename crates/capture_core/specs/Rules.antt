@@ -9,7 +9,7 @@ use Rattle.row_codec.specs.Spelling.{Is64, b64}
 use Rattle.repl_records.specs.Capture.{IsCapture, capture_spelling}
 use Rattle.site_store.specs.declared.sites.Sites.{Sites}
 use Rattle.site_store.specs.Damage.{Rules, Damages, joined}
-use Rattle.stored_defs.specs.Reading.{Spells}
+use Rattle.world_store.specs.SpelledRows.{Spells}
 use Rattle.cd_tables.specs.Rules.{rules as unit_rules}
 
 -- keys of log records

@@ -9,15 +9,14 @@ ghost use Rattle.world_store.specs.Stands.{Stands};
 ghost use Rattle.capture_core.specs.LogReads.{ReadsFromRestart};
 ghost use Rattle.capture_core.specs.Rules.{ShowsDamage};
 ghost use Rattle.capture_core.specs.Capturing.{HoldsElsewhere, HasCapturedAll, HasStopped};
-ghost use Rattle.capture_core.specs.Ending.{HasEnded, HasFailed};
-ghost use Rattle.capture_core.specs.Ending.{most_units as most_units_lem};
+ghost use Rattle.capture_core.specs.Ending.{HasEnded, HasFailed, most_units as most_units_lem};
 
 use crate::captured::Captured;
 use crate::committing::{begin_capture, commit_units, end_capture};
 use crate::laws::laws_of_worlds;
 use crate::reading::take_unit;
-use faults::Fault;
 use keep_core::Keeper;
+use repl_types::Fault;
 use site_store::Sites;
 use std::alloc::Global;
 

@@ -4,7 +4,7 @@ ghost use Rattle.std.specs.Prelude.{◌≡◌, ◌<◌, length, OnOk, IfOk, IfEr
 ghost use Rattle.site_store.specs.Servers.{AllClosed};
 ghost use Rattle.site_store.specs.Views.{names, work, IsOpenAt};
 ghost use Rattle.site_store.specs.Calls.{ClosesOne};
-ghost use Rattle.server_steps.specs.Calls.{Breaks};
+ghost use Rattle.site_store.specs.one_server.Calls.{Breaks};
 ghost use Rattle.cd_tables.specs.Reading.{ReadsNoLog};
 ghost use Rattle.capture_core.specs.Rules.{rules};
 ghost use Rattle.capture_core.specs.Reading.{KeepsTyped};
@@ -13,9 +13,9 @@ ghost use Rattle.capture_core.specs.Committing.{CommitsUnits, MayCommitUnits};
 
 use crate::captured::Captured;
 use crate::progress::Progress;
-use faults::Fault;
 use keep_core::Keeper;
 use repl_records::{CaptureState, Single};
+use repl_types::Fault;
 use row_codec::Table0;
 use site_store::Sites;
 use std::alloc::Global;

@@ -1,18 +1,20 @@
 //! The laws that the proofs of this crate cite.
 
-ghost use Rattle.log_rows.specs.SourceTables.{TypedChangesHaveRows};
-ghost use Rattle.capture_logs.specs.Reading.{ChangeJoins, EndLeavesNone};
-ghost use Rattle.capture_logs.specs.Reading.{RestartIsEarly, OthersAreRead, CommitIsNext};
-ghost use Rattle.capture_logs.specs.Reading.{NoneAtTheEnd, RestartsAfter, RestartsAtFirst};
+ghost use Rattle.stored_commits.specs.records.SourceTables.{TypedChangesHaveRows};
+ghost use Rattle.world_commits.specs.readings.Reading.{ChangeJoins, EndLeavesNone};
+ghost use Rattle.world_commits.specs.readings.Reading.{RestartIsEarly, OthersAreRead, CommitIsNext};
+ghost use Rattle.world_commits.specs.readings.Reading.{NoneAtTheEnd};
+ghost use Rattle.world_commits.specs.readings.Reading.{RestartsAfter, RestartsAtFirst};
 ghost use Rattle.capture_core.specs.Ending.{Laws};
 
-use capture_logs::{a_capture_restarts, changes_are_kept, units_are_met};
-use capture_store::{
-    a_server_holds_what_it_captured, a_server_that_captured_holds, the_others_hold,
-};
-use capture_worlds::{captures_stay_sound, the_others_are_next};
-use log_rows::a_change_is_stored;
 use repl_model::log_grows;
+use stored_commits::{
+    a_change_is_stored, a_server_holds_what_it_captured, a_server_that_captured_holds,
+    others_hold_a_capture,
+};
+use world_commits::{
+    a_capture_restarts, captures_stay_sound, changes_are_kept, the_others_are_next, units_are_met,
+};
 
 /// What is known of a log as it is read.
 pub fn laws_of_logs()
@@ -43,5 +45,5 @@ pub fn laws_of_worlds()
     the_others_are_next();
     a_server_holds_what_it_captured();
     a_server_that_captured_holds();
-    the_others_hold();
+    others_hold_a_capture();
 }

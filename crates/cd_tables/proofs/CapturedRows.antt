@@ -20,8 +20,8 @@ use Rattle.repl_records.specs.Capture.{IsChangeRow, HasChangeRowSpelling, change
 use Rattle.repl_records.specs.declared.capture.ChangeRow.{ChangeRow}
 use Rattle.repl_model.specs.ChangeRows.{rows_of, rows_of_placed, shows_nothing, insert_row, delete_row, update_row}
 use Rattle.repl_model.specs.Tables.{table_of}
-use Rattle.log_rows.specs.SourceTables.{HasRows}
-use Rattle.capture_rows.specs.StoredChanges.{stored_change}
+use Rattle.stored_commits.specs.records.SourceTables.{HasRows}
+use Rattle.stored_commits.specs.units.StoredChanges.{stored_change}
 use Rattle.cd_tables.specs.Appending.{CanBeStored}
 use Rattle.cd_tables.specs.Rules.{IsRegistrationOf}
 

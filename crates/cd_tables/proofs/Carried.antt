@@ -11,7 +11,7 @@ use Rattle.row_codec.specs.Spelling.{short_text}
 use Rattle.repl_definitions.specs.declared.defined.DefinedRegistration.{DefinedRegistration}
 use Rattle.repl_records.specs.declared.capture.RegState.{RegState}
 use Rattle.repl_model.specs.Tables.{table_of}
-use Rattle.capture_rows.specs.StoredChanges.{with_rows_of, started, stopped, with_change, rows_put}
+use Rattle.stored_commits.specs.units.StoredChanges.{with_rows_of, started, stopped, with_change, rows_put}
 use Rattle.cd_tables.specs.Appending.{Becomes, AppendsChange}
 use Rattle.cd_tables.specs.Rules.{IsRegistrationOf, FindsRegistration, HasStateOf}
 

@@ -16,7 +16,7 @@ use Rattle.rows_in_order.specs.Rows.{is_before}
 use Rattle.rows_in_order.specs.laws.Before.{order, is_less, not_both, empty_first}
 use Rattle.rows_in_order.specs.laws.Rising.{same_is}
 use Rattle.site_store.specs.Damage.{ShownBefore}
-use Rattle.capture_rows.specs.StoredChanges.{cleared, with_cleared}
+use Rattle.stored_commits.specs.units.StoredChanges.{cleared, with_cleared}
 use Rattle.cd_tables.specs.Clearing.{ClearsNext}
 use Rattle.cd_tables.specs.Rules.{rules}
 use Rattle.cd_tables.proofs.Shown.{adds_shown}

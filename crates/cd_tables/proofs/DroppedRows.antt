@@ -21,7 +21,7 @@ use Rattle.rows_in_order.specs.laws.Found.{first_row, no_first_row, all_some}
 use Rattle.rows_in_order.specs.laws.Written.{put_here, written_first}
 use Rattle.site_store.specs.Damage.{ShownBefore}
 use Rattle.site_store.specs.laws.Damage.{adds_remove}
-use Rattle.stored_defs.specs.Reading.{RowFits}
+use Rattle.world_store.specs.SpelledRows.{RowFits}
 use Rattle.cd_tables.specs.Dropping.{greatest, HasNextChange, DropsNext, DropsUpto}
 use Rattle.cd_tables.specs.StoredRows.{AreChangeRows, HasChangeRows, rows_upto, rows_above, row_rules}
 use Rattle.cd_tables.proofs.FoundRows.{units_rise, next_of_rows, none_of_rows}

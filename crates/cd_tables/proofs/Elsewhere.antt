@@ -2,6 +2,7 @@
 use Rattle.std.proofs.Common.{◌≡◌, ℕ, zero, suc, ◌≢◌, Bool, true, false, cond, List, [], ◌∷◌, inl, inr, refl, ap, ◌∙◌, arith}
 use Rattle.std.specs.Prelude.{◌==◌, Some}
 use Rattle.std.proofs.lemmas.Bool.Decides.{nat_tests}
+use Rattle.rows_in_order.specs.laws.Written.{differ_numbers}
 use Rattle.repl_types.specs.declared.area.Area.{Area}
 use Rattle.repl_types.specs.declared.area.Area.TheVariants as areas
 use Rattle.repl_types.specs.declared.change_row.CdRow.{CdRow}
@@ -15,13 +16,9 @@ use Rattle.repl_records.specs.Capture.{change_row_spelling, registration_state_s
 use Rattle.repl_records.specs.RecordKeys.{change_key_spelling}
 use Rattle.repl_records.specs.declared.capture.RegState.{RegState}
 use Rattle.repl_model.specs.ChangeRows.{rows_of}
-use Rattle.capture_rows.specs.StoredChanges.{stored_change, with_change_row, with_change_rows, cleared, with_cleared, is_captured, with_state, with_change, CapturesChange}
+use Rattle.stored_commits.specs.units.StoredChanges.{stored_change, with_change_row, with_change_rows, cleared, with_cleared, is_captured, with_state, with_change, CapturesChange}
 use Rattle.cd_tables.specs.Appending.{is_of_unit}
 use Rattle.cd_tables.proofs.Signals.{active_state, inactive_state}
-
--- numbers that differ
-apart : (m n : ℕ) → m ≢ n → (m == n) ≡ false
-apart m n ne = grind (arith, nat_tests)
 
 -- no change-data table is another table
 cd_elsewhere : (number : ℕ) (t : Table) (c : Contents) (a : Area) (n : ℕ) → is_of_unit a n ≡ false → with_table c areas.Cd number t a n ≡ c a n
@@ -31,14 +28,14 @@ cd_elsewhere number t c a n other = refl
 -- nor is the unit-of-work table
 pub uow_elsewhere : (t : Table) (c : Contents) (a : Area) (n : ℕ) → is_of_unit a n ≡ false → with_table c areas.Uow 0 t a n ≡ c a n
 uow_elsewhere t c areas.Uow zero other = absurd cc
-uow_elsewhere t c areas.Uow (suc n) other = ap (λ (b : Bool). cond b t (c areas.Uow (suc n))) (apart 0 (suc n) (omega arith))
+uow_elsewhere t c areas.Uow (suc n) other = ap (λ (b : Bool). cond b t (c areas.Uow (suc n))) (differ_numbers 0 (suc n) (omega arith))
 uow_elsewhere t c a n other = refl
 
 -- nor that of the states of registrations
 state_elsewhere : (t : Table) (c : Contents) (a : Area) (n : ℕ) → is_of_unit a n ≡ false → with_table c areas.Capture 1 t a n ≡ c a n
 state_elsewhere t c areas.Capture zero other = refl
 state_elsewhere t c areas.Capture (suc zero) other = absurd cc
-state_elsewhere t c areas.Capture (suc (suc n)) other = ap (λ (b : Bool). cond b t (c areas.Capture (suc (suc n)))) (apart 1 (suc (suc n)) (omega arith))
+state_elsewhere t c areas.Capture (suc (suc n)) other = ap (λ (b : Bool). cond b t (c areas.Capture (suc (suc n)))) (differ_numbers 1 (suc (suc n)) (omega arith))
 state_elsewhere t c a n other = refl
 
 -- a state is put

@@ -30,10 +30,10 @@ use Rattle.rows_in_order.specs.laws.ByNumber.{key_is_before}
 use Rattle.rows_in_order.specs.laws.Fitting.{fits_next}
 use Rattle.rows_in_order.specs.laws.Rising.{no_row}
 use Rattle.site_store.specs.Records.{Follows}
-use Rattle.stored_defs.specs.Reading.{RowFits}
+use Rattle.world_store.specs.SpelledRows.{RowFits}
 use Rattle.cd_tables.specs.StoredRows.{first_of, change_of, AreChangeRows, HasChangeRows, AreUnitRows, HasUnitRows, head_of, row_of}
 use Rattle.repl_model.specs.World.{Server}
-use Rattle.capture_rows.specs.StoredCaptures.{HasCaptured}
+use Rattle.stored_commits.specs.units.StoredCaptures.{HasCaptured}
 use Rattle.cd_tables.specs.Captured.{ServerIsSound, captured_units, next_captured, captured_changes}
 use Rattle.cd_tables.specs.laws.CapturedRows.{has_units, has_changes, first_captured}
 use Rattle.cd_tables.specs.laws.SoundChanges.{change_rows_are}

@@ -14,7 +14,7 @@ use Rattle.keep_core.specs.Contents.{Contents, Table}
 use Rattle.row_codec.specs.Spelling.{b32, short_text}
 use Rattle.repl_definitions.specs.declared.defined.DefinedRegistration.{DefinedRegistration}
 use Rattle.repl_model.specs.ChangeRows.{rows_of}
-use Rattle.capture_rows.specs.StoredChanges.{with_change_row, with_change_rows, is_captured, with_change}
+use Rattle.stored_commits.specs.units.StoredChanges.{with_change_row, with_change_rows, is_captured, with_change}
 use Rattle.cd_tables.specs.Known.{IsStatedOf, IsStated, IsFoundAt, IsKnown, known_after}
 use Rattle.cd_tables.specs.Rules.{IsRegistrationOf}
 use Rattle.cd_tables.specs.declared.stated.StatedRegistration.{StatedRegistration}

@@ -13,9 +13,9 @@ use Rattle.repl_records.specs.Capture.{uow_spelling}
 use Rattle.repl_model.specs.ChangeRows.{rows_of_placed}
 use Rattle.repl_model.specs.World.{Registered, Server, World, registered_of}
 use Rattle.site_store.specs.Damage.{ShownBefore}
-use Rattle.capture_worlds.specs.Captures.{rows_captured}
-use Rattle.capture_rows.specs.StoredChanges.{with_uow_row}
-use Rattle.capture_rows.specs.StoredCaptures.{HasCaptured, HasPart, IsNextUnit, UnitBegins, UnitGoesOn, UnitEnds}
+use Rattle.world_commits.specs.captures.Captures.{rows_captured}
+use Rattle.stored_commits.specs.units.StoredChanges.{with_uow_row}
+use Rattle.stored_commits.specs.units.StoredCaptures.{HasCaptured, HasPart, IsNextUnit, UnitBegins, UnitGoesOn, UnitEnds}
 use Rattle.cd_tables.specs.Appending.{Becomes, AppendsChange, is_of_unit, CapturesUnit}
 use Rattle.cd_tables.specs.Known.{IsKnown}
 use Rattle.cd_tables.specs.Rules.{rules}

@@ -12,7 +12,7 @@ use Rattle.repl_records.specs.declared.capture.ChangeRow.{ChangeRow}
 use Rattle.repl_records.specs.declared.capture.RegState.{RegState}
 use Rattle.repl_records.specs.declared.record_keys.CdKey.{CdKey}
 use Rattle.repl_model.specs.ChangeRows.{rows_of}
-use Rattle.capture_rows.specs.StoredChanges.{stored_change, with_change_row, with_change_rows, is_captured, with_rows_of}
+use Rattle.stored_commits.specs.units.StoredChanges.{stored_change, with_change_row, with_change_rows, is_captured, with_rows_of}
 use Rattle.cd_tables.specs.Appending.{CanBeStored, Becomes}
 use Rattle.cd_tables.proofs.Shown.{becomes_row, becomes_itself, becomes_then, becomes_if}
 

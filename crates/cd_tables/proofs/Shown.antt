@@ -16,7 +16,7 @@ use Rattle.repl_records.specs.declared.capture.UowRow.{UowRow}
 use Rattle.repl_records.specs.declared.record_keys.CdKey.{CdKey}
 use Rattle.site_store.specs.Damage.{Rules, AddsOnlySpelt, ShownBefore}
 use Rattle.site_store.specs.laws.Damage.{adds_put, shown_before}
-use Rattle.capture_rows.specs.StoredChanges.{with_uow_row, cleared, with_cleared, with_state}
+use Rattle.stored_commits.specs.units.StoredChanges.{with_uow_row, cleared, with_cleared, with_state}
 use Rattle.cd_tables.specs.Appending.{Becomes}
 use Rattle.cd_tables.specs.Rules.{rules, may_be_key, may_be_value, is_called_for, is_misplaced}
 

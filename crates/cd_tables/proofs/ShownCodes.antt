@@ -9,7 +9,7 @@ use Rattle.repl_types.specs.declared.area.Area.{Area}
 use Rattle.repl_types.specs.declared.area.Area.TheVariants as areas
 use Rattle.repl_types.specs.declared.status.DamageCause.{DamageCause}
 use Rattle.repl_types.specs.declared.status.DamageCause.TheVariants as causes
-use Rattle.faults.specs.declared.fault.Fault.{Fault}
+use Rattle.repl_types.specs.declared.fault.Fault.{Fault}
 use Rattle.keep_core.specs.Contents.{Contents, Table, put_at, same_key}
 use Rattle.keep_core.specs.Kept.{Kept}
 use Rattle.row_codec.specs.Spelling.{Is64, b64}
@@ -27,9 +27,9 @@ use Rattle.site_store.specs.Damage.{Shows, ShownBefore}
 use Rattle.site_store.specs.Records.{IsMissing, Misspelt, MissesOrMisreads}
 use Rattle.site_store.specs.Views.{sees}
 use Rattle.site_store.specs.laws.Damage.{adds_put, misspelt_shows}
-use Rattle.stored_defs.specs.Reading.{RowFits}
-use Rattle.server_steps.specs.Calls.{Breaks}
-use Rattle.server_steps.specs.laws.Damage.{read_breaks}
+use Rattle.world_store.specs.SpelledRows.{RowFits}
+use Rattle.site_store.specs.one_server.Calls.{Breaks}
+use Rattle.site_store.specs.one_server.laws.Damage.{read_breaks}
 use Rattle.cd_tables.specs.Dropping.{with_code, codes_set, SetsCode}
 use Rattle.cd_tables.specs.StoredRows.{HasUnit, AreUnitRows, HasUnitRows, row_rules}
 use Rattle.cd_tables.proofs.RowsShown.{rows_shown}

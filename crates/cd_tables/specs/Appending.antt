@@ -10,10 +10,10 @@ use Rattle.row_codec.specs.Storable.{IsStorable}
 use Rattle.repl_records.specs.Capture.{IsChangeRow, HasChangeRowSpelling, change_row_spelling}
 use Rattle.repl_model.specs.World.{Server, World}
 use Rattle.site_store.specs.Damage.{ShownBefore}
-use Rattle.log_rows.specs.SourceTables.{HasRows}
-use Rattle.capture_worlds.specs.Captures.{with_unit, rows_captured}
-use Rattle.capture_rows.specs.StoredChanges.{stored_change, CapturesChange}
-use Rattle.capture_rows.specs.StoredCaptures.{HasCaptured, IsNextUnit}
+use Rattle.stored_commits.specs.records.SourceTables.{HasRows}
+use Rattle.world_commits.specs.captures.Captures.{with_unit, rows_captured}
+use Rattle.stored_commits.specs.units.StoredChanges.{stored_change, CapturesChange}
+use Rattle.stored_commits.specs.units.StoredCaptures.{HasCaptured, IsNextUnit}
 use Rattle.cd_tables.specs.Rules.{rules}
 
 -- a change row is one of rows of values, and can be stored

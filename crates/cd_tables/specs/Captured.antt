@@ -13,7 +13,7 @@ use Rattle.repl_model.specs.SoundDefinitions.{KeepsTable}
 use Rattle.repl_model.specs.SoundLogs.{LogIsSound}
 use Rattle.repl_model.specs.SourceAt.{units_between}
 use Rattle.repl_model.specs.World.{Registered, Server, code_in}
-use Rattle.capture_rows.specs.StoredChanges.{stored_change}
+use Rattle.stored_commits.specs.units.StoredChanges.{stored_change}
 use Rattle.cd_tables.specs.StoredRows.{first_of}
 
 -- A server's log, its numbers and its tables are sound, as those of each server of a sound world are.

@@ -15,8 +15,8 @@ use Rattle.repl_records.specs.declared.capture.RegState.{RegState}
 use Rattle.repl_records.specs.declared.capture.UowRow.{UowRow}
 use Rattle.repl_records.specs.declared.record_keys.CdKey.{CdKey}
 use Rattle.repl_model.specs.World.{Registered, Server, ServerTable}
-use Rattle.capture_rows.specs.StoredCaptures.{HasCaptured}
-use Rattle.capture_rows.specs.StoredChanges.{stored_change}
+use Rattle.stored_commits.specs.units.StoredCaptures.{HasCaptured}
+use Rattle.stored_commits.specs.units.StoredChanges.{stored_change}
 use Rattle.cd_tables.specs.Captured.{ServerIsSound, next_captured, captured_changes}
 use Rattle.cd_tables.specs.StoredRows.{first_of, change_of, AreChangeRows, HasChangeRows, AreUnitRows, HasUnitRows, head_of, row_of}
 

@@ -13,7 +13,7 @@ use Rattle.repl_records.specs.RecordKeys.{change_key_spelling, IsChangeKey}
 use Rattle.repl_records.specs.Capture.{change_row_spelling, IsChangeRow, registration_state_spelling, IsRegistrationState}
 use Rattle.repl_records.specs.declared.capture.RegState.{RegState}
 use Rattle.site_store.specs.Damage.{Rules}
-use Rattle.stored_defs.specs.Reading.{Spells}
+use Rattle.world_store.specs.SpelledRows.{Spells}
 
 -- ---- what may stand there
 

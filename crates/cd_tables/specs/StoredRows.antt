@@ -17,7 +17,7 @@ use Rattle.repl_records.specs.declared.capture.ChangeRow.{ChangeRow}
 use Rattle.repl_records.specs.declared.capture.UowRow.{UowRow}
 use Rattle.rows_in_order.specs.Rows.{table_from_rows, IsRising}
 use Rattle.site_store.specs.Damage.{Rules}
-use Rattle.stored_defs.specs.Reading.{Spells, RowFits}
+use Rattle.world_store.specs.SpelledRows.{Spells, RowFits}
 
 -- the first of a list, if it has one
 abbrev pub first_of : {X : Type 0} → List X → Option X

@@ -4,16 +4,16 @@ ghost use Rattle.std.specs.Prelude.{◌<◌, length, OnOk, IfOk, IfErr, IfSome};
 ghost use Rattle.repl_records.specs.RecordKeys.{change_key_spelling};
 ghost use Rattle.site_store.specs.Records.{after_key};
 ghost use Rattle.site_store.specs.Views.{names, work, IsOpenAt};
-ghost use Rattle.server_steps.specs.Calls.{GoesOn, Breaks};
-ghost use Rattle.capture_rows.specs.StoredChanges.{with_cleared};
+ghost use Rattle.site_store.specs.one_server.Calls.{GoesOn, Breaks};
+ghost use Rattle.stored_commits.specs.units.StoredChanges.{with_cleared};
 ghost use Rattle.cd_tables.specs.Reading.{ReadsNoLog};
 ghost use Rattle.cd_tables.specs.Rules.{rules};
 ghost use Rattle.cd_tables.specs.Clearing.{ClearsNext, IsCleared};
 ghost use Rattle.cd_tables.specs.Appending.{Becomes};
 
-use faults::Fault;
 use keep_core::Keeper;
 use repl_records::{CdKey, ChangeRow};
+use repl_types::Fault;
 use site_store::Sites;
 use std::alloc::Global;
 

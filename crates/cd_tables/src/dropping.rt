@@ -5,14 +5,14 @@ ghost use Rattle.repl_types.specs.declared.area.Area.TheVariants as areas;
 ghost use Rattle.repl_records.specs.RecordKeys.{change_key_spelling};
 ghost use Rattle.site_store.specs.Records.{after_key};
 ghost use Rattle.site_store.specs.Views.{names, work, sees, IsOpenAt};
-ghost use Rattle.server_steps.specs.Calls.{GoesOn, Breaks};
+ghost use Rattle.site_store.specs.one_server.Calls.{GoesOn, Breaks};
 ghost use Rattle.cd_tables.specs.Reading.{ReadsOnlyIn};
 ghost use Rattle.cd_tables.specs.StoredRows.{HasUnit, row_rules};
 ghost use Rattle.cd_tables.specs.Dropping.{DropsNext, IsDropped, DropsUpto, SetsCode};
 
-use faults::Fault;
 use keep_core::Keeper;
 use repl_records::{CdKey, ChangeRow, UowRow};
+use repl_types::Fault;
 use row_codec::Table0;
 use site_store::Sites;
 use std::alloc::Global;

@@ -6,10 +6,10 @@ ghost use Rattle.row_codec.specs.Storable.{IsStorable};
 ghost use Rattle.repl_records.specs.Capture.{IsChangeRow, HasChangeRowSpelling};
 ghost use Rattle.repl_records.specs.Capture.{change_row_spelling};
 ghost use Rattle.repl_records.specs.declared.capture.ChangeRow.{ChangeRow};
-ghost use Rattle.capture_rows.specs.StoredCaptures.{UnitBegins, UnitGoesOn, UnitEnds};
+ghost use Rattle.stored_commits.specs.units.StoredCaptures.{UnitBegins, UnitGoesOn, UnitEnds};
 
-use capture_rows::a_unit_is_captured;
 use repl_records::records_of_64_values_are_storable;
+use stored_commits::a_unit_is_captured;
 
 /// Which change rows can be stored.
 pub fn laws_of_rows()

@@ -1,5 +1,5 @@
-//! The change-data tables and the unit-of-work table of a server: a captured unit is written there,
-//! and what was captured is read, dropped, and marked as rejected.
+//! The change-data tables and the unit-of-work table of a server: a captured unit is written
+//! there, and what was captured is read, dropped, and marked as rejected.
 //!
 //! `append_changes` puts the row of a unit and the change rows of its changes, and carries out its
 //! starts and stops, all inside the transaction that the caller has open. A change of a table that
@@ -12,12 +12,12 @@
 //! unit and the next change row (`specs/Finding.antt`). `drop_upto` removes the change rows of
 //! units up to a floor, and `set_code` shows a code of a unit (`specs/Dropping.antt`). These five
 //! say what they do of any rows that stand in a table in order, and so of those that a server has
-//! captured; `specs/StoredRows.antt` says what such rows are, and what shows that they are damaged.
-//! Each reads one area only (`specs/Reading.antt`).
+//! captured; `specs/StoredRows.antt` says what such rows are, and what shows that they are
+//! damaged. Each reads one area only (`specs/Reading.antt`).
 //!
 //! It stands on `site_store`, whose records it reads and puts, on `row_changes`, which makes the
-//! change rows of a change, on `server_steps`, for the words of its contracts, and on
-//! `capture_rows`, which says what these puts make of the stored tables.
+//! change rows of a change, and on `stored_commits`, which says what these puts make of the stored
+//! tables.
 //!
 //! For example, the unit of the commit at 9 has an insert at position 7 into a table whose
 //! registration is active from 2 on. It gets a row in the unit-of-work table under 9, and one in

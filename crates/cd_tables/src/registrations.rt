@@ -3,16 +3,15 @@
 ghost use Rattle.std.specs.Prelude.{◌≡◌, ◌<◌, length, OnOk, IfOk, IfErr, IfSome};
 ghost use Rattle.repl_records.specs.Capture.{IsRegistrationState};
 ghost use Rattle.site_store.specs.Views.{names, sees};
-ghost use Rattle.server_steps.specs.Calls.{Looks, Breaks};
+ghost use Rattle.site_store.specs.one_server.Calls.{Looks, Breaks};
 ghost use Rattle.cd_tables.specs.Reading.{ReadsNoLog};
 ghost use Rattle.cd_tables.specs.Rules.{rules, is_of_table as is_of_table_lem, FindsRegistration};
 ghost use Rattle.cd_tables.specs.Rules.{HasStateOf, IsRegistrationOf, IsRegistrationIn};
 
-use faults::Fault;
 use keep_core::Keeper;
 use repl_definitions::DefinedRegistration;
 use repl_records::RegState;
-use repl_types::Name;
+use repl_types::{Fault, Name};
 use row_codec::Table1;
 use site_store::Sites;
 use std::alloc::Global;

@@ -3,18 +3,17 @@
 
 ghost use Rattle.std.specs.Prelude.{◌≡◌, ◌<◌, length, OnOk, IfOk, IfErr, IfSome};
 ghost use Rattle.site_store.specs.Views.{names, sees};
-ghost use Rattle.server_steps.specs.Calls.{Looks, Breaks};
+ghost use Rattle.site_store.specs.one_server.Calls.{Looks, Breaks};
 ghost use Rattle.cd_tables.specs.Known.{IsStated, IsStatedOf, IsFoundAt, IsKnown};
 ghost use Rattle.cd_tables.specs.Known.{known_after as known_after_lem};
 ghost use Rattle.cd_tables.specs.Reading.{ReadsNoLog};
 ghost use Rattle.cd_tables.specs.Rules.{rules};
 
 use crate::registrations::{read_registration, read_state};
-use faults::Fault;
 use keep_core::Keeper;
 use repl_definitions::DefinedRegistration;
 use repl_records::RegState;
-use repl_types::{Change, Name};
+use repl_types::{Change, Fault, Name};
 use site_store::Sites;
 use std::alloc::Global;
 

@@ -4,18 +4,17 @@ ghost use Rattle.std.specs.Prelude.{◌≡◌, ◌<◌, length, OnOk, IfOk, IfEr
 ghost use Rattle.std.specs.List.{AllByRecursion};
 ghost use Rattle.site_store.specs.Damage.{ShownBefore};
 ghost use Rattle.site_store.specs.Views.{names, work, IsOpenAt};
-ghost use Rattle.server_steps.specs.Calls.{GoesOn, Breaks, FailsToWrite};
-ghost use Rattle.capture_rows.specs.StoredChanges.{with_uow_row};
+ghost use Rattle.site_store.specs.one_server.Calls.{GoesOn, Breaks, FailsToWrite};
+ghost use Rattle.stored_commits.specs.units.StoredChanges.{with_uow_row};
 ghost use Rattle.cd_tables.specs.Reading.{ReadsNoLog};
 ghost use Rattle.cd_tables.specs.Rules.{rules};
 ghost use Rattle.cd_tables.specs.Appending.{Becomes, CapturesUnit, IsTyped};
 
 use crate::changes::append_change;
 use crate::laws::laws_of_units;
-use faults::Fault;
 use keep_core::Keeper;
 use repl_records::UowRow;
-use repl_types::{Unit, UnitHead};
+use repl_types::{Fault, Unit, UnitHead};
 use row_codec::Table0;
 use site_store::Sites;
 use std::alloc::{AllocError, Global};

@@ -8,7 +8,8 @@ use Rattle.repl_definitions.specs.declared.predicate.Operand.{Operand}
 use Rattle.repl_definitions.specs.declared.predicate.Predicate.{Predicate, fold-roll-Predicate}
 use Rattle.repl_definitions.specs.declared.predicate.Predicate.TheOpen as test
 use Rattle.repl_definitions.specs.declared.predicate.Predicate.TheVariants as predicates
-use Rattle.repl_model.specs.Rules.{is_among, are_among, layer_columns, columns_read, operand_columns, layer_tested, columns_tested}
+use Rattle.repl_model.specs.Rules.{layer_columns, columns_read, operand_columns, layer_tested, columns_tested}
+use Rattle.lists.specs.Lists.{is_among, are_among}
 
 -- what holds of all of two lists, one after the other, holds of all of each
 pub among_both : (places some others : List ℕ) → are_among places (some ++ others) ≡ (are_among places some && are_among places others)

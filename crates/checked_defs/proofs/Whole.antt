@@ -14,7 +14,7 @@ use Rattle.repl_types.specs.declared.table.TableDef.{TableDef}
 use Rattle.repl_definitions.specs.declared.member.Member.{Member}
 use Rattle.repl_definitions.specs.declared.member.TargetKind.{TargetKind}
 use Rattle.repl_model.specs.Selection.{SourceTable}
-use Rattle.repl_model.specs.Rules.{is_among}
+use Rattle.lists.specs.Lists.{is_among}
 use Rattle.repl_defs.specs.Trees.{predicate_tree}
 use Rattle.repl_commands.specs.declared.written.RawDefs.{RawDefs}
 use Rattle.repl_commands.specs.declared.written.RawTable.{RawTable}

@@ -18,7 +18,8 @@ use Rattle.repl_commands.specs.declared.written.RawRegistration.{RawRegistration
 use Rattle.repl_commands.specs.declared.written.RawMember.{RawMember}
 use Rattle.repl_commands.specs.declared.written.RawSet.{RawSet}
 use Rattle.repl_model.specs.Selection.{SourceTable}
-use Rattle.repl_model.specs.Rules.{all_differ, is_among, are_among, all_places, columns_from, filter_columns, keys_stand, copy_may_move, condensed_may_move, sums_fit}
+use Rattle.repl_model.specs.Rules.{all_places, columns_from, filter_columns, keys_stand, copy_may_move, condensed_may_move, sums_fit}
+use Rattle.lists.specs.Lists.{all_differ, is_among, are_among}
 use Rattle.repl_defs.specs.Entries.{column_name, column_form, target_name}
 use Rattle.repl_defs.specs.Texts.{definition_text_limit}
 use Rattle.repl_defs.specs.Trees.{predicate_tree}

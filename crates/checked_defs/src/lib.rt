@@ -5,10 +5,10 @@
 //! Below it are `spelled_defs`, which says which definitions items spell and what stands beside a
 //! text, `repl_commands`, whose `RawDefs` it takes, `repl_defs`, which reads the texts of columns
 //! and predicates, `repl_definitions`, which has sets and members, and `repl_model`, whose rules
-//! over a member and its source it asks. Above it, `load_rules` says what accepted definitions make
-//! of a world, and `accepted_texts` that they can be stored. `specs/Rules.antt` has each rule,
-//! `specs/Broken.antt` says which one is broken, and where, and `specs/Whole.antt` says what it is
-//! that nothing is left out.
+//! over a member and its source it asks. Above it, `load_laws` says what accepted definitions make
+//! of a world, and that they can be stored. `specs/Rules.antt` has each rule, `specs/Broken.antt`
+//! says which one is broken, and where, and `specs/Whole.antt` says what it is that nothing is
+//! left out.
 //!
 //! For example, a text with a registration of the table `pens` at `hq`, where neither the text nor
 //! what is known has such a table, breaks rule 6 at its first registration.

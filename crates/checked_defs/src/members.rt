@@ -4,7 +4,8 @@ ghost use Rattle.std.specs.Prelude.{◌≡◌, ◌++◌, ◌==◌, ◌||◌, opt
 ghost use Rattle.std.specs.Prelude.{IfOk};
 ghost use Rattle.std.specs.List.{list_all, list_any};
 ghost use Rattle.std.specs.Option.{option_map_or};
-ghost use Rattle.repl_model.specs.Rules.{are_among as are_among_lem, filter_columns, columns_from};
+ghost use Rattle.repl_model.specs.Rules.{filter_columns, columns_from};
+ghost use Rattle.lists.specs.Lists.{are_among as are_among_lem};
 ghost use Rattle.repl_model.specs.Rules.{just_column as just_column_lem};
 ghost use Rattle.repl_types.specs.declared.change_row.Registration.{Registration as Captured};
 ghost use Rattle.repl_model.specs.Rules.{is_copy as is_copy_lem, is_condensed as is_condensed_lem};

@@ -1,7 +1,8 @@
 //! The columns that the texts of a member read.
 
 ghost use Rattle.std.specs.Prelude.{◌≡◌};
-ghost use Rattle.repl_model.specs.Rules.{are_among as are_among_lem, columns_read, columns_tested};
+ghost use Rattle.repl_model.specs.Rules.{columns_read, columns_tested};
+ghost use Rattle.lists.specs.Lists.{are_among as are_among_lem};
 ghost use Rattle.repl_model.specs.Rules.{operand_columns, columns_from, filter_columns};
 ghost use Rattle.repl_model.specs.Rules.{just_column as just_column_lem};
 

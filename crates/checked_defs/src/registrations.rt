@@ -3,7 +3,7 @@
 ghost use Rattle.std.specs.Prelude.{◌≡◌, option_map, false, IfOk};
 ghost use Rattle.std.specs.List.{list_all};
 ghost use Rattle.std.specs.Option.{option_map_or};
-ghost use Rattle.repl_model.specs.Rules.{is_among as is_among_lem};
+ghost use Rattle.lists.specs.Lists.{is_among as is_among_lem};
 ghost use Rattle.spelled_defs.specs.Spelled.{column_place as column_place_lem};
 ghost use Rattle.checked_defs.specs.Rules.{table_of_registration as table_of_registration_lem};
 ghost use Rattle.checked_defs.specs.Rules.{has_table as has_table_lem};

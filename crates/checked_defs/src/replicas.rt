@@ -3,7 +3,8 @@
 ghost use Rattle.std.specs.Prelude.{◌≡◌, ◌&&◌, IfOk};
 ghost use Rattle.std.specs.List.{list_all, list_any};
 ghost use Rattle.std.specs.Cmp.Lexicographic.{pointwise};
-ghost use Rattle.repl_model.specs.Rules.{all_places as all_places_lem, are_among as are_among_lem};
+ghost use Rattle.repl_model.specs.Rules.{all_places as all_places_lem};
+ghost use Rattle.lists.specs.Lists.{are_among as are_among_lem};
 ghost use Rattle.checked_defs.specs.Rules.{replicas_stand_alone as replicas_stand_alone_lem};
 ghost use Rattle.checked_defs.specs.Rules.{same_column as same_column_lem, as_source_table};
 ghost use Rattle.checked_defs.specs.Rules.{keeps_all_images as keeps_all_images_lem};

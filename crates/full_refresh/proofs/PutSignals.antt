@@ -13,8 +13,8 @@ use Rattle.site_store.specs.Views.{work, IsOpenAt}
 use Rattle.site_store.specs.Works.{Sets}
 use Rattle.site_store.specs.Calls.{Puts}
 use Rattle.site_store.specs.Damage.{Rules, joined}
-use Rattle.server_steps.specs.Calls.{GoesOn}
-use Rattle.server_steps.specs.laws.Steps.{goes_then, goes_put, goes_as}
+use Rattle.site_store.specs.one_server.Calls.{GoesOn}
+use Rattle.site_store.specs.one_server.laws.Steps.{goes_then, goes_put, goes_as}
 use Rattle.source_log.specs.Rules.{all_rules}
 use Rattle.source_log.specs.Units.{AppendsUnit, AppendsIfRoom, table_rules}
 use Rattle.full_refresh.specs.PutSignals.{PutsSignal}

@@ -3,14 +3,14 @@ use Rattle.std.proofs.Common.{◌≡◌, inl, inr, subst}
 use Rattle.std.specs.Prelude.{Option}
 use Rattle.repl_types.specs.declared.area.Area.{Area}
 use Rattle.repl_types.specs.declared.status.DamageCause.{DamageCause}
-use Rattle.faults.specs.declared.fault.Fault.{Fault}
+use Rattle.repl_types.specs.declared.fault.Fault.{Fault}
 use Rattle.keep_core.specs.Contents.{Contents}
 use Rattle.keep_core.specs.Kept.{Kept}
 use Rattle.site_store.specs.declared.sites.Sites.{Sites}
 use Rattle.site_store.specs.Damage.{Shows, Damages}
-use Rattle.server_steps.specs.Calls.{Looks, Breaks}
-use Rattle.server_steps.specs.laws.Faults.{stops_as, stops_after}
-use Rattle.server_steps.specs.laws.Reads.{looks_sees}
+use Rattle.site_store.specs.one_server.Calls.{Looks, Breaks}
+use Rattle.site_store.specs.one_server.laws.Faults.{stops_as, stops_after}
+use Rattle.site_store.specs.one_server.laws.Reads.{looks_sees}
 use Rattle.source_log.specs.Rules.{all_rules}
 use Rattle.subs_sets.specs.Rules.{state_rules}
 use Rattle.set_places.specs.declared.placed_set.PlacedSet.{PlacedSet}

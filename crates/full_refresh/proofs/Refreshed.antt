@@ -5,10 +5,10 @@ use Rattle.std.specs.Option.{option_map_or}
 use Rattle.repl_types.specs.declared.area.Area.{Area}
 use Rattle.repl_types.specs.declared.record.LogRecord.{LogRecord}
 use Rattle.repl_types.specs.declared.status.DamageCause.{DamageCause}
-use Rattle.faults.specs.declared.fault.Counts.{Counts}
-use Rattle.faults.specs.declared.fault.Fault.{Fault}
-use Rattle.faults.specs.declared.fault.Fault.TheVariants as faults
-use Rattle.faults.specs.declared.fault.Stepped.TheVariants as steps
+use Rattle.repl_types.specs.declared.fault.Counts.{Counts}
+use Rattle.repl_types.specs.declared.fault.Fault.{Fault}
+use Rattle.repl_types.specs.declared.fault.Fault.TheVariants as faults
+use Rattle.repl_types.specs.declared.fault.Stepped.TheVariants as steps
 use Rattle.keep_core.specs.Contents.{Contents}
 use Rattle.keep_core.specs.Kept.{Kept}
 use Rattle.repl_definitions.specs.declared.member.TargetKind.{TargetKind}
@@ -24,13 +24,13 @@ use Rattle.repl_model.specs.World.{Server, World, KnownSet, known_sets}
 use Rattle.world_store.specs.LogRows.{head_of}
 use Rattle.world_store.specs.Stands.{Holds, Reveals, Stands}
 use Rattle.world_store.specs.TargetRows.{source_time, set_rows_refreshed, trail_entry}
-use Rattle.load_worlds.specs.laws.KnownSets.{known_stands}
-use Rattle.load_worlds.specs.laws.Members.{In}
+use Rattle.repl_model.specs.laws.KnownSets.{known_stands}
+use Rattle.lists.specs.laws.Members.{In}
 use Rattle.site_store.specs.declared.sites.Sites.{Sites}
 use Rattle.site_store.specs.Views.{names, held, sees}
-use Rattle.action_store.specs.ActedServers.{RefreshHolds, OthersHoldAfterStep}
-use Rattle.action_store.specs.StoredSteps.{is_numbered, PutsStep, refreshed_state, RefreshIsStored}
-use Rattle.action_worlds.specs.StaysSound.{NextActionsSound, HasRoom}
+use Rattle.stored_commits.specs.actions.ActedServers.{RefreshHolds, OthersHoldAfterStep}
+use Rattle.stored_commits.specs.actions.StoredSteps.{is_numbered, PutsStep, refreshed_state, RefreshIsStored}
+use Rattle.world_commits.specs.actions.StaysSound.{NextActionsSound, HasRoom}
 use Rattle.subs_sets.specs.States.{state_in}
 use Rattle.subs_sets.specs.declared.states.ReadOnlyState.{ReadOnlyState}
 use Rattle.set_places.specs.declared.placed_set.PlacedSet.{PlacedSet}

@@ -6,8 +6,8 @@ use Rattle.std.specs.Str.{bytes_eq}
 use Rattle.std.proofs.lemmas.List.{length-append, length-map}
 use Rattle.repl_types.specs.declared.record.LogRecord.{LogRecord}
 use Rattle.repl_types.specs.declared.unit.Unit.{Unit as LogUnit}
-use Rattle.faults.specs.declared.fault.Fault.{Fault}
-use Rattle.faults.specs.declared.fault.Fault.TheVariants as faults
+use Rattle.repl_types.specs.declared.fault.Fault.{Fault}
+use Rattle.repl_types.specs.declared.fault.Fault.TheVariants as faults
 use Rattle.keep_core.specs.Contents.{Contents}
 use Rattle.keep_core.specs.Kept.{Kept}
 use Rattle.repl_records.specs.declared.prune.SyncMark.{SyncMark}
@@ -21,14 +21,14 @@ use Rattle.repl_model.specs.SoundLogs.{LogIsSound, log_limit}
 use Rattle.repl_model.specs.World.{Server, World, KnownSet, known_sets, tables_of}
 use Rattle.world_store.specs.Stands.{Holds, Stands}
 use Rattle.world_store.specs.Tables.{first_table}
-use Rattle.load_worlds.specs.laws.Entries.{at_place_in}
-use Rattle.load_worlds.specs.laws.Members.{In, at_one, image_in}
-use Rattle.load_worlds.specs.laws.Servers.{name_itself}
-use Rattle.log_store.specs.LongerServers.{Logged}
+use Rattle.lists.specs.laws.Numbered.{at_place_in}
+use Rattle.lists.specs.laws.Members.{In, at_one, image_in}
+use Rattle.repl_model.specs.laws.GrowingServers.{name_itself}
+use Rattle.stored_commits.specs.logs.LongerServers.{Logged}
 use Rattle.site_store.specs.declared.sites.Sites.{Sites}
 use Rattle.site_store.specs.Views.{names, held}
-use Rattle.action_store.specs.ActedServers.{with_mark, SignalHolds, OthersHoldAfterSignal}
-use Rattle.action_worlds.specs.StaysSound.{NextActionsSound}
+use Rattle.stored_commits.specs.actions.ActedServers.{with_mark, SignalHolds, OthersHoldAfterSignal}
+use Rattle.world_commits.specs.actions.StaysSound.{NextActionsSound}
 use Rattle.source_log.specs.Storing.{IsKept, StoresWhole}
 use Rattle.source_log.specs.Units.{own_change, own_commit, unit_records, AppendsUnit, HasNoRoomFor, HasUnit, ChangesFit}
 use Rattle.source_log.specs.laws.Whole.{held_whole, whole_reads, unit_whole}

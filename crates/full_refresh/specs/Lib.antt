@@ -1,3 +1,4 @@
 pub mod Signals
 pub mod PutSignals
 pub mod Refreshes
+pub use Rattle.source_log.specs.Rules

@@ -1,12 +1,12 @@
 -- What the transaction of a signal makes of the source.
 use Rattle.std.specs.Prelude.{◌≡◌, ℕ, Option, Some, None}
 use Rattle.repl_types.specs.declared.unit.Unit.{Unit}
-use Rattle.faults.specs.declared.fault.Fault.{Fault}
+use Rattle.repl_types.specs.declared.fault.Fault.{Fault}
 use Rattle.keep_core.specs.Contents.{Contents}
 use Rattle.keep_core.specs.Kept.{Kept}
 use Rattle.repl_records.specs.declared.prune.SyncMark.{SyncMark}
 use Rattle.repl_model.specs.World.{Server}
-use Rattle.action_store.specs.ActedServers.{with_mark}
+use Rattle.stored_commits.specs.actions.ActedServers.{with_mark}
 use Rattle.site_store.specs.declared.sites.Sites.{Sites}
 use Rattle.site_store.specs.Calls.{KeepsServers}
 use Rattle.site_store.specs.Views.{held, sees}

@@ -7,15 +7,15 @@ ghost use Rattle.repl_model.specs.Units.{units, last_commit, last_time};
 ghost use Rattle.row_codec.specs.LogRecords.{IsLogRecord, HasLogSpelling, HasShortRows};
 ghost use Rattle.row_codec.specs.LogRecords.{log_spelling};
 ghost use Rattle.row_codec.specs.Storable.{IsStorable};
-ghost use Rattle.action_worlds.specs.StaysSound.{NextActionsSound};
-ghost use Rattle.action_store.specs.ActedServers.{SignalHolds, OthersHoldAfterSignal};
-ghost use Rattle.action_store.specs.ActedServers.{RefreshHolds, OthersHoldAfterStep};
-ghost use Rattle.action_store.specs.StoredSteps.{RefreshIsStored, TargetsStand};
+ghost use Rattle.world_commits.specs.actions.StaysSound.{NextActionsSound};
+ghost use Rattle.stored_commits.specs.actions.ActedServers.{SignalHolds, OthersHoldAfterSignal};
+ghost use Rattle.stored_commits.specs.actions.ActedServers.{RefreshHolds, OthersHoldAfterStep};
+ghost use Rattle.stored_commits.specs.actions.StoredSteps.{RefreshIsStored, TargetsStand};
 
-use action_store::{a_source_holds_a_signal, a_step_is_stored, a_target_holds_a_step};
-use action_worlds::next_actions_stay_sound;
 use repl_model::log_grows;
 use row_codec::rows_of_64_values_are_storable;
+use stored_commits::{a_source_holds_a_signal, a_step_is_stored, a_target_holds_a_step};
+use world_commits::next_actions_stay_sound;
 
 /// Records without rows can be stored.
 pub fn laws_of_records()

@@ -8,7 +8,7 @@
 //!
 //! It stands on `set_places`, which finds the set, on `source_log`, which appends the unit and
 //! reads the end of the log, on `prune_control`, which reads the set's mark, on `target_steps`,
-//! which puts a step at a target, and on `action_worlds` and `action_store`, which say what the
+//! which puts a step at a target, and on `world_commits` and `stored_commits`, which say what the
 //! commits make of a world and of what the servers hold. `apply_cycle` stands on it.
 //!
 //! For example, the set `q/s` has two members on the table `orders` of `hq`, whose log ends at 3.

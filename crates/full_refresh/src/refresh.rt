@@ -13,8 +13,8 @@ ghost use Rattle.full_refresh.specs.Refreshes.{IsRefreshNext, HasRefreshed, IsRe
 ghost use Rattle.full_refresh.specs.Refreshes.{ShowsDamage};
 
 use crate::laws::laws_of_refreshes;
-use faults::{Fault, Stepped};
 use keep_core::Keeper;
+use repl_types::{Fault, Stepped};
 use set_places::PlacedSet;
 use site_store::Sites;
 use source_log::last_commit;

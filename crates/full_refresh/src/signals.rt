@@ -7,7 +7,7 @@ ghost use Rattle.site_store.specs.Calls.{KeepsServers};
 ghost use Rattle.site_store.specs.Damage.{IsNoDamage};
 ghost use Rattle.site_store.specs.Servers.{AllClosed};
 ghost use Rattle.site_store.specs.Views.{names, held, work, sees, IsOpenAt};
-ghost use Rattle.server_steps.specs.Calls.{GoesOn, Stops};
+ghost use Rattle.site_store.specs.one_server.Calls.{GoesOn, Stops};
 ghost use Rattle.source_log.specs.Units.{MayAppendUnit, AppendsIfRoom, ShowsUnitDamage};
 ghost use Rattle.set_places.specs.Places.{IsPlaced, ForSet};
 ghost use Rattle.set_places.specs.Steps.{MayHaveBecome, BlamesUnchanged};
@@ -16,11 +16,10 @@ ghost use Rattle.full_refresh.specs.PutSignals.{IfWhole, HasPutSignal, MayHavePu
 
 use crate::laws::laws_of_signals;
 use crate::signal_unit::signal_unit;
-use faults::{AppendError, Fault};
 use keep_core::Keeper;
 use prune_control::read_mark;
 use repl_records::SyncMark;
-use repl_types::Unit;
+use repl_types::{AppendError, Fault, Unit};
 use row_codec::Table0;
 use set_places::PlacedSet;
 use site_store::Sites;

@@ -4,10 +4,9 @@ ghost use Rattle.std.specs.Prelude.{◌≡◌, length, OnOk, IfOk};
 ghost use Rattle.keep_map.specs.Keepers.{kept_of};
 ghost use Rattle.site_store.specs.Views.{names, work, IsOpenAt, IsClosedAt};
 
-use faults::Fault;
 use keep_map::MapKeeper;
 use repl_records::CopyRow;
-use repl_types::{KEY_LIMIT, List, Name, Row, Text, Value};
+use repl_types::{Fault, KEY_LIMIT, List, Name, Row, Text, Value};
 use row_codec::Key;
 use site_store::{Site, Sites};
 use std::alloc::{AllocError, Global};

@@ -8,9 +8,8 @@ ghost use Rattle.row_codec.specs.laws.Sizes.{value64};
 ghost use Rattle.row_codec.specs.laws.Numbers.{one64};
 ghost use Rattle.row_codec.specs.laws.Ones.{one_by};
 
-use faults::Fault;
 use keep_core::{KeepError, Keeper};
-use repl_types::{Area, DamageCause, List, Name, VALUE_LIMIT};
+use repl_types::{Area, DamageCause, Fault, List, Name, VALUE_LIMIT};
 use row_codec::{Part, Stored, Table0, TakeError};
 use site_store::{Site, Sites, SitesError};
 use std::alloc::{AllocError, Global};

@@ -1,7 +1,7 @@
 -- All rows of a load are put at a server, kind by kind.
 use Rattle.std.proofs.Common.{◌≡◌, ℕ, length, ap, ◌∙◌, arith}
 use Rattle.repl_types.specs.declared.area.Area.TheVariants as areas
-use Rattle.faults.specs.declared.fault.Fault.{Fault}
+use Rattle.repl_types.specs.declared.fault.Fault.{Fault}
 use Rattle.keep_core.specs.Contents.{Contents}
 use Rattle.keep_core.specs.Kept.{Kept}
 use Rattle.row_codec.specs.Spelling.{b32, short_text, set_spelling}

@@ -1,20 +1,19 @@
 -- All servers are loaded, one after another.
 use Rattle.std.proofs.Common.{◌≡◌, ◌⊎◌, ℕ, suc, ◌+◌, ◌<◌, List, [], length, get_or, sym, ap, subst, ◌∙◌, arith, inl, inr}
 use Rattle.std.proofs.lemmas.List.{get_or-map}
-use Rattle.faults.specs.declared.fault.Fault.{Fault}
-use Rattle.faults.specs.declared.fault.Fault.TheVariants as faults
+use Rattle.repl_types.specs.declared.fault.Fault.{Fault}
+use Rattle.repl_types.specs.declared.fault.Fault.TheVariants as faults
 use Rattle.repl_commands.specs.declared.written.RawDefs.{RawDefs}
-use Rattle.repl_model.specs.Sound.{empty_server}
-use Rattle.repl_model.specs.World.{World}
+use Rattle.repl_model.specs.World.{empty_server, World}
 use Rattle.keep_core.specs.Kept.{Kept}
 use Rattle.site_store.specs.declared.sites.Sites.{Sites}
 use Rattle.site_store.specs.Views.{names, held}
 use Rattle.spelled_defs.specs.declared.defs.Defs.{Defs}
 use Rattle.world_store.specs.Stands.{Stands}
 use Rattle.load_plan.specs.declared.stored.StoredServer.{StoredServer}
-use Rattle.load_worlds.specs.Loads.{server_at, load_first}
-use Rattle.planned_loads.specs.Planned.{stored_server, stored_servers}
-use Rattle.planned_loads.specs.PlannedLoads.{StaysWithoutGains}
+use Rattle.load_laws.specs.worlds.Loads.{server_at, load_first}
+use Rattle.load_laws.specs.planned.Planned.{stored_server, stored_servers}
+use Rattle.load_laws.specs.planned.PlannedLoads.{StaysWithoutGains}
 use Rattle.load_defs.specs.Loading.{MayLoad, AllHappened, SomeHappened, load_commits}
 use Rattle.load_defs.proofs.Commits.{stopped_at, went_all}
 use Rattle.load_defs.proofs.Standing.{count_named}

@@ -5,14 +5,13 @@ use Rattle.std.proofs.Math.Seq.{drop-cons}
 use Rattle.keep_core.specs.Contents.{Contents}
 use Rattle.keep_core.specs.Revealed.{Takes}
 use Rattle.keep_core.specs.laws.Revealed.{takes_nothing}
-use Rattle.repl_model.specs.Sound.{empty_server}
-use Rattle.repl_model.specs.World.{Server, World}
+use Rattle.repl_model.specs.World.{empty_server, Server, World}
 use Rattle.run_core.specs.Runs.{Event, commits, last_world, lines_of, Went, Stopped}
 use Rattle.run_core.specs.laws.Runs.{last_append, lines_append, no_part}
 use Rattle.spelled_defs.specs.declared.defs.Defs.{Defs}
-use Rattle.load_worlds.specs.Loads.{load_server, server_at, load_first}
-use Rattle.planned_loads.specs.Path.{gains, commits_from}
-use Rattle.planned_loads.specs.PlannedLoads.{StaysWithoutGains}
+use Rattle.load_laws.specs.worlds.Loads.{load_server, server_at, load_first}
+use Rattle.load_laws.specs.planned.Path.{gains, commits_from}
+use Rattle.load_laws.specs.planned.PlannedLoads.{StaysWithoutGains}
 use Rattle.load_defs.specs.Loading.{load_commits}
 use Rattle.load_defs.proofs.Worlds.{none_loaded}
 

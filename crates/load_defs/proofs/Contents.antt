@@ -15,22 +15,15 @@ use Rattle.repl_model.specs.World.{Server, World}
 use Rattle.spelled_defs.specs.declared.defs.Defs.{Defs}
 use Rattle.world_store.specs.Tables.{no_rows, with_first, first_table, definition_table, capture_table, prune_table, tables}
 use Rattle.world_store.specs.Stands.{Holds}
+use Rattle.world_store.specs.laws.FirstStates.{no_first}
 use Rattle.stored_defs.specs.laws.Standing.{holds_defs}
-use Rattle.load_worlds.specs.Loads.{load_server}
-use Rattle.load_store.specs.LoadedServers.{is_loaded, Loaded}
+use Rattle.load_laws.specs.worlds.Loads.{load_server}
+use Rattle.load_laws.specs.stored.LoadedServers.{is_loaded, Loaded}
 use Rattle.load_plan.specs.declared.additions.Additions.{Additions}
-use Rattle.planned_loads.specs.Planned.{with_rows, table_additions, registration_additions, state_additions, source_additions, mark_additions, target_additions}
-use Rattle.planned_loads.specs.PlannedLoads.{AddsRows}
+use Rattle.load_laws.specs.planned.Planned.{with_rows, table_additions, registration_additions, state_additions, source_additions, mark_additions, target_additions}
+use Rattle.load_laws.specs.planned.PlannedLoads.{AddsRows}
 use Rattle.load_defs.specs.Putting.{added_rows, with_put, with_added}
 use Rattle.load_defs.specs.declared.rows.AddedRows.{AddedRows}
-
--- if no record stands for a missing one, the table is read as it is
-no_first : (t : Table) → with_first no_rows t ≡ t
-no_first t = λ i k. none (t k) i
-  where
-    none : (o : Option (List ℕ)) → option_or o None ≡ o
-    none None = refl
-    none (Some v) = refl
 
 -- the states of registrations that a server holds are those that the world calls for
 holds_states : (w : World) (s : Server) (c : Contents) → Holds w s c → c areas.Capture 1 ≡ capture_table s 1

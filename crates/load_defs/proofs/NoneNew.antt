@@ -15,13 +15,13 @@ use Rattle.spelled_defs.specs.declared.defs.Defs.{Defs}
 use Rattle.spelled_defs.specs.declared.defs.RegistrationAt.{RegistrationAt}
 use Rattle.spelled_defs.specs.declared.defs.TableAt.{TableAt}
 use Rattle.world_store.specs.Stands.{Stands}
-use Rattle.load_model.specs.Known.{known_defs}
+use Rattle.load_laws.specs.known.Known.{known_defs}
 use Rattle.load_plan.specs.declared.stored.StoredServer.{StoredServer}
-use Rattle.load_worlds.specs.Loads.{load_first}
-use Rattle.load_worlds.specs.laws.Members.{In}
-use Rattle.planned_loads.specs.Path.{gains, commits_from}
-use Rattle.planned_loads.specs.Planned.{stored_servers, known_stored}
-use Rattle.planned_loads.specs.PlannedLoads.{KnowsStored, AreKnown, KnownTextsAddNothing}
+use Rattle.load_laws.specs.worlds.Loads.{load_first}
+use Rattle.lists.specs.laws.Members.{In}
+use Rattle.load_laws.specs.planned.Path.{gains, commits_from}
+use Rattle.load_laws.specs.planned.Planned.{stored_servers, known_stored}
+use Rattle.load_laws.specs.planned.PlannedLoads.{KnowsStored, AreKnown, KnownTextsAddNothing}
 use Rattle.load_defs.specs.Counts.{loaded_counts, NoneIsNew}
 use Rattle.load_defs.specs.Loading.{AllHappened, load_commits}
 use Rattle.load_defs.proofs.AllServers.{InEach}

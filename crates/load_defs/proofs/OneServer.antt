@@ -11,8 +11,8 @@ use Rattle.repl_definitions.specs.declared.set.SourceSet.{SourceSet}
 use Rattle.repl_definitions.specs.declared.set.TargetSet.{TargetSet}
 use Rattle.repl_definitions.specs.Defined.{defined_table_spelling, HasDefinedTableSpelling, defined_registration_spelling, HasDefinedRegistrationSpelling}
 use Rattle.repl_definitions.specs.Sets.{source_set_spelling, HasSourceSetSpelling, target_set_spelling, HasTargetSetSpelling}
-use Rattle.repl_model.specs.Sound.{IsSound, empty_server}
-use Rattle.repl_model.specs.World.{Server, World}
+use Rattle.repl_model.specs.Sound.{IsSound}
+use Rattle.repl_model.specs.World.{empty_server, Server, World}
 use Rattle.row_codec.specs.Spelling.{Any}
 use Rattle.row_codec.specs.Storable.{IsStorable}
 use Rattle.keep_core.specs.Contents.{Contents}
@@ -28,14 +28,14 @@ use Rattle.world_store.specs.Stands.{Holds, Stands}
 use Rattle.load_plan.specs.Additions.{additions_at}
 use Rattle.load_plan.specs.declared.stored.StoredServer.{StoredServer}
 use Rattle.load_plan.specs.declared.additions.Additions.{Additions}
-use Rattle.load_worlds.specs.Loads.{server_at, load_at, load_first}
-use Rattle.load_worlds.specs.SoundLoads.{StaysSound}
-use Rattle.load_worlds.specs.laws.Members.{In, at_each, each_image}
-use Rattle.load_store.specs.LoadedServers.{Loaded, LoadedHolds, OthersHold}
-use Rattle.planned_loads.specs.Path.{gains}
-use Rattle.planned_loads.specs.Planned.{stored_server}
-use Rattle.planned_loads.specs.PlannedLoads.{AddsRows, AddsPlanned, PlansGains, StaysWithoutGains, adds_nothing}
-use Rattle.accepted_texts.specs.AcceptedTexts.{AreStorable}
+use Rattle.load_laws.specs.worlds.Loads.{server_at, load_at, load_first}
+use Rattle.load_laws.specs.worlds.SoundLoads.{StaysSound}
+use Rattle.lists.specs.laws.Members.{In, at_each, each_image}
+use Rattle.load_laws.specs.stored.LoadedServers.{Loaded, LoadedHolds, OthersHold}
+use Rattle.load_laws.specs.planned.Path.{gains}
+use Rattle.load_laws.specs.planned.Planned.{stored_server}
+use Rattle.load_laws.specs.planned.PlannedLoads.{AddsRows, AddsPlanned, PlansGains, StaysWithoutGains, adds_nothing}
+use Rattle.load_laws.specs.texts.AcceptedTexts.{AreStorable}
 use Rattle.load_defs.specs.Loading.{MayLoad}
 use Rattle.load_defs.specs.Putting.{MayBePut, MayBePutAll, added_rows, with_added}
 use Rattle.load_defs.specs.declared.rows.AddedRows.{AddedRows}

@@ -6,8 +6,8 @@ use Rattle.std.specs.Option.{option_map_or}
 use Rattle.repl_types.specs.declared.area.Area.{Area}
 use Rattle.repl_types.specs.declared.refusal.Refusal.{Refusal}
 use Rattle.repl_types.specs.declared.status.DamageCause.{DamageCause}
-use Rattle.faults.specs.declared.fault.Fault.{Fault}
-use Rattle.faults.specs.declared.fault.Fault.TheVariants as faults
+use Rattle.repl_types.specs.declared.fault.Fault.{Fault}
+use Rattle.repl_types.specs.declared.fault.Fault.TheVariants as faults
 use Rattle.repl_commands.specs.declared.written.RawDefs.{RawDefs}
 use Rattle.repl_definitions.specs.Sets.{IsSetDef}
 use Rattle.repl_model.specs.Sound.{IsSound}
@@ -25,18 +25,18 @@ use Rattle.checked_defs.specs.Broken.{all_rules, first_broken}
 use Rattle.checked_defs.specs.Whole.{LeavesNothingOut}
 use Rattle.world_store.specs.Stands.{Stands}
 use Rattle.stored_defs.specs.laws.Standing.{stands_on}
-use Rattle.load_model.specs.Known.{known_defs}
+use Rattle.load_laws.specs.known.Known.{known_defs}
 use Rattle.load_plan.specs.Limits.{has_many_tables, has_many_sets}
 use Rattle.load_plan.specs.Refusals.{count_refusal, content_refusal}
 use Rattle.load_plan.specs.Additions.{additions_at}
 use Rattle.load_plan.specs.declared.stored.StoredServer.{StoredServer}
-use Rattle.load_rules.specs.Accepted.{AreTyped, Accepted}
-use Rattle.load_rules.specs.StaysSound.{HoldsLoaded}
-use Rattle.load_worlds.specs.laws.Members.{In, at_one, at_each}
-use Rattle.planned_loads.specs.Planned.{stored_servers, known_stored}
-use Rattle.planned_loads.specs.PlannedLoads.{KnowsStored, HasRoom, SeesUnrefused, IsSeen}
-use Rattle.accepted_texts.specs.AcceptedTexts.{TypesItems, StoresAdditions, AreStorable}
-use Rattle.accepted_texts.specs.Texts.{text_defs, defs_beside, KeepsRules}
+use Rattle.load_laws.specs.rules.Accepted.{AreTyped, Accepted}
+use Rattle.load_laws.specs.rules.StaysSound.{HoldsLoaded}
+use Rattle.lists.specs.laws.Members.{In, at_one, at_each}
+use Rattle.load_laws.specs.planned.Planned.{stored_servers, known_stored}
+use Rattle.load_laws.specs.planned.PlannedLoads.{KnowsStored, HasRoom, SeesUnrefused, IsSeen}
+use Rattle.load_laws.specs.texts.AcceptedTexts.{TypesItems, StoresAdditions, AreStorable}
+use Rattle.load_laws.specs.texts.Texts.{text_defs, defs_beside, KeepsRules}
 use Rattle.load_defs.specs.Counts.{loaded_counts}
 use Rattle.load_defs.specs.Loading.{MayLoad, HasLoaded, HasNotLoaded, AllHappened, SomeHappened, BlamesOrRefuses, load_commits, load_events, defs_in, refusal_in}
 use Rattle.load_defs.specs.Planning.{load_refusal, IsRefusedBy}

@@ -7,7 +7,7 @@ use Rattle.std.proofs.lemmas.List.Sums.{fold-append}
 use Rattle.repl_types.specs.Area.{same_area, area_number}
 use Rattle.repl_types.specs.declared.area.Area.{Area}
 use Rattle.repl_types.specs.declared.area.Area.TheVariants as areas
-use Rattle.faults.specs.declared.fault.Fault.{Fault}
+use Rattle.repl_types.specs.declared.fault.Fault.{Fault}
 use Rattle.keep_core.specs.Contents.{Contents, Table, set_key, with_table, put_at}
 use Rattle.keep_core.specs.Kept.{Kept}
 use Rattle.site_store.specs.declared.sites.Sites.{Sites}
@@ -19,7 +19,7 @@ use Rattle.site_store.specs.Calls.{both, writes_of_one, AtServer, Puts, Fails}
 use Rattle.site_store.specs.laws.Counts.{IsAtMost}
 use Rattle.site_store.specs.laws.Steps.{works_none, works_put, works_on}
 use Rattle.site_store.specs.laws.Transactions.{open_below}
-use Rattle.planned_loads.specs.Planned.{with_rows}
+use Rattle.load_laws.specs.planned.Planned.{with_rows}
 use Rattle.load_defs.specs.Putting.{with_put}
 use Rattle.load_defs.proofs.Faults.{fails_on}
 

@@ -4,12 +4,12 @@ use Rattle.std.specs.Prelude.{Option, Some, None}
 use Rattle.std.specs.List.{AllZip}
 use Rattle.std.proofs.lemmas.List.{length-map}
 use Rattle.keep_core.specs.Contents.{Contents}
-use Rattle.repl_model.specs.Sound.{IsSound, empty_server}
-use Rattle.repl_model.specs.World.{Server, World}
+use Rattle.repl_model.specs.Sound.{IsSound}
+use Rattle.repl_model.specs.World.{empty_server, Server, World}
 use Rattle.spelled_defs.specs.declared.defs.Defs.{Defs}
 use Rattle.world_store.specs.Stands.{Holds, Reveals, Stands}
-use Rattle.load_worlds.specs.Loads.{load_server, server_at, load_at}
-use Rattle.load_store.specs.LoadedServers.{Loaded, LoadedHolds, OthersHold}
+use Rattle.load_laws.specs.worlds.Loads.{load_server, server_at, load_at}
+use Rattle.load_laws.specs.stored.LoadedServers.{Loaded, LoadedHolds, OthersHold}
 
 -- what holds of two lists place by place, by what holds at each place
 zip_others : {X Y : Type 0} (R S : X → Y → Type 0) (d : X) (xs : List X) (ys : List Y) → AllZip R xs ys → ((m : ℕ) (b : Y) → R (get_or xs m d) b → S (get_or xs m d) b) → AllZip S xs ys

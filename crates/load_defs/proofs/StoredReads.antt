@@ -3,15 +3,14 @@ use Rattle.std.proofs.Common.{◌≡◌, ℕ, ◌+◌, ◌<◌, ◌≤◌, List,
 use Rattle.std.proofs.Math.ListN.{get_or-map}
 use Rattle.std.specs.Prelude.{Option, IfSome}
 use Rattle.repl_types.specs.declared.area.Area.TheVariants as areas
-use Rattle.faults.specs.declared.fault.Fault.{Fault}
+use Rattle.repl_types.specs.declared.fault.Fault.{Fault}
 use Rattle.keep_core.specs.Contents.{Contents}
 use Rattle.keep_core.specs.Kept.{Kept}
 use Rattle.repl_definitions.specs.declared.defined.DefinedTable.{DefinedTable}
 use Rattle.repl_definitions.specs.declared.defined.DefinedRegistration.{DefinedRegistration}
 use Rattle.repl_definitions.specs.declared.set.SourceSet.{SourceSet}
 use Rattle.repl_definitions.specs.declared.set.TargetSet.{TargetSet}
-use Rattle.repl_model.specs.Sound.{empty_server}
-use Rattle.repl_model.specs.World.{Server, World}
+use Rattle.repl_model.specs.World.{empty_server, Server, World, server_in}
 use Rattle.rows_in_order.specs.Rows.{table_from_rows}
 use Rattle.site_store.specs.declared.sites.Sites.{Sites}
 use Rattle.site_store.specs.Servers.{AllClosed}
@@ -22,38 +21,40 @@ use Rattle.site_store.specs.laws.Counts.{stays_then}
 use Rattle.world_store.specs.DefinitionRows.{table_rows, registration_rows, source_set_rows, target_set_rows}
 use Rattle.world_store.specs.Tables.{definition_table}
 use Rattle.world_store.specs.Stands.{Stands}
-use Rattle.stored_defs.specs.Known.{in_defs, server_reads, server_in}
-use Rattle.stored_defs.specs.Reading.{row_limit, AreRows, HasRecords, Spells, table_rules}
+use Rattle.stored_defs.specs.DefinitionReads.{in_defs, server_reads}
+use Rattle.stored_defs.specs.Reading.{HasRecords, table_rules}
+use Rattle.world_store.specs.SpelledRows.{definition_limit, AreRows, Spells}
 use Rattle.stored_defs.specs.Rules.{rules, may_be_key, may_be_value, ShowsDamage}
 use Rattle.stored_defs.specs.laws.Blaming.{fails_by_table, fails_later}
-use Rattle.stored_defs.specs.laws.Passing.{defs_more, one_in_defs, stays_sees, stays_within}
+use Rattle.site_store.specs.laws.Passing.{stays_sees, stays_within}
+use Rattle.stored_defs.specs.laws.DefinitionReads.{defs_more, one_in_defs}
 use Rattle.stored_defs.specs.laws.Standing.{read_is}
 use Rattle.load_plan.specs.declared.stored.StoredServer.{StoredServer}
-use Rattle.planned_loads.specs.Planned.{stored_server}
+use Rattle.load_laws.specs.planned.Planned.{stored_server}
 
 module _ {K : Type 0} (kept : K → Kept) (s0 : Sites K) (server : ℕ) where
   -- a table was read
-  pub after_one : (s1 : Sites K) → Stays kept s0 s1 (reads_of_one row_limit server areas.Defs) → Stays kept s0 s1 (in_defs row_limit)
-  after_one s1 first = stays_within kept s0 s1 (reads_of_one row_limit server areas.Defs) (in_defs row_limit) first (one_in_defs row_limit server)
+  pub after_one : (s1 : Sites K) → Stays kept s0 s1 (reads_of_one definition_limit server areas.Defs) → Stays kept s0 s1 (in_defs definition_limit)
+  after_one s1 first = stays_within kept s0 s1 (reads_of_one definition_limit server areas.Defs) (in_defs definition_limit) first (one_in_defs definition_limit server)
 
   -- a table was read after others
-  read_on : (n : ℕ) (s1 s2 : Sites K) → Stays kept s0 s1 (in_defs n) → Stays kept s1 s2 (reads_of_one row_limit server areas.Defs) → Stays kept s0 s2 (in_defs (n + row_limit))
-  read_on n s1 s2 stays read = stays_then kept s0 s1 s2 (in_defs n) (in_defs row_limit) (in_defs (n + row_limit)) stays (stays_within kept s1 s2 (reads_of_one row_limit server areas.Defs) (in_defs row_limit) read (one_in_defs row_limit server)) (defs_more n row_limit (n + row_limit) (omega arith))
+  read_on : (n : ℕ) (s1 s2 : Sites K) → Stays kept s0 s1 (in_defs n) → Stays kept s1 s2 (reads_of_one definition_limit server areas.Defs) → Stays kept s0 s2 (in_defs (n + definition_limit))
+  read_on n s1 s2 stays read = stays_then kept s0 s1 s2 (in_defs n) (in_defs definition_limit) (in_defs (n + definition_limit)) stays (stays_within kept s1 s2 (reads_of_one definition_limit server areas.Defs) (in_defs definition_limit) read (one_in_defs definition_limit server)) (defs_more n definition_limit (n + definition_limit) (omega arith))
 
   -- two tables were read
-  pub after_two : (s1 s2 : Sites K) → Stays kept s0 s1 (reads_of_one row_limit server areas.Defs) → Stays kept s1 s2 (reads_of_one row_limit server areas.Defs) → Stays kept s0 s2 (in_defs (row_limit + row_limit))
-  after_two s1 s2 first second = read_on row_limit s1 s2 (after_one s1 first) second
+  pub after_two : (s1 s2 : Sites K) → Stays kept s0 s1 (reads_of_one definition_limit server areas.Defs) → Stays kept s1 s2 (reads_of_one definition_limit server areas.Defs) → Stays kept s0 s2 (in_defs (definition_limit + definition_limit))
+  after_two s1 s2 first second = read_on definition_limit s1 s2 (after_one s1 first) second
 
   -- three tables were read
-  pub after_three : (s1 s2 s3 : Sites K) → Stays kept s0 s1 (reads_of_one row_limit server areas.Defs) → Stays kept s1 s2 (reads_of_one row_limit server areas.Defs) → Stays kept s2 s3 (reads_of_one row_limit server areas.Defs) → Stays kept s0 s3 (in_defs (row_limit + row_limit + row_limit))
-  after_three s1 s2 s3 first second third = read_on (row_limit + row_limit) s2 s3 (after_two s1 s2 first second) third
+  pub after_three : (s1 s2 s3 : Sites K) → Stays kept s0 s1 (reads_of_one definition_limit server areas.Defs) → Stays kept s1 s2 (reads_of_one definition_limit server areas.Defs) → Stays kept s2 s3 (reads_of_one definition_limit server areas.Defs) → Stays kept s0 s3 (in_defs (definition_limit + definition_limit + definition_limit))
+  after_three s1 s2 s3 first second third = read_on (definition_limit + definition_limit) s2 s3 (after_two s1 s2 first second) third
 
 module _ {K : Type 0} (kept : K → Kept) (s0 s1 : Sites K) (server n : ℕ) (stays : Stays kept s0 s1 (in_defs n)) where
   module _ (within : server < length (names s0)) {A X : Type 0} (key_fits : A → Type 0) (key : A → List ℕ) (fits : X → Type 0) (spelling : X → List ℕ) (t : ℕ) where
     -- a read of a table fails after others
-    pub read_fails : ((bytes : List ℕ) → may_be_key areas.Defs t bytes → Spells key_fits key bytes) → ((bytes : List ℕ) → may_be_value areas.Defs t bytes → Spells fits spelling bytes) → n + row_limit ≤ server_reads → (s2 : Sites K) (e : Fault) → Fails kept s1 s2 (reads_of_one row_limit server areas.Defs) (Damages (λ s. s ≡ server) (table_rules key_fits key fits spelling areas.Defs t) kept s1) e → Fails kept s0 s2 (in_defs server_reads) (ShowsDamage kept s0) e
-    read_fails keys values few s2 e fails = fails_later kept s0 s1 s2 (in_defs n) (in_defs row_limit) (in_defs server_reads) e (defs_more n row_limit server_reads few) stays
-        (fails_by_table key_fits key fits spelling areas.Defs t rules keys values kept (λ s. s < length (names s1)) s1 s2 server (reads_of_one row_limit server areas.Defs) (in_defs row_limit) e (subst (λ (l : List (List ℕ)). server < length l) (sym stays.passes.names) within) (one_in_defs row_limit server) fails)
+    pub read_fails : ((bytes : List ℕ) → may_be_key areas.Defs t bytes → Spells key_fits key bytes) → ((bytes : List ℕ) → may_be_value areas.Defs t bytes → Spells fits spelling bytes) → n + definition_limit ≤ server_reads → (s2 : Sites K) (e : Fault) → Fails kept s1 s2 (reads_of_one definition_limit server areas.Defs) (Damages (λ s. s ≡ server) (table_rules key_fits key fits spelling areas.Defs t) kept s1) e → Fails kept s0 s2 (in_defs server_reads) (ShowsDamage kept s0) e
+    read_fails keys values few s2 e fails = fails_later kept s0 s1 s2 (in_defs n) (in_defs definition_limit) (in_defs server_reads) e (defs_more n definition_limit server_reads few) stays
+        (fails_by_table key_fits key fits spelling areas.Defs t rules keys values kept (λ s. s < length (names s1)) s1 s2 server (reads_of_one definition_limit server areas.Defs) (in_defs definition_limit) e (subst (λ (l : List (List ℕ)). server < length l) (sym stays.passes.names) within) (one_in_defs definition_limit server) fails)
 
     module _ (closed : AllClosed (work kept s0)) (w : World) (stands : Stands (names s0) (held kept s0) w) where
       -- the records that are read after others are those of the world

@@ -2,7 +2,7 @@
 use Rattle.std.proofs.Common.{◌≡◌, ℕ, zero, suc, [], ◌∷◌, length, refl, ap}
 use Rattle.repl_model.specs.World.{World}
 use Rattle.spelled_defs.specs.declared.defs.Defs.{Defs}
-use Rattle.load_worlds.specs.Loads.{load_server, server_at, load_at, load_first}
+use Rattle.load_laws.specs.worlds.Loads.{load_server, server_at, load_at, load_first}
 
 -- after none is loaded the world is as it was
 pub none_loaded : (defs : Defs) (w : World) → load_first defs 0 w ≡ w

@@ -4,8 +4,8 @@ use Rattle.std.specs.Option.{option_map_or}
 use Rattle.repl_types.specs.declared.area.Area.{Area}
 use Rattle.repl_types.specs.declared.status.DamageCause.{DamageCause}
 use Rattle.repl_types.specs.declared.refusal.Refusal.{Refusal}
-use Rattle.faults.specs.declared.fault.Fault.{Fault}
-use Rattle.faults.specs.declared.fault.Fault.TheVariants as faults
+use Rattle.repl_types.specs.declared.fault.Fault.{Fault}
+use Rattle.repl_types.specs.declared.fault.Fault.TheVariants as faults
 use Rattle.keep_core.specs.Kept.{Kept}
 use Rattle.repl_commands.specs.declared.written.RawDefs.{RawDefs}
 use Rattle.repl_model.specs.World.{World}
@@ -17,13 +17,13 @@ use Rattle.site_store.specs.Views.{names, held}
 use Rattle.site_store.specs.Calls.{Blames}
 use Rattle.site_store.specs.declared.sites.Sites.{Sites}
 use Rattle.world_store.specs.Stands.{Stands}
-use Rattle.load_model.specs.Known.{known_defs}
-use Rattle.load_worlds.specs.Loads.{load_all}
-use Rattle.load_rules.specs.Accepted.{Accepted}
-use Rattle.planned_loads.specs.Planned.{stored_servers}
-use Rattle.planned_loads.specs.Path.{load_path}
+use Rattle.load_laws.specs.known.Known.{known_defs}
+use Rattle.load_laws.specs.worlds.Loads.{load_all}
+use Rattle.load_laws.specs.rules.Accepted.{Accepted}
+use Rattle.load_laws.specs.planned.Planned.{stored_servers}
+use Rattle.load_laws.specs.planned.Path.{load_path}
 use Rattle.load_defs.specs.Counts.{loaded_counts}
-use Rattle.accepted_texts.specs.Texts.{text_defs}
+use Rattle.load_laws.specs.texts.Texts.{text_defs}
 use Rattle.load_defs.specs.Planning.{load_refusal}
 use Rattle.load_defs.specs.declared.counts.Loaded.{Loaded}
 

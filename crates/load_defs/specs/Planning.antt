@@ -3,16 +3,16 @@ use Rattle.std.specs.Prelude.{◌≡◌, List, Option, Some}
 use Rattle.std.specs.Option.{option_map, option_or}
 use Rattle.repl_types.specs.declared.refusal.Refusal.{Refusal}
 use Rattle.repl_types.specs.declared.refusal.Refusal.TheVariants as refusals
-use Rattle.faults.specs.declared.fault.Fault.{Fault}
-use Rattle.faults.specs.declared.fault.Fault.TheVariants as faults
+use Rattle.repl_types.specs.declared.fault.Fault.{Fault}
+use Rattle.repl_types.specs.declared.fault.Fault.TheVariants as faults
 use Rattle.repl_commands.specs.declared.written.RawDefs.{RawDefs}
 use Rattle.spelled_defs.specs.Context.{context_of}
 use Rattle.spelled_defs.specs.declared.defs.Defs.{Defs}
 use Rattle.checked_defs.specs.Broken.{all_rules, first_broken}
 use Rattle.load_plan.specs.Refusals.{count_refusal, content_refusal}
 use Rattle.load_plan.specs.declared.stored.StoredServer.{StoredServer}
-use Rattle.planned_loads.specs.Planned.{known_stored}
-use Rattle.accepted_texts.specs.Texts.{defs_beside}
+use Rattle.load_laws.specs.planned.Planned.{known_stored}
+use Rattle.load_laws.specs.texts.Texts.{defs_beside}
 
 -- the text breaks a rule together with what is known
 abbrev pub bad_definition : RawDefs → Defs → Option Refusal

@@ -16,8 +16,8 @@ use Rattle.load_plan.specs.Limits.{has_many_tables, has_many_sets}
 use Rattle.load_plan.specs.Additions.{additions_at}
 use Rattle.load_plan.specs.declared.stored.StoredServer.{StoredServer}
 use Rattle.load_plan.specs.declared.additions.Additions.{Additions}
-use Rattle.planned_loads.specs.Planned.{with_rows, table_additions, registration_additions, state_additions, source_additions, mark_additions, target_additions}
-use Rattle.accepted_texts.specs.AcceptedTexts.{AreStorable}
+use Rattle.load_laws.specs.planned.Planned.{with_rows, table_additions, registration_additions, state_additions, source_additions, mark_additions, target_additions}
+use Rattle.load_laws.specs.texts.AcceptedTexts.{AreStorable}
 use Rattle.load_defs.specs.declared.rows.AddedRows.{AddedRows}
 
 -- ---- rows

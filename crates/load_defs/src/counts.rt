@@ -7,8 +7,7 @@ ghost use Rattle.spelled_defs.specs.Spelled.{is_table as is_table_lem};
 ghost use Rattle.spelled_defs.specs.Spelled.{is_registration as is_registration_lem};
 ghost use Rattle.load_defs.specs.Counts.{is_new_table as is_new_table_lem};
 ghost use Rattle.load_defs.specs.Counts.{is_new_registration as is_new_registration_lem};
-ghost use Rattle.load_defs.specs.Counts.{is_new_set as is_new_set_lem, loaded_counts};
-ghost use Rattle.load_defs.specs.Counts.{NoneIsNew};
+ghost use Rattle.load_defs.specs.Counts.{is_new_set as is_new_set_lem, loaded_counts, NoneIsNew};
 
 use load_plan::same_set;
 use repl_definitions::SetDef;

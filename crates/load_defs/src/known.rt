@@ -2,7 +2,7 @@
 
 ghost use Rattle.std.specs.Prelude.{◌≡◌, ◌++◌, map, filter, find, option_map, IfOk, OnOk};
 ghost use Rattle.std.specs.Str.{bytes_eq};
-ghost use Rattle.planned_loads.specs.Planned.{stands_stored as stands_stored_lem, known_stored};
+ghost use Rattle.load_laws.specs.planned.Planned.{stands_stored as stands_stored_lem, known_stored};
 
 use load_plan::{StoredServer, same_name, source_at};
 use repl_definitions::{DefinedRegistration, DefinedTable, SetDef, TargetSet};

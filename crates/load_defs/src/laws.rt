@@ -1,19 +1,19 @@
 //! The laws that the proofs of this crate cite.
 
 ghost use Rattle.repl_model.specs.SoundDefinitions.{DefinitionsAreSound};
-ghost use Rattle.load_worlds.specs.SoundLoads.{StaysSound};
-ghost use Rattle.load_rules.specs.StaysSound.{HoldsLoaded};
-ghost use Rattle.load_store.specs.LoadedServers.{LoadedHolds, OthersHold};
-ghost use Rattle.planned_loads.specs.PlannedLoads.{AddsPlanned, PlansGains, StaysWithoutGains};
-ghost use Rattle.planned_loads.specs.PlannedLoads.{KnownTextsAddNothing};
-ghost use Rattle.planned_loads.specs.PlannedLoads.{KnowsStored, HasRoom, SeesUnrefused};
-ghost use Rattle.accepted_texts.specs.AcceptedTexts.{SpellsAll, TypesItems, StoresAdditions};
+ghost use Rattle.load_laws.specs.worlds.SoundLoads.{StaysSound};
+ghost use Rattle.load_laws.specs.rules.StaysSound.{HoldsLoaded};
+ghost use Rattle.load_laws.specs.stored.LoadedServers.{LoadedHolds, OthersHold};
+ghost use Rattle.load_laws.specs.planned.PlannedLoads.{AddsPlanned, PlansGains, StaysWithoutGains};
+ghost use Rattle.load_laws.specs.planned.PlannedLoads.{KnownTextsAddNothing};
+ghost use Rattle.load_laws.specs.planned.PlannedLoads.{KnowsStored, HasRoom, SeesUnrefused};
+ghost use Rattle.load_laws.specs.texts.AcceptedTexts.{SpellsAll, TypesItems, StoresAdditions};
 
-use accepted_texts::definitions_that_keep_the_rules_can_be_stored;
-use load_rules::accepted_definitions_stay_sound;
-use load_store::{a_loaded_server_holds, others_hold};
-use load_worlds::a_load_stays_sound;
-use planned_loads::{planned_rows_load_a_server, unrefused_definitions_fit};
+use load_laws::{
+    a_load_stays_sound, a_loaded_server_holds, accepted_definitions_stay_sound,
+    definitions_that_keep_the_rules_can_be_stored, others_hold, planned_rows_load_a_server,
+    unrefused_definitions_fit,
+};
 
 /// What a load makes of worlds and of contents.
 pub fn laws_of_worlds()

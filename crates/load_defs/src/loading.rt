@@ -7,7 +7,7 @@ ghost use Rattle.site_store.specs.Views.{names, held, work};
 ghost use Rattle.site_store.specs.Calls.{KeepsServers};
 ghost use Rattle.world_store.specs.Stands.{Stands};
 ghost use Rattle.stored_defs.specs.Rules.{ShowsDamage};
-ghost use Rattle.accepted_texts.specs.Texts.{IsWhole};
+ghost use Rattle.load_laws.specs.texts.Texts.{IsWhole};
 ghost use Rattle.load_defs.specs.Counts.{NoneIsNew};
 ghost use Rattle.load_defs.specs.Loading.{HasLoaded, HasNotLoaded, BlamesOrRefuses};
 
@@ -16,9 +16,9 @@ use crate::laws::{laws_of_texts, laws_of_worlds};
 use crate::plan::plan_load;
 use crate::reading::read_servers;
 use crate::servers::load_servers;
-use faults::Fault;
 use keep_core::Keeper;
 use repl_commands::RawDefs;
+use repl_types::Fault;
 use site_store::Sites;
 use std::alloc::Global;
 

@@ -8,9 +8,9 @@ ghost use Rattle.spelled_defs.specs.Context.{context_of};
 ghost use Rattle.load_plan.specs.Differences.{AreSpelled, IsSpelledServer};
 ghost use Rattle.load_plan.specs.Refusals.{count_refusal as count_refusal_lem};
 ghost use Rattle.load_plan.specs.Refusals.{content_refusal as content_refusal_lem};
-ghost use Rattle.planned_loads.specs.Planned.{known_stored};
+ghost use Rattle.load_laws.specs.planned.Planned.{known_stored};
 ghost use Rattle.load_defs.specs.Counts.{loaded_counts};
-ghost use Rattle.accepted_texts.specs.Texts.{IsWhole, KeepsRules, text_defs, defs_beside};
+ghost use Rattle.load_laws.specs.texts.Texts.{IsWhole, KeepsRules, text_defs, defs_beside};
 ghost use Rattle.load_defs.specs.Planning.{bad_definition, plan_refusal, load_refusal};
 ghost use Rattle.load_defs.specs.Planning.{IsRefusedBy};
 
@@ -18,10 +18,9 @@ use crate::counts::{Loaded, count_new};
 use crate::known::known_of;
 use crate::laws::laws_of_texts;
 use checked_defs::check;
-use faults::Fault;
 use load_plan::{StoredServer, content_refusal, count_refusal};
 use repl_commands::{DefsError, RawDefs};
-use repl_types::Refusal;
+use repl_types::{Fault, Refusal};
 use spelled_defs::Defs;
 use std::alloc::Global;
 

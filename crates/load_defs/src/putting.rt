@@ -10,10 +10,10 @@ ghost use Rattle.load_defs.specs.Putting.{MayBePut, MayBePutAll, with_put, with_
 ghost use Rattle.load_defs.specs.Putting.{added_written};
 
 use crate::rows::AddedRows;
-use faults::Fault;
 use keep_core::Keeper;
 use repl_definitions::{DefinedRegistration, DefinedTable, SourceSet, TargetSet};
 use repl_records::{RegState, SyncMark};
+use repl_types::Fault;
 use row_codec::{Stored, Table0, Table1, Table2, Table3};
 use site_store::Sites;
 use std::alloc::Global;

@@ -2,21 +2,20 @@
 
 ghost use Rattle.std.specs.Prelude.{◌≡◌, ◌<◌, length, map, slice_index_or, [], OnOk, IfOk, IfErr};
 ghost use Rattle.std.specs.List.{AllByRecursion};
-ghost use Rattle.repl_model.specs.World.{World};
+ghost use Rattle.repl_model.specs.World.{World, server_in};
 ghost use Rattle.site_store.specs.Servers.{AllClosed};
 ghost use Rattle.site_store.specs.Views.{names, held, work};
 ghost use Rattle.site_store.specs.Calls.{Stays, Fails};
 ghost use Rattle.world_store.specs.Stands.{Stands};
 ghost use Rattle.stored_defs.specs.Rules.{ShowsDamage};
-ghost use Rattle.stored_defs.specs.Known.{in_defs, server_reads, known_reads, server_in};
+ghost use Rattle.stored_defs.specs.DefinitionReads.{in_defs, server_reads, known_reads};
 ghost use Rattle.load_plan.specs.Differences.{IsSpelledServer};
-ghost use Rattle.planned_loads.specs.Planned.{stored_server, stored_servers};
+ghost use Rattle.load_laws.specs.planned.Planned.{stored_server, stored_servers};
 
-use faults::Fault;
 use keep_core::Keeper;
 use load_plan::StoredServer;
 use repl_definitions::{DefinedRegistration, DefinedTable, SourceSet, TargetSet};
-use repl_types::{List, Name};
+use repl_types::{Fault, List, Name};
 use row_codec::{Table0, Table1, Table2, Table3};
 use site_store::Sites;
 use std::alloc::{AllocError, Global};

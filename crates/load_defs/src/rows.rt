@@ -1,9 +1,10 @@
 //! The rows that a load puts at a server, each with its key.
 
 ghost use Rattle.std.specs.Prelude.{◌≡◌, IfOk};
-ghost use Rattle.planned_loads.specs.Planned.{table_additions, registration_additions};
-ghost use Rattle.planned_loads.specs.Planned.{state_additions, source_additions, mark_additions};
-ghost use Rattle.planned_loads.specs.Planned.{target_additions};
+ghost use Rattle.load_laws.specs.planned.Planned.{table_additions, registration_additions};
+ghost use Rattle.load_laws.specs.planned.Planned.{state_additions};
+ghost use Rattle.load_laws.specs.planned.Planned.{source_additions, mark_additions};
+ghost use Rattle.load_laws.specs.planned.Planned.{target_additions};
 ghost use Rattle.load_defs.specs.Putting.{added_rows as added_rows_lem};
 
 use crate::known::copy_set;

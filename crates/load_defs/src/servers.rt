@@ -2,26 +2,25 @@
 
 ghost use Rattle.std.specs.Prelude.{◌≡◌, ◌⊎◌, ◌<◌, suc, map, length, OnOk, IfErr, OnErr};
 ghost use Rattle.std.specs.List.{AllByRecursion};
-ghost use Rattle.faults.specs.declared.fault.Fault.TheVariants.{Keeper};
+ghost use Rattle.repl_types.specs.declared.fault.Fault.TheVariants.{Keeper};
 ghost use Rattle.repl_commands.specs.declared.written.RawDefs.{RawDefs};
 ghost use Rattle.repl_model.specs.World.{World};
 ghost use Rattle.site_store.specs.Servers.{AllClosed};
 ghost use Rattle.site_store.specs.Views.{names, held, work};
 ghost use Rattle.site_store.specs.Calls.{KeepsServers, Blames, HoldsOrInDoubt};
 ghost use Rattle.world_store.specs.Stands.{Stands};
-ghost use Rattle.load_worlds.specs.Loads.{load_first, server_at};
-ghost use Rattle.planned_loads.specs.Planned.{stored_server, stored_servers};
-ghost use Rattle.planned_loads.specs.PlannedLoads.{adds_nothing as adds_nothing_lem};
+ghost use Rattle.load_laws.specs.worlds.Loads.{load_first, server_at};
+ghost use Rattle.load_laws.specs.planned.Planned.{stored_server, stored_servers};
+ghost use Rattle.load_laws.specs.planned.PlannedLoads.{adds_nothing as adds_nothing_lem};
 ghost use Rattle.load_defs.specs.Putting.{CanBeLoaded};
-ghost use Rattle.load_defs.specs.Loading.{MayLoad, load_commits};
-ghost use Rattle.load_defs.specs.Loading.{AllHappened, SomeHappened};
+ghost use Rattle.load_defs.specs.Loading.{MayLoad, load_commits, AllHappened, SomeHappened};
 
 use crate::laws::laws_of_worlds;
 use crate::putting::put_added;
 use crate::rows::added_rows;
-use faults::Fault;
 use keep_core::Keeper;
 use load_plan::{Additions, StoredServer, additions_at};
+use repl_types::Fault;
 use site_store::Sites;
 use spelled_defs::Defs;
 use std::alloc::Global;

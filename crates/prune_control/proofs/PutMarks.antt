@@ -12,15 +12,15 @@ use Rattle.site_store.specs.declared.sites.Sites.{Sites}
 use Rattle.site_store.specs.Calls.{Puts}
 use Rattle.site_store.specs.Views.{work, sees, IsOpenAt}
 use Rattle.site_store.specs.Works.{Sets}
-use Rattle.server_steps.specs.Calls.{Looks, GoesOn}
-use Rattle.server_steps.specs.laws.Steps.{goes_saw, goes_put, saw_then}
+use Rattle.site_store.specs.one_server.Calls.{Looks, GoesOn}
+use Rattle.site_store.specs.one_server.laws.Steps.{goes_saw, goes_put, saw_then}
 use Rattle.world_store.specs.Stands.{Holds}
-use Rattle.stored_defs.specs.laws.Passing.{any_seen}
+use Rattle.site_store.specs.laws.Passing.{any_seen}
 use Rattle.set_places.specs.declared.placed_set.PlacedSet.{PlacedSet}
 use Rattle.set_places.specs.Members.{ForSource}
 use Rattle.set_places.specs.Places.{IsPlacedAs}
 use Rattle.set_places.specs.laws.Standing.{source_seen}
-use Rattle.action_store.specs.ActedServers.{with_mark}
+use Rattle.stored_commits.specs.actions.ActedServers.{with_mark}
 use Rattle.prune_control.specs.Putting.{PutsPoint}
 use Rattle.prune_control.specs.laws.Marks.{mark_of}
 

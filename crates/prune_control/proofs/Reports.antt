@@ -1,7 +1,7 @@
 -- What noting a point makes of a world.
 use Rattle.std.proofs.Common.{◌≡◌, ℕ, refl, sym, ap, subst, ◌∙◌}
 use Rattle.std.specs.Prelude.{Some}
-use Rattle.faults.specs.declared.fault.Fault.{Fault}
+use Rattle.repl_types.specs.declared.fault.Fault.{Fault}
 use Rattle.keep_core.specs.Contents.{Contents}
 use Rattle.keep_core.specs.Kept.{Kept}
 use Rattle.repl_model.specs.AfterActions.{reported, after_action}
@@ -16,16 +16,16 @@ use Rattle.site_store.specs.Servers.{AllClosed}
 use Rattle.site_store.specs.Views.{names, held, work, sees}
 use Rattle.site_store.specs.laws.Damage.{no_damage}
 use Rattle.world_store.specs.Stands.{Holds, Stands}
-use Rattle.load_worlds.specs.laws.Entries.{at_place_in}
-use Rattle.load_worlds.specs.laws.Members.{In}
+use Rattle.lists.specs.laws.Numbered.{at_place_in}
+use Rattle.lists.specs.laws.Members.{In}
 use Rattle.set_places.specs.declared.placed_set.PlacedSet.{PlacedSet}
 use Rattle.set_places.specs.Places.{IsPlacedAs, IsReadOnly}
 use Rattle.set_places.specs.Steps.{HasBecome, MayHaveBecome, HasStepped, MayCommitStep}
 use Rattle.set_places.specs.laws.Commits.{has_become, may_have_become}
 use Rattle.set_places.specs.laws.Known.{is_among}
 use Rattle.set_places.specs.laws.Standing.{source_revealed}
-use Rattle.action_worlds.specs.StaysSound.{NextActionsSound}
-use Rattle.action_store.specs.ActedServers.{with_mark, ReportHolds, OthersHoldAfterReport}
+use Rattle.world_commits.specs.actions.StaysSound.{NextActionsSound}
+use Rattle.stored_commits.specs.actions.ActedServers.{with_mark, ReportHolds, OthersHoldAfterReport}
 use Rattle.prune_control.specs.Noting.{IsReport, mark_rules, ShowsDamage}
 use Rattle.prune_control.specs.Putting.{PutsPoint}
 use Rattle.prune_control.specs.laws.Marks.{marks_undamaged}

@@ -10,7 +10,7 @@ use Rattle.repl_records.specs.declared.prune.SyncMark.{SyncMark}
 use Rattle.site_store.specs.declared.sites.Sites.{Sites}
 use Rattle.site_store.specs.Records.{RowIs}
 use Rattle.site_store.specs.Views.{sees}
-use Rattle.stored_defs.specs.laws.Passing.{if_seen}
+use Rattle.site_store.specs.laws.Passing.{if_seen}
 use Rattle.set_places.specs.declared.placed_set.PlacedSet.{PlacedSet}
 use Rattle.set_places.specs.Members.{ForSource}
 use Rattle.set_places.specs.Places.{HasSourceRow, IsPlacedAtSource}

@@ -14,7 +14,7 @@ use Rattle.repl_model.specs.World.{KnownSet}
 use Rattle.repl_model.specs.NextActions.{next_action, reports}
 use Rattle.site_store.specs.declared.sites.Sites.{Sites}
 use Rattle.site_store.specs.Damage.{Rules, Damages}
-use Rattle.stored_defs.specs.Reading.{Spells}
+use Rattle.world_store.specs.SpelledRows.{Spells}
 
 -- a report is what the set does next, and this is the point that its targets have reached
 abbrev pub IsReport : KnownSet → ℕ → Type 0

@@ -6,7 +6,7 @@ use Rattle.repl_model.specs.Sound.{IsSound}
 use Rattle.world_store.specs.Stands.{Holds}
 use Rattle.set_places.specs.declared.placed_set.PlacedSet.{PlacedSet}
 use Rattle.set_places.specs.Places.{IsPlacedAs}
-use Rattle.action_store.specs.ActedServers.{with_mark}
+use Rattle.stored_commits.specs.actions.ActedServers.{with_mark}
 
 -- in each sound world in which a set stands as it was found, and whose source holds what the world calls for, the point
 -- is put as the set's mark, with the signal of before

@@ -3,9 +3,9 @@
 //!
 //! `note` stores the point that a read-only set's targets have reached as the set's mark at its
 //! source, in one commit. It stands on `set_places`, which finds the set, on `site_store`, whose
-//! records it reads and puts, and on `action_worlds` and `action_store`, which say what the commit
-//! makes of a world and of what the servers hold. `subs_sets`, `full_refresh` and `apply_cycle`
-//! stand on it.
+//! records it reads and puts, and on `world_commits` and `stored_commits`, which say what the
+//! commit makes of a world and of what the servers hold. `subs_sets`, `full_refresh` and
+//! `apply_cycle` stand on it.
 //!
 //! For example, the set `q/s` was refreshed at 3, and a block took its targets to 8. Its mark at
 //! `hq` is still 3. After `note` with the point 8 the mark is 8, and all else is as it was.

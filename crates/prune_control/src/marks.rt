@@ -4,15 +4,15 @@ ghost use Rattle.std.specs.Prelude.{◌≡◌, OnOk, OnErr, IfOk, IfErr};
 ghost use Rattle.repl_records.specs.Prune.{IsMark};
 ghost use Rattle.site_store.specs.Servers.{AllClosed};
 ghost use Rattle.site_store.specs.Views.{work};
-ghost use Rattle.server_steps.specs.Calls.{Looks, Breaks};
+ghost use Rattle.site_store.specs.one_server.Calls.{Looks, Breaks};
 ghost use Rattle.set_places.specs.Places.{IsPlacedAtSource};
 ghost use Rattle.set_places.specs.Members.{ForSource};
 ghost use Rattle.set_places.specs.Reading.{ReadsOnly};
 ghost use Rattle.prune_control.specs.Noting.{is_of_marks, mark_rules};
 
-use faults::Fault;
 use keep_core::Keeper;
 use repl_records::SyncMark;
+use repl_types::Fault;
 use row_codec::Table0;
 use set_places::PlacedSet;
 use site_store::Sites;

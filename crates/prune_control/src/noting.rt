@@ -15,9 +15,9 @@ ghost use Rattle.prune_control.specs.Putting.{PutsPoint};
 
 use crate::laws::laws_of_reports;
 use crate::marks::read_mark;
-use faults::Fault;
 use keep_core::Keeper;
 use repl_records::SyncMark;
+use repl_types::Fault;
 use row_codec::Table0;
 use set_places::PlacedSet;
 use site_store::Sites;

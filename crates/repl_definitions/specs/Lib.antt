@@ -8,3 +8,5 @@ pub mod Sets
 pub mod Weights
 pub mod formers
 pub mod laws
+pub use Rattle.row_codec.specs.Spelling
+pub use Rattle.row_codec.specs.LogRecords

@@ -6,12 +6,12 @@ use Rattle.std.specs.Str.{bytes_eq}
 use Rattle.std.proofs.lemmas.List.{length-map}
 use Rattle.repl_types.specs.Name.{is_name}
 use Rattle.repl_model.specs.Units.{units}
-use Rattle.repl_model.specs.World.{Server, World, KnownSet, same_set, known_sets, known_from}
-use Rattle.repl_model.specs.Rules.{all_differ}
+use Rattle.repl_model.specs.World.{Server, World, KnownSet, same_set, known_sets, known_from, empty_server, empty_world}
+use Rattle.lists.specs.Lists.{all_differ}
 use Rattle.repl_model.specs.SoundLogs.{LogIsSound}
 use Rattle.repl_model.specs.SoundDefinitions.{server_limit, same_place, waits_for_load, ServerKeepsRules, KnownSetKeepsRules, DefinitionsAreSound, targets_of, sources_of, replica_sets, read_only_sets}
 use Rattle.repl_model.specs.SoundReplicas.{ReplicaMarksAreSound, IsExactlyOnce, IsIndependent, DecisionsAreCaptured}
-use Rattle.repl_model.specs.Sound.{NumbersAreSound, SignalsAreSound, TrailIsSound, IsSound, empty_server, empty_world, AreServerNames}
+use Rattle.repl_model.specs.Sound.{NumbersAreSound, SignalsAreSound, TrailIsSound, IsSound, AreServerNames}
 
 -- in an empty world no set is known, whatever the other servers are
 none_known : (world : World) (names : List (List ℕ)) → flat_map (λ target. filter_map (known_from world target) target.target_sets) (empty_world names) ≡ []

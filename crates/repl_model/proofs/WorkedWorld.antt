@@ -4,7 +4,7 @@ use Rattle.std.specs.Prelude.{pos}
 use Rattle.std.specs.List.{flat_map}
 use Rattle.repl_types.specs.Sizes.{value_limit}
 use Rattle.repl_types.specs.declared.value.Value.TheVariants.{Int}
-use Rattle.row_codec.specs.Spelling.{b16, b32, b64, IsRow, IsText}
+use Rattle.repl_definitions.specs.Spelling.{b16, b32, b64, IsRow, IsText}
 use Rattle.repl_definitions.specs.declared.expr.Expr.TheVariants as exprs
 use Rattle.repl_definitions.specs.Members.{IsMember}
 use Rattle.repl_definitions.specs.Sets.{IsSetDef, set_def_spelling}

@@ -4,6 +4,7 @@ use Rattle.std.specs.Prelude.{◌≡◌, ℕ, Bool, true, false, IsTrue, ◌&&�
 use Rattle.std.specs.List.{list_all, list_any, range_with_len}
 use Rattle.std.specs.Option.{option_map, option_map_or}
 use Rattle.std.specs.Str.{bytes_eq}
+use Rattle.lists.specs.Lists.{all_differ, are_among, places_rise}
 use Rattle.repl_types.specs.Name.{is_name}
 use Rattle.repl_types.specs.declared.table.Kind.{Kind}
 use Rattle.repl_types.specs.declared.table.Kind.TheVariants as kinds
@@ -26,31 +27,11 @@ use Rattle.repl_definitions.specs.declared.member.TargetKind.TheVariants.{UserCo
 use Rattle.repl_definitions.specs.declared.set.SetDef.{SetDef}
 use Rattle.repl_model.specs.Selection.{SourceTable}
 
--- ---- lists
-
--- no two are alike
-abbrev pub all_differ : {X : Type 0} → (X → X → Bool) → List X → Bool
-all_differ same [] = true
-all_differ same (x ∷ xs) = not (list_any (same x) xs) && all_differ same xs
-
--- the place is one of these
-abbrev pub is_among : List ℕ → ℕ → Bool
-is_among places place = list_any (λ p. p == place) places
-
--- the places are all among these
-abbrev pub are_among : List ℕ → List ℕ → Bool
-are_among places some = list_all (is_among places) some
-
--- the places rise
-abbrev pub places_rise : List ℕ → Bool
-places_rise [] = true
-places_rise (p ∷ ps) = list_all (nat_lt p) ps && places_rise ps
+-- ---- tables
 
 -- the places of all columns of a table
 abbrev pub all_places : TableDef → List ℕ
 all_places def = range_with_len 0 (length def.columns)
-
--- ---- tables
 
 -- the name of a table and those of its columns are names
 abbrev pub table_names_are_names : TableDef → Bool

@@ -8,7 +8,7 @@ use Rattle.repl_types.specs.declared.record.LogRecord.{LogRecord}
 use Rattle.repl_model.specs.Units.{units}
 use Rattle.repl_model.specs.Trails.{Trail, refresh, block, load, settle, synchpoint}
 use Rattle.repl_model.specs.World.{Server, World, KnownSet, registered_of, known_sets}
-use Rattle.repl_model.specs.Rules.{all_differ}
+use Rattle.lists.specs.Lists.{all_differ}
 use Rattle.repl_model.specs.SoundLogs.{LogIsSound}
 use Rattle.repl_model.specs.SoundDefinitions.{server_limit, read_only_sets, loaded_sets, DefinitionsAreSound}
 use Rattle.repl_model.specs.SoundReplicas.{ReplicaMarksAreSound, IsExactlyOnce, IsIndependent, DecisionsAreCaptured}
@@ -70,15 +70,7 @@ pub record IsSound (world : World) : Type 0 where
   pub independence : AllByRecursion IsIndependent (loaded_sets world)
   pub captured_decisions : AllByRecursion DecisionsAreCaptured (loaded_sets world)
 
--- ---- the empty world
-
--- a server of which nothing is known but its name
-abbrev pub empty_server : List ℕ → Server
-empty_server name = record { name = name; log = []; tables = []; captured = 0; floor = 0; shown = []; source_sets = []; target_sets = [] }
-
--- servers of these names, with nothing
-abbrev pub empty_world : List (List ℕ) → World
-empty_world names = map empty_server names
+-- ---- the names of servers
 
 -- the names may be those of a group of servers
 pub record AreServerNames (names : List (List ℕ)) : Type 0 where

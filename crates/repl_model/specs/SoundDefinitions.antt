@@ -15,7 +15,8 @@ use Rattle.repl_model.specs.Applicable.{is_signal}
 use Rattle.repl_model.specs.Selection.{SourceTable}
 use Rattle.repl_model.specs.World.{ServerTable, SourceSide, TargetSide, Server, World, KnownSet, source_named, server_named, server_table, same_set, source_side, target_side, known_from, known_sets, is_known}
 use Rattle.repl_model.specs.Replicas.{comes_from}
-use Rattle.repl_model.specs.Rules.{all_differ, is_replica, is_replica_set, TableKeepsRules, RegistrationKeepsRules, MemberKeepsRules, ReplicaKeepsRules}
+use Rattle.repl_model.specs.Rules.{is_replica, is_replica_set, TableKeepsRules, RegistrationKeepsRules, MemberKeepsRules, ReplicaKeepsRules}
+use Rattle.lists.specs.Lists.{all_differ}
 
 -- the most servers of a group
 abbrev pub server_limit : ℕ

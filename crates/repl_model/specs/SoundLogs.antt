@@ -5,7 +5,7 @@ use Rattle.std.specs.FinMap.{empty}
 use Rattle.repl_types.specs.Sizes.{time_limit}
 use Rattle.repl_types.specs.declared.record.LogRecord.{LogRecord}
 use Rattle.repl_types.specs.declared.unit.Unit.{Unit}
-use Rattle.row_codec.specs.LogRecords.{IsLogRecord}
+use Rattle.repl_definitions.specs.LogRecords.{IsLogRecord}
 use Rattle.repl_model.specs.Tables.{all_apply}
 use Rattle.repl_model.specs.Units.{units}
 use Rattle.repl_model.specs.SourceAt.{unplaced}

@@ -3,7 +3,7 @@ use Rattle.std.specs.Prelude.{◌≡◌, ◌⊎◌, ℕ, ◌<◌, ◌≤◌, IsT
 use Rattle.std.specs.List.{AllByRecursion, AllZip, list_all, list_any}
 use Rattle.repl_types.specs.declared.record.Change.{Change}
 use Rattle.repl_types.specs.declared.unit.Unit.{Unit}
-use Rattle.row_codec.specs.Spelling.{Is64}
+use Rattle.repl_definitions.specs.Spelling.{Is64}
 use Rattle.repl_model.specs.Units.{units, last_commit}
 use Rattle.repl_model.specs.SourceAt.{source_at, units_between}
 use Rattle.repl_model.specs.Trails.{Trail, refresh, block, load, settle, synchpoint, replica_point, loaded_at}

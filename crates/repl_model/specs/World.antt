@@ -1,5 +1,5 @@
 -- What a group of servers is to a reader: logs, definitions and a few numbers.
-use Rattle.std.specs.Prelude.{ℕ, ◌+◌, Bool, false, ◌&&◌, ◌==◌, nat_lt, nat_le, List, map, find, Option}
+use Rattle.std.specs.Prelude.{ℕ, ◌+◌, Bool, false, ◌&&◌, ◌==◌, nat_lt, nat_le, List, [], map, find, slice_index_or, Option}
 use Rattle.std.specs.List.{filter_map, flat_map, list_any}
 use Rattle.std.specs.Option.{option_map, option_map_or, option_and_then}
 use Rattle.std.specs.Str.{bytes_eq}
@@ -142,3 +142,17 @@ code_in codes seq = option_map_or (λ c. c.1) (find (λ c. c.0 == seq) codes) 0
 -- a set of this name stands at both its ends
 abbrev pub is_known : World → SetId → Bool
 is_known world id = list_any (λ k. same_set id k.at_target.def.id) (known_sets world)
+
+-- ---- worlds by the places of their servers
+
+-- a server of which nothing is known but its name
+abbrev pub empty_server : List ℕ → Server
+empty_server name = record { name = name; log = []; tables = []; captured = 0; floor = 0; shown = []; source_sets = []; target_sets = [] }
+
+-- servers of these names, with nothing
+abbrev pub empty_world : List (List ℕ) → World
+empty_world names = map empty_server names
+
+-- the server of a world with a number
+abbrev pub server_in : World → ℕ → Server
+server_in world n = slice_index_or world n (empty_server [])

@@ -1,1 +1,5 @@
 pub mod Kinds
+pub mod Entries
+pub mod GrowingServers
+pub mod KnownSets
+pub mod GrowingWorlds

@@ -1,7 +1,8 @@
 //! When worlds are sound: the empty one is.
 
 ghost use Rattle.std.specs.Prelude.{ℕ, List};
-ghost use Rattle.repl_model.specs.Sound.{IsSound, AreServerNames, empty_world};
+ghost use Rattle.repl_model.specs.Sound.{IsSound, AreServerNames};
+ghost use Rattle.repl_model.specs.World.{empty_world};
 
 /// Servers with nothing are a sound world, whatever their names are, if they may be names of a
 /// group of servers.

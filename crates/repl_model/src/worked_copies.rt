@@ -1,7 +1,6 @@
 //! Copies that were worked by hand: what the definitions make of small logs.
 
-ghost use Rattle.std.specs.Prelude.{◌≡◌, ◌∷◌, [], ◌++◌, pos, true, false};
-ghost use Rattle.std.specs.Prelude.{map, take, codes};
+ghost use Rattle.std.specs.Prelude.{◌≡◌, ◌∷◌, [], ◌++◌, pos, true, false, map, take, codes};
 ghost use Rattle.std.specs.FinMap.{entries};
 ghost use Rattle.repl_types.specs.declared.value.Value.TheVariants.{Null, Int, Text};
 ghost use Rattle.repl_types.specs.declared.change_row.Op.TheVariants.{I, U, D};

@@ -11,7 +11,9 @@
 #![tactic(auto)]
 
 mod area;
+mod call_errors;
 mod change_row;
+mod fault;
 mod laws;
 mod list;
 mod name;
@@ -27,7 +29,9 @@ mod value;
 mod value_text;
 
 pub use area::Area;
+pub use call_errors::{AppendError, ShowError};
 pub use change_row::{CdRow, Op, Registration};
+pub use fault::{Counts, Fault, Stepped};
 pub use laws::{keys_in_order, one_spelling_of_a_number, one_spelling_of_a_value, value_fits};
 pub use list::{Bytes, List};
 pub use name::{Name, NameError, is_name};

@@ -1,7 +1,7 @@
 -- The lines of steps, and of the entries that a trail keeps of them.
 use Rattle.std.specs.Prelude.{ℕ, codes, List, [], ◌∷◌, ◌++◌, Option, Some, None, decimal}
-use Rattle.faults.specs.declared.fault.Stepped.{Stepped}
-use Rattle.faults.specs.declared.fault.Stepped.TheVariants as steps
+use Rattle.repl_types.specs.declared.fault.Stepped.{Stepped}
+use Rattle.repl_types.specs.declared.fault.Stepped.TheVariants as steps
 use Rattle.repl_records.specs.declared.trail.TrailEntry.{TrailEntry}
 use Rattle.repl_records.specs.declared.trail.TrailEntry.TheVariants as entries
 use Rattle.reply_text.specs.Lines.{whole_line, position_text}

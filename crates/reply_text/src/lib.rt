@@ -1,13 +1,13 @@
 //! The lines that a script's replies are written as.
 //!
-//! It stands on the types of what is replied: `repl_types`, `faults`, `repl_records`; and on
-//! `log_text`, which writes log records. It knows no servers. Above it, `session_core` writes the
-//! refusals of a script. Each line is defined once in `specs/`, as all its bytes with the line feed
-//! at its end, one equation a line; a writer appends exactly these bytes. If memory runs out, what
-//! `out` holds is unspecified.
+//! It stands on the types of what is replied: `repl_types` and `repl_records`; and on `log_text`,
+//! which writes log records. It knows no servers. Above it, `session_core` writes the refusals of
+//! a script. Each line is defined once in `specs/`, as all its bytes with the line feed at its
+//! end, one equation a line; a writer appends exactly these bytes. If memory runs out, what `out`
+//! holds is unspecified.
 //!
-//! For example, the reply `Fed { records: 6, last: 8 }` is the line
-//! `ok fed 6 last 00000000000000080000`.
+//! For example, the reply `Fed { records: 6, last: 8 }` is the line `ok fed 6 last
+//! 00000000000000080000`.
 #![tactic(auto)]
 
 mod fields;

@@ -7,9 +7,8 @@ ghost use Rattle.reply_text.specs.Steps.{decide_parts, step_parts, step_line, ba
 ghost use Rattle.reply_text.specs.Steps.{entry_parts, trail_line};
 
 use crate::fields::{Field, write_end, write_fields, write_text};
-use faults::Stepped;
 use repl_records::TrailEntry;
-use repl_types::Name;
+use repl_types::{Name, Stepped};
 use std::alloc::AllocError;
 
 /// Appends a refresh.

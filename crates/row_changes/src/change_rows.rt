@@ -5,8 +5,7 @@ ghost use Rattle.repl_model.specs.ChangeRows.{no_befores as no_befores_lem};
 ghost use Rattle.repl_model.specs.ChangeRows.{shows_nothing as shows_nothing_lem};
 ghost use Rattle.repl_model.specs.ChangeRows.{insert_row as insert_row_lem};
 ghost use Rattle.repl_model.specs.ChangeRows.{delete_row as delete_row_lem};
-ghost use Rattle.repl_model.specs.ChangeRows.{update_row as update_row_lem};
-ghost use Rattle.repl_model.specs.ChangeRows.{rows_of_placed};
+ghost use Rattle.repl_model.specs.ChangeRows.{update_row as update_row_lem, rows_of_placed};
 
 use crate::changes::{images, same_values, table_of};
 use repl_types::{CdRow, Change, List, Op, Placed, Registration, Row, Sequence, Value};

@@ -10,15 +10,14 @@ use Rattle.keep_core.specs.Revealed.{Takes, TakesPrefix}
 use Rattle.repl_definitions.specs.declared.member.Member.{Member}
 use Rattle.repl_definitions.specs.declared.set.SetDef.{SetDef}
 use Rattle.repl_model.specs.Rules.{is_replica_set}
-use Rattle.repl_model.specs.World.{World, KnownSet}
+use Rattle.repl_model.specs.World.{World, KnownSet, server_in}
 use Rattle.run_core.specs.Runs.{Event, Went, Stopped, writes, lines_of, is_refused}
 use Rattle.run_core.specs.laws.Quiet.{went_quiet, stopped_quiet}
 use Rattle.site_store.specs.Servers.{AllClosed, IsPlace}
 use Rattle.site_store.specs.Views.{names, held, work}
 use Rattle.site_store.specs.declared.sites.Sites.{Sites}
-use Rattle.server_steps.specs.Calls.{Looks}
+use Rattle.site_store.specs.one_server.Calls.{Looks}
 use Rattle.world_store.specs.Stands.{Stands}
-use Rattle.stored_defs.specs.Known.{server_in}
 use Rattle.run_commands.specs.parts.Parts.{Happened, StoppedIn}
 use Rattle.run_commands.specs.parts.Refusing.{refused}
 use Rattle.run_commands.specs.parts.laws.Lines.{lines_quiet, lines_in_turn, none_refused}
@@ -26,9 +25,9 @@ use Rattle.run_commands.specs.parts.laws.Looking.{looked_stands, went_looked, en
 use Rattle.run_commands.specs.parts.laws.Parts.{refusal_written, refusal_begun}
 use Rattle.set_places.specs.Places.{IsPlacedAs, IsKnownAs, IsReadOnly, ForSet}
 use Rattle.set_places.specs.declared.placed_set.PlacedSet.{PlacedSet}
-use Rattle.show_sets.specs.Replies.{set_line, copy_lines, copy_text}
-use Rattle.show_sets.specs.Targets.{IsCopyAt, IsTargetNamed, ForCopy}
-use Rattle.show_sets.specs.declared.targets.PlacedTarget.{PlacedTarget}
+use Rattle.shows.specs.sets.Replies.{set_line, copy_lines, copy_text}
+use Rattle.shows.specs.sets.Targets.{IsCopyAt, IsTargetNamed, ForCopy}
+use Rattle.shows.specs.declared.targets.PlacedTarget.{PlacedTarget}
 use Rattle.run_commands.specs.target.TargetEvents.{known_set_events, set_events, member_events, target_events}
 use Rattle.run_commands.proofs.TargetEvents.{set_shown, one_known, copy_shown, one_target}
 

@@ -26,10 +26,10 @@ use Rattle.run_core.specs.Runs.{Event, commits, writes, last_world, lines_of, is
 use Rattle.run_core.specs.laws.Runs.{last_append, refused_append, went_both, stopped_in_first, stopped_in_second}
 use Rattle.run_core.specs.laws.Quiet.{went_quiet, stopped_quiet}
 use Rattle.run_commands.specs.parts.Refusing.{refused}
-use Rattle.action_worlds.specs.Resting.{commits_world, steps_left, NextActionsRest}
-use Rattle.action_worlds.specs.laws.Resting.{few_steps}
-use Rattle.full_refresh.specs.Signals.{length_signalled}
-use Rattle.copy_targets.specs.Copies.{is_user_copy}
+use Rattle.world_commits.specs.actions.Resting.{commits_world, steps_left, NextActionsRest}
+use Rattle.world_commits.specs.actions.laws.Resting.{few_steps}
+use Rattle.apply_cycle.specs.Signals.{length_signalled}
+use Rattle.apply_copies.specs.Copies.{is_user_copy}
 use Rattle.run_commands.specs.apply.Progress.{progress_of, step_of}
 use Rattle.run_commands.specs.apply.StepEvents.{Outcome, declines, rests, makes, making, outcome_of, is_carried_out, next_outcome, outcome, events_of, events_from, most_steps, apply_events}
 use Rattle.run_commands.specs.declared.apply.steps.Progress.TheVariants.{Refused, Rested, Made}

@@ -7,16 +7,16 @@ use Rattle.std.proofs.lemmas.List.{append-nil, length-append}
 use Rattle.repl_types.specs.declared.record.LogRecord.{LogRecord}
 use Rattle.repl_types.specs.declared.refusal.Refusal.{Refusal}
 use Rattle.repl_types.specs.declared.refusal.Refusal.TheVariants as refusals
-use Rattle.faults.specs.declared.call_errors.AppendError.{AppendError}
-use Rattle.faults.specs.declared.call_errors.AppendError.TheVariants as errors
-use Rattle.faults.specs.declared.fault.Fault.{Fault}
-use Rattle.faults.specs.declared.fault.Fault.TheVariants as faults
+use Rattle.repl_types.specs.declared.call_errors.AppendError.{AppendError}
+use Rattle.repl_types.specs.declared.call_errors.AppendError.TheVariants as errors
+use Rattle.repl_types.specs.declared.fault.Fault.{Fault}
+use Rattle.repl_types.specs.declared.fault.Fault.TheVariants as faults
 use Rattle.keep_core.specs.Contents.{Contents}
 use Rattle.keep_core.specs.Kept.{Kept}
 use Rattle.keep_core.specs.Revealed.{Takes, TakesPrefix}
 use Rattle.keep_core.specs.laws.Revealed.{takes_nothing}
 use Rattle.repl_model.specs.Longer.{with_more, grown}
-use Rattle.repl_model.specs.World.{Server, World}
+use Rattle.repl_model.specs.World.{Server, World, server_in}
 use Rattle.run_core.specs.Runs.{Event, last_world, lines_of, is_refused, Went, Stopped}
 use Rattle.run_core.specs.laws.Runs.{stopped_before, stopped_in_second}
 use Rattle.site_store.specs.Calls.{KeepsServers, HoldsOrInDoubt}
@@ -25,7 +25,6 @@ use Rattle.site_store.specs.Views.{names, held, work}
 use Rattle.site_store.specs.declared.sites.Sites.{Sites}
 use Rattle.set_places.specs.laws.Commits.{unchanged_if_damaged}
 use Rattle.world_store.specs.Stands.{Stands}
-use Rattle.stored_defs.specs.Known.{server_in}
 use Rattle.stored_defs.specs.laws.Standing.{server_at_place, no_server}
 use Rattle.source_log.specs.Appending.{taken, append_error, StandGrown, HasAppended, HasNotAppended, BlamesFault}
 use Rattle.source_log.specs.Rules.{all_rules, ShowsDamage}
@@ -60,10 +59,6 @@ commit_went S name (r ∷ rs) w h t at = record { stands = at; bytes = takes_not
 commit_accepts : (name : List ℕ) (rs : List LogRecord) (w : World) → false ≡ is_refused (commit_events name rs w)
 commit_accepts name [] w = refl
 commit_accepts name (r ∷ rs) w = refl
-
--- nothing of a line was taken
-pub none_taken : (t : Option (List ℕ)) (line : List ℕ) → TakesPrefix t t line
-none_taken t line = record { prefix = []; rest = line; parts = refl; taken = takes_nothing t }
 
 module _ {K : Type 0} (kept : K → Kept) (s0 : Sites K) (closed : AllClosed (work kept s0)) (feed : Feed) where
   -- ---- a server that isn't there

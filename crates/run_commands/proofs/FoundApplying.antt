@@ -12,8 +12,8 @@ use Rattle.reply_text.specs.declared.reply.Reply.TheVariants as replies
 use Rattle.run_core.specs.Runs.{writes}
 use Rattle.run_commands.specs.parts.Refusing.{refused}
 use Rattle.run_commands.specs.parts.laws.Looking.{stood_before}
-use Rattle.server_steps.specs.Calls.{Looks}
-use Rattle.server_steps.specs.laws.Reads.{looks_sees}
+use Rattle.site_store.specs.one_server.Calls.{Looks}
+use Rattle.site_store.specs.one_server.laws.Reads.{looks_sees}
 use Rattle.site_store.specs.Views.{names, held}
 use Rattle.site_store.specs.declared.sites.Sites.{Sites}
 use Rattle.world_store.specs.Stands.{Stands}

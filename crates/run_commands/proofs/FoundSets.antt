@@ -3,8 +3,8 @@ use Rattle.std.proofs.Common.{◌≡◌, List, [], ◌∷◌, true, not, sym, su
 use Rattle.std.specs.Prelude.{IsTrue, Some}
 use Rattle.std.proofs.lemmas.Bool.{and_parts}
 use Rattle.std.specs.List.{AllByRecursion, list_all}
-use Rattle.faults.specs.declared.fault.Fault.{Fault}
-use Rattle.faults.specs.declared.fault.Fault.TheVariants as faults
+use Rattle.repl_types.specs.declared.fault.Fault.{Fault}
+use Rattle.repl_types.specs.declared.fault.Fault.TheVariants as faults
 use Rattle.keep_core.specs.Kept.{Kept}
 use Rattle.repl_definitions.specs.declared.member.Member.{Member}
 use Rattle.repl_definitions.specs.declared.set.SetDef.{SetDef}
@@ -18,8 +18,8 @@ use Rattle.set_places.specs.Places.{IsPlacedAs, IsReadOnly}
 use Rattle.set_places.specs.Steps.{MayHaveBecome}
 use Rattle.set_places.specs.declared.placed_set.PlacedSet.{PlacedSet}
 use Rattle.set_places.specs.laws.Known.{source_def_is}
-use Rattle.target_steps.specs.Steps.{TakesEach}
-use Rattle.copy_targets.specs.Copies.{is_user_copy}
+use Rattle.apply_cycle.specs.Steps.{TakesEach}
+use Rattle.apply_copies.specs.Copies.{is_user_copy}
 use Rattle.apply_cycle.specs.Stepping.{HasFailed}
 use Rattle.run_commands.specs.parts.RunErrors.{error_of_fault}
 use Rattle.run_commands.specs.declared.parts.run_error.RunError.{RunError}

@@ -8,8 +8,8 @@ use Rattle.std.proofs.lemmas.Str.{IsUtf8-from_is_utf8, is_utf8-from_IsUtf8}
 use Rattle.toml.specs.Data.{Members}
 use Rattle.toml.specs.Parse.{parse_document}
 use Rattle.repl_types.specs.declared.refusal.Refusal.{Refusal}
-use Rattle.faults.specs.declared.fault.Fault.{Fault}
-use Rattle.faults.specs.declared.fault.Fault.TheVariants as faults
+use Rattle.repl_types.specs.declared.fault.Fault.{Fault}
+use Rattle.repl_types.specs.declared.fault.Fault.TheVariants as faults
 use Rattle.keep_core.specs.Kept.{Kept}
 use Rattle.keep_core.specs.Revealed.{Takes, TakesPrefix}
 use Rattle.repl_commands.specs.declared.written.RawDefs.{RawDefs}
@@ -22,7 +22,7 @@ use Rattle.run_core.specs.laws.Runs.{went_both, stopped_in_line, stopped_in_firs
 use Rattle.site_store.specs.Views.{names, held}
 use Rattle.site_store.specs.declared.sites.Sites.{Sites}
 use Rattle.world_store.specs.Stands.{Stands}
-use Rattle.planned_loads.specs.Path.{load_path}
+use Rattle.load_laws.specs.planned.Path.{load_path}
 use Rattle.load_defs.specs.Loading.{defs_in, load_commits, load_events, refusal_in, HasLoaded, HasNotLoaded, SomeHappened}
 use Rattle.load_defs.specs.declared.counts.Loaded.{Loaded}
 use Rattle.run_commands.specs.load.LoadEvents.{bad_text, counts_line, has_carried_out_sets, load_text_events, loaded_line, raw_events, raw_of, stated_by}

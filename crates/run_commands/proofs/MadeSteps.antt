@@ -16,7 +16,7 @@ use Rattle.run_commands.specs.parts.Refusing.{refused}
 use Rattle.run_commands.specs.parts.laws.Looking.{looked_stands, stood_before, went_looked, ended_looked}
 use Rattle.site_store.specs.Views.{names, held}
 use Rattle.site_store.specs.declared.sites.Sites.{Sites}
-use Rattle.server_steps.specs.Calls.{Looks}
+use Rattle.site_store.specs.one_server.Calls.{Looks}
 use Rattle.world_store.specs.Stands.{Stands}
 use Rattle.set_places.specs.Places.{IsKnownAs, IsPlacedAs, IsPlaced}
 use Rattle.set_places.specs.declared.placed_set.PlacedSet.{PlacedSet}

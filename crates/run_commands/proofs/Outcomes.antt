@@ -6,10 +6,10 @@ use Rattle.std.proofs.lemmas.Bool.Decides.{nat_tests}
 use Rattle.std.proofs.lemmas.List.{length-append, append-nil}
 use Rattle.repl_types.specs.declared.refusal.Refusal.{Refusal}
 use Rattle.repl_types.specs.declared.refusal.Refusal.TheVariants as refusals
-use Rattle.faults.specs.declared.fault.Fault.{Fault}
-use Rattle.faults.specs.declared.fault.Fault.TheVariants as faults
-use Rattle.faults.specs.declared.fault.Stepped.{Stepped}
-use Rattle.faults.specs.declared.fault.Stepped.TheVariants as steps
+use Rattle.repl_types.specs.declared.fault.Fault.{Fault}
+use Rattle.repl_types.specs.declared.fault.Fault.TheVariants as faults
+use Rattle.repl_types.specs.declared.fault.Stepped.{Stepped}
+use Rattle.repl_types.specs.declared.fault.Stepped.TheVariants as steps
 use Rattle.keep_core.specs.Contents.{Contents}
 use Rattle.keep_core.specs.Kept.{Kept}
 use Rattle.keep_core.specs.Revealed.{Takes, TakesPrefix}
@@ -23,10 +23,10 @@ use Rattle.run_core.specs.Runs.{commits, writes, lines_of}
 use Rattle.run_core.specs.laws.Quiet.{went_quiet, stopped_quiet}
 use Rattle.run_core.specs.laws.Runs.{stopped_before, stopped_after, stopped_in_line}
 use Rattle.run_commands.specs.parts.Refusing.{refused}
-use Rattle.action_worlds.specs.Resting.{commits_world}
-use Rattle.load_worlds.specs.laws.KnownSets.{known_stands}
-use Rattle.load_worlds.specs.laws.Members.{In, at_one, found_in, image_in}
-use Rattle.load_worlds.specs.laws.Servers.{same_name, name_itself}
+use Rattle.world_commits.specs.actions.Resting.{commits_world}
+use Rattle.repl_model.specs.laws.KnownSets.{known_stands}
+use Rattle.lists.specs.laws.Members.{In, at_one, found_in, image_in}
+use Rattle.repl_model.specs.laws.GrowingServers.{same_name, name_itself}
 use Rattle.site_store.specs.Views.{names, held}
 use Rattle.site_store.specs.declared.sites.Sites.{Sites}
 use Rattle.world_store.specs.Stands.{Stands}
@@ -34,7 +34,7 @@ use Rattle.set_places.specs.Places.{IsPlacedAs}
 use Rattle.set_places.specs.Steps.{HasBecome, MayHaveBecome}
 use Rattle.set_places.specs.declared.placed_set.PlacedSet.{PlacedSet}
 use Rattle.set_places.specs.laws.Known.{placed_def}
-use Rattle.full_refresh.specs.Signals.{length_signalled}
+use Rattle.apply_cycle.specs.Signals.{length_signalled}
 use Rattle.apply_cycle.specs.Stepping.{answer_of, IsAnswer, IsRefused, HasMade}
 use Rattle.run_commands.specs.apply.Progress.{progress_told, line_told, Progressed, StoppedStep}
 use Rattle.run_commands.specs.apply.StepEvents.{Outcome, declines, rests, makes, making, outcome_of}

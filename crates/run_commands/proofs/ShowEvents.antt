@@ -5,11 +5,11 @@ use Rattle.std.specs.List.{flat_map}
 use Rattle.std.specs.Option.{option_map_or}
 use Rattle.std.proofs.lemmas.Option.{same_Some}
 use Rattle.repl_types.specs.declared.refusal.Refusal.TheVariants as refusals
-use Rattle.faults.specs.declared.call_errors.ShowError.{ShowError}
-use Rattle.faults.specs.declared.call_errors.ShowError.TheVariants as shows
+use Rattle.repl_types.specs.declared.call_errors.ShowError.{ShowError}
+use Rattle.repl_types.specs.declared.call_errors.ShowError.TheVariants as shows
 use Rattle.keep_core.specs.Kept.{Kept}
 use Rattle.keep_core.specs.Revealed.{Takes, TakesPrefix}
-use Rattle.repl_model.specs.World.{Server, World, server_named}
+use Rattle.repl_model.specs.World.{Server, World, server_named, server_in}
 use Rattle.run_core.specs.Runs.{Event, writes, lines_of, is_refused}
 use Rattle.run_core.specs.laws.Quiet.{IsQuiet}
 use Rattle.site_store.specs.Servers.{AllClosed, HasNone, IsPlace}
@@ -17,11 +17,10 @@ use Rattle.site_store.specs.Views.{names, held, work}
 use Rattle.site_store.specs.Calls.{Bounds}
 use Rattle.site_store.specs.declared.sites.Sites.{Sites}
 use Rattle.world_store.specs.Stands.{Stands}
-use Rattle.stored_defs.specs.Known.{server_in}
 use Rattle.stored_defs.specs.laws.Standing.{server_at_place, no_server}
-use Rattle.show_rows.specs.Showing.{IsUndamagedShow}
-use Rattle.show_source.specs.Rules.{rules, ShowsDamage}
-use Rattle.show_source.specs.Showing.{FailsShowing}
+use Rattle.shows.specs.servers.Showing.{IsUndamagedShow}
+use Rattle.shows.specs.tables.Rules.{rules, ShowsDamage}
+use Rattle.shows.specs.tables.Showing.{FailsShowing}
 use Rattle.run_commands.specs.parts.Causes.{PartHasCause}
 use Rattle.run_commands.specs.parts.Parts.{Happened, StoppedIn}
 use Rattle.run_commands.specs.parts.Refusing.{refused}

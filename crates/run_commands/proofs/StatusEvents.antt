@@ -3,22 +3,21 @@ use Rattle.std.proofs.Common.{◌≡◌, ℕ, List, map, Bool, false, sym, ap}
 use Rattle.std.specs.Prelude.{Option, Some}
 use Rattle.std.specs.Option.{option_map_or}
 use Rattle.repl_types.specs.declared.refusal.Refusal.TheVariants as refusals
-use Rattle.faults.specs.declared.call_errors.ShowError.{ShowError}
-use Rattle.faults.specs.declared.call_errors.ShowError.TheVariants as shows
+use Rattle.repl_types.specs.declared.call_errors.ShowError.{ShowError}
+use Rattle.repl_types.specs.declared.call_errors.ShowError.TheVariants as shows
 use Rattle.keep_core.specs.Kept.{Kept}
 use Rattle.keep_core.specs.Revealed.{Takes, TakesPrefix}
-use Rattle.repl_model.specs.World.{World, Server}
+use Rattle.repl_model.specs.World.{World, Server, server_in}
 use Rattle.run_core.specs.Runs.{Event, writes}
 use Rattle.site_store.specs.Servers.{AllClosed, HasNone, IsPlace}
 use Rattle.site_store.specs.Views.{names, held, work}
 use Rattle.site_store.specs.Calls.{Bounds, Stays}
 use Rattle.site_store.specs.declared.sites.Sites.{Sites}
 use Rattle.world_store.specs.Stands.{Stands}
-use Rattle.stored_defs.specs.Known.{server_in}
 use Rattle.stored_defs.specs.laws.Standing.{server_at_place, no_server}
-use Rattle.show_rows.specs.Rules.{rules}
-use Rattle.show_rows.specs.Showing.{FailsToShow, IsUndamagedShow}
-use Rattle.show_rows.specs.Status.{status_lines, status_text}
+use Rattle.shows.specs.servers.Rules.{rules}
+use Rattle.shows.specs.servers.Showing.{FailsToShow, IsUndamagedShow}
+use Rattle.shows.specs.servers.Status.{status_lines, status_text}
 use Rattle.run_commands.specs.parts.Causes.{PartHasCause}
 use Rattle.run_commands.specs.parts.Parts.{Happened, StoppedIn}
 use Rattle.run_commands.specs.parts.Refusing.{refused}

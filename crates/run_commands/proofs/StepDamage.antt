@@ -7,21 +7,22 @@ use Rattle.repl_types.specs.declared.area.Area.TheVariants as areas
 use Rattle.repl_types.specs.declared.status.DamageCause.{DamageCause}
 use Rattle.repl_types.specs.declared.status.DamageCause.TheVariants as causes
 use Rattle.repl_types.specs.declared.unit.Placed.{Placed}
-use Rattle.faults.specs.declared.fault.Fault.{Fault}
-use Rattle.faults.specs.declared.fault.Fault.TheVariants as faults
+use Rattle.repl_types.specs.declared.fault.Fault.{Fault}
+use Rattle.repl_types.specs.declared.fault.Fault.TheVariants as faults
 use Rattle.keep_core.specs.Contents.{Contents}
 use Rattle.keep_core.specs.Kept.{Kept}
 use Rattle.repl_definitions.specs.declared.set.SetDef.{SetDef}
 use Rattle.repl_model.specs.AfterActions.{source_tables}
 use Rattle.repl_model.specs.Applicable.{is_signal}
 use Rattle.repl_model.specs.World.{World}
-use Rattle.load_worlds.specs.laws.Members.{in_map}
+use Rattle.lists.specs.laws.Members.{in_map}
 use Rattle.site_store.specs.declared.sites.Sites.{Sites}
 use Rattle.site_store.specs.Calls.{KeepsServers, HoldsOrInDoubt}
 use Rattle.site_store.specs.Damage.{Rules, joined, Shows, Damages, IsNoDamage}
 use Rattle.site_store.specs.laws.Damage.{shown_first, shown_second}
 use Rattle.site_store.specs.Servers.{AllClosed}
 use Rattle.site_store.specs.Views.{names, held, work, sees}
+use Rattle.site_store.specs.laws.Passing.{if_seen}
 use Rattle.set_places.specs.laws.Commits.{unchanged_if_damaged}
 use Rattle.world_store.specs.Stands.{Stands}
 use Rattle.source_log.specs.Rules.{all_rules}
@@ -32,10 +33,10 @@ use Rattle.set_places.specs.Members.{member_rules}
 use Rattle.set_places.specs.Places.{IsPlaced}
 use Rattle.set_places.specs.Steps.{BlamesUnchanged}
 use Rattle.set_places.specs.declared.placed_set.PlacedSet.{PlacedSet}
-use Rattle.prune_control.specs.Noting.{mark_rules}
-use Rattle.full_refresh.specs.Signals.{start_of, signal_rules}
-use Rattle.target_steps.specs.Taking.{ShowsAtEnds}
-use Rattle.copy_targets.specs.Copies.{ShowsCopyDamage}
+use Rattle.apply_cycle.specs.Noting.{mark_rules}
+use Rattle.apply_cycle.specs.Signals.{start_of, signal_rules}
+use Rattle.apply_cycle.specs.Taking.{ShowsAtEnds}
+use Rattle.apply_copies.specs.Copies.{ShowsCopyDamage}
 use Rattle.apply_cycle.specs.Stepping.{IsBlamed, ShowsDamage}
 use Rattle.run_commands.specs.parts.Causes.{PartHasCause, FoundByRead}
 use Rattle.run_commands.specs.parts.Damage as running
@@ -56,11 +57,6 @@ no_start_unfit : (tables : List (List ℕ)) (a : Area) (t : ℕ) (key value : Li
 no_start_unfit tables areas.Defs zero key value h = let r = in_map start_of tables h.0 h.1 in true≢false (subst (λ (p : Placed). is_signal p.change ≡ false) r.2 h.2)
 no_start_unfit tables a t key value h = absurd h
 
--- what is seen to have this has that
-if_saw : (saw : Option Contents) (P Q : Contents → Type 0) → ((c : Contents) → P c → Q c) → IfSome saw P → IfSome saw Q
-if_saw None P Q weaker h = tt
-if_saw (Some c) P Q weaker h = weaker c h
-
 -- what the rules of a signal show, those of a run show
 pub signal_shown : (def : SetDef) → IsShown (signal_rules def)
 signal_shown def a (causes.Spelling bytes) saw h = elim h.1 [
@@ -69,7 +65,7 @@ signal_shown def a (causes.Spelling bytes) saw h = elim h.1 [
 ]
 signal_shown def a (causes.Absent key) saw h = (
   h.0,
-  if_saw saw (λ c. (c a h.0 key ≡ None) × (signal_rules def).is_needed a h.0 key c) (λ c. (c a h.0 key ≡ None) × rules.is_needed a h.0 key c) (λ c p. (
+  if_seen saw (λ c. (c a h.0 key ≡ None) × (signal_rules def).is_needed a h.0 key c) (λ c. (c a h.0 key ≡ None) × rules.is_needed a h.0 key c) (λ c p. (
     p.0,
     elim p.1 [
       | inl q ↦ elim q [
@@ -82,7 +78,7 @@ signal_shown def a (causes.Absent key) saw h = (
 )
 signal_shown def a (causes.Unfit bytes) saw h = (
   h.0,
-  if_saw saw (λ c. (key : List ℕ) × (c a h.0 key ≡ Some bytes) × (signal_rules def).is_unfit a h.0 key bytes c) (λ c. (key : List ℕ) × (c a h.0 key ≡ Some bytes) × rules.is_unfit a h.0 key bytes c) (λ c p. (
+  if_seen saw (λ c. (key : List ℕ) × (c a h.0 key ≡ Some bytes) × (signal_rules def).is_unfit a h.0 key bytes c) (λ c. (key : List ℕ) × (c a h.0 key ≡ Some bytes) × rules.is_unfit a h.0 key bytes c) (λ c p. (
     p.0,
     p.1,
     elim p.2 [

@@ -5,24 +5,23 @@ use Rattle.std.specs.Option.{option_map_or}
 use Rattle.std.proofs.lemmas.Option.{same_Some}
 use Rattle.repl_types.specs.declared.record.SetId.{SetId}
 use Rattle.repl_types.specs.declared.refusal.Refusal.TheVariants as refusals
-use Rattle.faults.specs.declared.call_errors.ShowError.{ShowError}
-use Rattle.faults.specs.declared.call_errors.ShowError.TheVariants as shows
+use Rattle.repl_types.specs.declared.call_errors.ShowError.{ShowError}
+use Rattle.repl_types.specs.declared.call_errors.ShowError.TheVariants as shows
 use Rattle.keep_core.specs.Kept.{Kept}
 use Rattle.repl_definitions.specs.declared.member.Member.{Member}
 use Rattle.repl_definitions.specs.declared.member.TargetKind.{TargetKind}
 use Rattle.repl_definitions.specs.declared.member.TargetKind.TheVariants.{UserCopy, PointInTime, BaseAggregate, ChangeAggregate, Ccd, Replica}
 use Rattle.repl_definitions.specs.declared.set.SetDef.{SetDef}
 use Rattle.repl_model.specs.Rules.{is_replica_set}
-use Rattle.repl_model.specs.World.{Server, World, KnownSet}
+use Rattle.repl_model.specs.World.{Server, World, KnownSet, server_in}
 use Rattle.run_core.specs.Runs.{Event, writes}
 use Rattle.site_store.specs.Servers.{AllClosed, HasNone, IsPlace}
 use Rattle.site_store.specs.Views.{names, held, work}
 use Rattle.site_store.specs.Calls.{KeepsServers}
 use Rattle.site_store.specs.declared.sites.Sites.{Sites}
 use Rattle.world_store.specs.Stands.{Stands}
-use Rattle.stored_defs.specs.Known.{server_in}
 use Rattle.stored_defs.specs.laws.Standing.{server_at_place, no_server}
-use Rattle.show_rows.specs.Showing.{IsUndamagedShow}
+use Rattle.shows.specs.servers.Showing.{IsUndamagedShow}
 use Rattle.run_commands.specs.parts.Causes.{PartHasCause}
 use Rattle.run_commands.specs.parts.Refusing.{refused}
 use Rattle.run_commands.specs.parts.RunErrors.{error_of_show}
@@ -32,12 +31,12 @@ use Rattle.run_commands.specs.parts.laws.Damage.{sets_shown}
 use Rattle.run_commands.specs.parts.laws.Looking.{looked_keeps, stops_keeps, stops_run, stops_cause}
 use Rattle.set_places.specs.Places.{IsPlacedAs, IsKnownAs}
 use Rattle.set_places.specs.declared.placed_set.PlacedSet.{PlacedSet}
-use Rattle.copy_targets.specs.Copies.{is_user_copy}
-use Rattle.show_sets.specs.Replies.{set_line, copy_lines, target_named}
-use Rattle.show_sets.specs.Rules.{rules, ShowsDamage}
-use Rattle.show_sets.specs.Showing.{FailsShowing}
-use Rattle.show_sets.specs.Targets.{IsCopyAt, IsTargetNamed, IsNamedAs}
-use Rattle.show_sets.specs.declared.targets.PlacedTarget.{PlacedTarget}
+use Rattle.apply_copies.specs.Copies.{is_user_copy}
+use Rattle.shows.specs.sets.Replies.{set_line, copy_lines, target_named}
+use Rattle.shows.specs.sets.Rules.{rules, ShowsDamage}
+use Rattle.shows.specs.sets.Showing.{FailsShowing}
+use Rattle.shows.specs.sets.Targets.{IsCopyAt, IsTargetNamed, IsNamedAs}
+use Rattle.shows.specs.declared.targets.PlacedTarget.{PlacedTarget}
 use Rattle.run_commands.specs.target.TargetEvents.{known_set_events, set_events, member_events, server_target_events, target_events}
 
 -- ---- a set

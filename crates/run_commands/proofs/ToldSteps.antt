@@ -2,8 +2,8 @@
 use Rattle.std.proofs.Common.{◌≡◌, ℕ, List, refl, sym, subst}
 use Rattle.std.specs.Prelude.{Option}
 use Rattle.repl_types.specs.declared.status.DamageCause.TheVariants as causes
-use Rattle.faults.specs.declared.fault.Stepped.{Stepped}
-use Rattle.faults.specs.declared.fault.Stepped.TheVariants as steps
+use Rattle.repl_types.specs.declared.fault.Stepped.{Stepped}
+use Rattle.repl_types.specs.declared.fault.Stepped.TheVariants as steps
 use Rattle.keep_core.specs.Revealed.{Takes}
 use Rattle.reply_text.specs.Steps.{step_line}
 use Rattle.run_commands.specs.parts.Causes.{FoundByRead}

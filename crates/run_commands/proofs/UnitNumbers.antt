@@ -5,14 +5,12 @@ use Rattle.std.specs.Str.{bytes_eq}
 use Rattle.std.proofs.lemmas.Bool.Decides.{nat_tests}
 use Rattle.std.proofs.lemmas.List.Sums.{position_or_len_is}
 use Rattle.keep_core.specs.Kept.{Kept}
-use Rattle.repl_model.specs.Sound.{empty_server}
-use Rattle.repl_model.specs.World.{World}
+use Rattle.repl_model.specs.World.{empty_server, World, server_in}
+use Rattle.repl_model.specs.laws.GrowingServers.{name_itself, same_name}
 use Rattle.site_store.specs.Servers.{AllClosed, HasNone, IsPlace}
 use Rattle.site_store.specs.Views.{names, held, work}
 use Rattle.site_store.specs.declared.sites.Sites.{Sites}
 use Rattle.world_store.specs.Stands.{Stands}
-use Rattle.stored_defs.specs.Known.{server_in}
-use Rattle.stored_defs.specs.laws.Rows.{text_is, text_itself}
 use Rattle.stored_defs.specs.laws.Standing.{name_at_place, same_count}
 use Rattle.run_commands.specs.capture.CaptureEvents.{is_named, number_named}
 
@@ -39,14 +37,14 @@ module _ {K : Type 0} (kept : K → Kept) (s0 : Sites K) (closed : AllClosed (wo
     where
       pick : (b : Bool) → bytes_eq name (server_in w n).name ≡ b → b ≡ false
       pick false is = refl
-      pick true is = absurd (other (named_at n ∙ sym (text_is name (server_in w n).name is)))
+      pick true is = absurd (other (named_at n ∙ sym (same_name name (server_in w n).name is)))
 
   -- the server at the place of a name has that number
   pub number_at_place : (n : ℕ) → IsPlace (names s0) name n → number_named name w ≡ Some n
   number_at_place n place =
       let within : n < length w = omega (arith, same_count kept s0 closed w stands, place.within) in
       let before = λ (k : ℕ) (lt : k < n). other_name k (λ same. s0.servers.apart k n lt place.within (same ∙ sym place.is)) in
-      let here : is_named name (server_in w n) ≡ true = subst (λ (l : List ℕ). bytes_eq name l ≡ true) (sym place.is ∙ named_at n) (text_itself name) in
+      let here : is_named name (server_in w n) ≡ true = subst (λ (l : List ℕ). bytes_eq name l ≡ true) (sym place.is ∙ named_at n) (name_itself name) in
       ap (by_count w) (position_or_len_is (is_named name) w n (empty_server []) (omega arith) before (λ lt. here))
       ∙ ap (λ (b : Bool). cond b (Some n) None) (below_length n (length w) within)
 

@@ -6,3 +6,4 @@ pub mod feed
 pub mod load
 pub mod apply
 pub mod target
+pub use Rattle.source_log.specs.Appending

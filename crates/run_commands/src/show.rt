@@ -1,8 +1,9 @@
-//! The commands `show S source T`, `show S log`, `show S cd T` and `show S uow`, as parts of a run.
+//! The commands `show S source T`, `show S log`, `show S cd T` and `show S uow`, as parts of a
+//! run.
 //!
-//! `specs/ShowEvents.antt` says which lines they write in a world. It stands on `show_source`,
-//! which writes them, and on `parts`, which has the words of its contracts. `session_core`
-//! carries out these commands by it.
+//! `specs/ShowEvents.antt` says which lines they write in a world. It stands on `shows`, which
+//! writes them, and on `parts`, which has the words of its contracts. `session_core` carries out
+//! these commands by it.
 //!
 //! For example, at a table that isn't defined the line `refused 7 NoSuchTable hq.nope` is written.
 
@@ -18,7 +19,7 @@ ghost use Rattle.run_commands.specs.show.ShowEvents.{changes_events, units_event
 use crate::parts::{RunError, error_of_reply, refuse};
 use keep_core::{Keeper, Sink};
 use repl_types::{Name, Refusal};
-use show_source::{show_changes, show_log, show_source, show_units};
+use shows::{show_changes, show_log, show_source, show_units};
 use site_store::Sites;
 use std::alloc::Global;
 

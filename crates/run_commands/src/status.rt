@@ -1,6 +1,6 @@
 //! The command `status` of a server, as a part of a run.
 //!
-//! `specs/StatusEvents.antt` says which lines it writes in a world. It stands on `show_rows`, which
+//! `specs/StatusEvents.antt` says which lines it writes in a world. It stands on `shows`, which
 //! writes them, and on `parts`, which has the words of its contract. `session_core` carries out
 //! commands by it.
 //!
@@ -17,7 +17,7 @@ ghost use Rattle.run_commands.specs.status.StatusEvents.{status_events};
 use crate::parts::{RunError, error_of_reply, refuse};
 use keep_core::{Keeper, Sink};
 use repl_types::{Name, Refusal};
-use show_rows::show_server;
+use shows::show_server;
 use site_store::Sites;
 use std::alloc::Global;
 

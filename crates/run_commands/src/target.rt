@@ -1,13 +1,12 @@
 //! The commands `status Q N` and `show S target T`, as parts of a run.
 //!
-//! `specs/TargetEvents.antt` says which lines they write in a world. It stands on `show_sets`,
-//! which writes them, on `set_places`, which finds the set of a name, and on `parts`, which has
-//! the words of its contracts. `session_core` carries out these commands by it.
+//! `specs/TargetEvents.antt` says which lines they write in a world. It stands on `shows`, which
+//! writes them, on `set_places`, which finds the set of a name, and on `parts`, which has the
+//! words of its contracts. `session_core` carries out these commands by it.
 //!
 //! For example, at the name of no set the line `refused 8 NoSuchSet q/z` is written.
 
-ghost use Rattle.std.specs.Prelude.{◌≡◌, ◌≤◌, Some, slice_get};
-ghost use Rattle.std.specs.Prelude.{IfOk, IfErr, OnErr};
+ghost use Rattle.std.specs.Prelude.{◌≡◌, ◌≤◌, Some, slice_get, IfOk, IfErr, OnErr};
 ghost use Rattle.repl_definitions.specs.declared.member.Member.{Member};
 ghost use Rattle.repl_model.specs.World.{World, KnownSet};
 ghost use Rattle.run_core.specs.Runs.{Went, Stopped, is_refused};
@@ -16,7 +15,7 @@ ghost use Rattle.site_store.specs.Views.{names, held, work};
 ghost use Rattle.site_store.specs.Calls.{KeepsServers};
 ghost use Rattle.world_store.specs.Stands.{Stands};
 ghost use Rattle.set_places.specs.Places.{IsPlaced, IsPlacedAs};
-ghost use Rattle.show_sets.specs.Targets.{IsTargetAt};
+ghost use Rattle.shows.specs.sets.Targets.{IsTargetAt};
 ghost use Rattle.run_commands.specs.parts.Causes.{PartHasCause};
 ghost use Rattle.run_commands.specs.parts.Parts.{Happened, StoppedIn};
 ghost use Rattle.run_commands.specs.target.TargetEvents.{known_set_events, set_events};
@@ -26,7 +25,7 @@ use crate::parts::{RunError, error_of_fault, error_of_reply, refuse, refuse_set}
 use keep_core::{Keeper, Sink};
 use repl_types::{Name, Refusal, SetId};
 use set_places::{PlacedSet, find_set};
-use show_sets::{PlacedTarget, find_target, is_user_copy, show_copy, show_set};
+use shows::{PlacedTarget, find_target, is_user_copy, show_copy, show_set};
 use site_store::Sites;
 use std::alloc::Global;
 use subs_sets::is_replica_set;

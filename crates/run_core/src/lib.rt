@@ -1,7 +1,8 @@
 //! Definitions for the contract of a run: the list of what it does, and how far it came.
 //!
-//! Below it is `keep_core`. Above it, `two_areas` and `session_core` state their runs with these
-//! definitions. What a world is, and when contents represent it, is a parameter.
+//! Below it is `keep_core`. `capture_core`, `load_defs`, `run_commands` and `session_core` state
+//! their runs with these definitions. What a world is, and when contents represent it, is a
+//! parameter.
 //!
 //! A run commits worlds and writes lines, of replies and of refusals (`Event`). Its contract says
 //! at `Ok` that all its events happened (`Went`), and at an error that the first of them did, and
@@ -9,9 +10,9 @@
 //! `Going`, and the laws of `specs/laws` put parts together: `goes_on` after a part that ended,
 //! `stops_in` in a part that stopped, `going_end` when no part is left.
 //!
-//! For example, a call that commits `next w` and then writes `line` has the events
-//! `commits (next w) ∷ writes line ∷ []`. If the write fails, the call stopped after the commit
-//! with a part of the line, so the line never comes before its commit.
+//! For example, a call that commits `next w` and then writes `line` has the events `commits (next
+//! w) ∷ writes line ∷ []`. If the write fails, the call stopped after the commit with a part of
+//! the line, so the line never comes before its commit.
 #![tactic(auto)]
 
 ghost use Rattle.std.specs.Prelude.{◌≡◌, ◌++◌, ◌||◌, List};

@@ -1,13 +1,10 @@
 //! Tests of what is stored at servers and shown of it, on contents that stand for no world too.
 //!
-//! It has no code but tests, of the calls of `stored_defs`, `load_plan`, `load_defs`, `show_rows`,
-//! `show_source` and `txn_buffer`.
+//! It has no code but tests, of the calls of `load_plan`, `load_defs`, `shows` and `txn_buffer`.
 #![tactic(auto)]
 
 #[cfg(test)]
 mod changes_in_flight;
-#[cfg(test)]
-mod known;
 #[cfg(test)]
 mod limits_of_loads;
 #[cfg(test)]

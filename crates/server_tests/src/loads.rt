@@ -1,11 +1,10 @@
 //! Texts that are loaded into two servers in memory.
 
-use accepted_texts::a_text_that_is_read_is_whole;
-use faults::Fault;
 use keep_map::MapKeeper;
 use load_defs::{Loaded, load};
+use load_laws::a_text_that_is_read_is_whole;
 use raw_defs::read_defs;
-use repl_types::{ItemName, List, Name, Refusal};
+use repl_types::{Fault, ItemName, List, Name, Refusal};
 use site_store::{Site, Sites};
 use std::alloc::Global;
 use std::test::Fail;

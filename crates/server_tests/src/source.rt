@@ -8,7 +8,7 @@ ghost use Rattle.keep_core.specs.Kept.{IsClosed};
 use keep_core::{KeepError, Keeper};
 use keep_map::{BytesSink, MapKeeper};
 use repl_types::{Area, List, Name};
-use show_source::{show_changes, show_log, show_source, show_units};
+use shows::{show_changes, show_log, show_source, show_units};
 use site_store::{Site, Sites};
 use std::alloc::Global;
 use std::test::Fail;

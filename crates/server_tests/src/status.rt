@@ -4,11 +4,10 @@ ghost use Rattle.std.specs.Prelude.{OnOk};
 ghost use Rattle.repl_types.specs.Sizes.{IsKeySize, IsValueSize};
 ghost use Rattle.keep_core.specs.Kept.{IsClosed};
 
-use faults::{Fault, ShowError};
 use keep_core::{KeepError, Keeper};
 use keep_map::{BytesSink, MapKeeper};
-use repl_types::{Area, List, Name};
-use show_rows::show_server;
+use repl_types::{Area, Fault, List, Name, ShowError};
+use shows::show_server;
 use site_store::{Site, Sites};
 use std::alloc::Global;
 use std::test::Fail;

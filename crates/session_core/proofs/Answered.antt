@@ -6,11 +6,11 @@ use Rattle.keep_core.specs.Contents.{Contents}
 use Rattle.keep_core.specs.Kept.{Kept}
 use Rattle.repl_model.specs.World.{World}
 use Rattle.run_core.specs.Runs.{Went, Stopped, is_refused}
-use Rattle.script_lines.specs.Lines.{ScriptLine}
-use Rattle.script_lines.specs.Script.{next_kind, line_number, line_text, next_line, line_of, lines_left, IsLineOf}
-use Rattle.script_lines.specs.laws.MadeLines.{MakesLine, makes_line}
-use Rattle.script_lines.specs.declared.kind.LineKind.{LineKind}
-use Rattle.script_lines.specs.declared.script.Script.{Script}
+use Rattle.line_input.specs.Lines.{ScriptLine}
+use Rattle.line_input.specs.Script.{next_kind, line_number, line_text, next_line, line_of, lines_left, IsLineOf}
+use Rattle.line_input.specs.laws.MadeLines.{MakesLine, makes_line}
+use Rattle.line_input.specs.declared.kind.LineKind.{LineKind}
+use Rattle.line_input.specs.declared.script.Script.{Script}
 use Rattle.site_store.specs.Views.{names, held}
 use Rattle.site_store.specs.declared.sites.Sites.{Sites}
 use Rattle.world_store.specs.Stands.{Stands}

@@ -10,9 +10,9 @@ use Rattle.site_store.specs.declared.sites.Sites.{Sites}
 use Rattle.world_store.specs.Stands.{Stands}
 use Rattle.run_commands.specs.parts.Parts.{Happened}
 use Rattle.session_core.specs.Answers.{Answers}
-use Rattle.script_lines.specs.Script.{next_kind, line_number, waiting}
-use Rattle.script_lines.specs.declared.kind.LineKind.{LineKind}
-use Rattle.script_lines.specs.declared.script.Script.{Script}
+use Rattle.line_input.specs.Script.{next_kind, line_number, waiting}
+use Rattle.line_input.specs.declared.kind.LineKind.{LineKind}
+use Rattle.line_input.specs.declared.script.Script.{Script}
 use Rattle.repl_commands.specs.declared.command.Command.{Command}
 use Rattle.script_text.specs.Asked.{takes_body}
 use Rattle.run_commands.specs.feed.Feeds.{IsFeed}

@@ -10,11 +10,11 @@ use Rattle.keep_core.specs.laws.Revealed.{takes_nothing}
 use Rattle.repl_model.specs.World.{World}
 use Rattle.run_core.specs.Runs.{Event, last_world, lines_of, is_refused, Going, Went, Stopped}
 use Rattle.run_core.specs.laws.Runs.{refused_append, went_both, stopped_in_second, goes_on, done_after, stops_in, no_part}
-use Rattle.script_lines.specs.Lines.{ScriptLine, script_from, script_of}
-use Rattle.script_lines.specs.Script.{next_kind, line_number, line_text, next_line, line_of, lines_left}
-use Rattle.script_lines.specs.laws.MadeLines.{MakesLine}
-use Rattle.script_lines.specs.declared.kind.LineKind.{LineKind}
-use Rattle.script_lines.specs.declared.script.Script.{Script}
+use Rattle.line_input.specs.Lines.{ScriptLine, script_from, script_of}
+use Rattle.line_input.specs.Script.{next_kind, line_number, line_text, next_line, line_of, lines_left}
+use Rattle.line_input.specs.laws.MadeLines.{MakesLine}
+use Rattle.line_input.specs.declared.kind.LineKind.{LineKind}
+use Rattle.line_input.specs.declared.script.Script.{Script}
 use Rattle.run_commands.specs.parts.Parts.{then_events}
 use Rattle.session_core.specs.Talk.{line_events, bodies_after, end_events, talk, script_events}
 use Rattle.session_core.specs.Inputs.{OfInput}

@@ -4,7 +4,7 @@ use Rattle.std.specs.Str.Lines.{lines}
 use Rattle.keep_core.specs.Contents.{Contents}
 use Rattle.repl_model.specs.World.{World}
 use Rattle.run_core.specs.Runs.{Going, is_refused}
-use Rattle.script_lines.specs.Lines.{ScriptLine, script_from}
+use Rattle.line_input.specs.Lines.{ScriptLine, script_from}
 use Rattle.session_core.specs.Talk.{script_events, talk}
 use Rattle.session_core.specs.declared.bodies.Bodies.{Bodies}
 

@@ -3,7 +3,7 @@ use Rattle.std.specs.Prelude.{ℕ, List, [], ◌∷◌}
 use Rattle.repl_types.specs.declared.refusal.Refusal.TheVariants as refusals
 use Rattle.repl_model.specs.World.{World}
 use Rattle.run_core.specs.Runs.{Event, last_world}
-use Rattle.script_lines.specs.Lines.{ScriptLine, command, body, long_command, long_body, script_of}
+use Rattle.line_input.specs.Lines.{ScriptLine, command, body, long_command, long_body, script_of}
 use Rattle.script_text.specs.Asked.{asked_by}
 use Rattle.session_core.specs.Bodies.{after_asked, after_body, after_long_body}
 use Rattle.run_commands.specs.parts.Parts.{then_events}

@@ -1,17 +1,18 @@
 //! The run of the program: it takes the words of the command line, the servers, the input and the
 //! output, and answers the status of the run.
 //!
-//! Below it are `run_words`, which reads the words, `script_lines` and `script_text`, which read
-//! the lines of a script, and `run_commands`, which has the commands and the contract that they
-//! share; the module `copy` carries out `copy` by them. `world_store` and `run_core` have the
-//! definitions that say what a run does to the servers. Above it, `sqlrep` calls `session` with the
-//! standard streams. The contract of `session` is what the program promises; `docs/MODEL.md` says
-//! its definitions in words.
+//! Below it are `run_words`, which reads the words, `line_input` and `script_text`, which read the
+//! lines of a script, and `run_commands`, which has the commands and the contract that they share;
+//! the module `copy` carries out `copy` by them. `world_store` and `run_core` have the definitions
+//! that say what a run does to the servers. Above it, `sqlrep` calls `session` with the standard
+//! streams. The contract of `session` is what the program promises; `docs/MODEL.md` says its
+//! definitions in words.
 //!
 //! For example, at the word `copy` the input lines `insert 1 items 7 'pen'` and `commit 1 ann 100`
-//! give the output lines `row 7 'pen'` and `ok rows 1`, and the status `Ok`. At the word `hq=:map:`
-//! the input line `frob` gives the output line `refused 1 UnknownCommand line 1`, and the status
-//! `Refused`. At the words `copy` and `x` the status is `Usage`, and nothing is read or written.
+//! give the output lines `row 7 'pen'` and `ok rows 1`, and the status `Ok`. At the word
+//! `hq=:map:` the input line `frob` gives the output line `refused 1 UnknownCommand line 1`, and
+//! the status `Refused`. At the words `copy` and `x` the status is `Usage`, and nothing is read or
+//! written.
 #![tactic(auto)]
 
 ghost use Rattle.std.specs.Prelude.{◌≡◌, ◌≢◌, ◌≤◌, [], length, map, string_bytes, IsTrue};

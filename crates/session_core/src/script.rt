@@ -4,8 +4,8 @@ ghost use Rattle.std.specs.Prelude.{◌≡◌, ◌≤◌, ◌+◌, IfOk, IfErr, 
 ghost use Rattle.line_input.specs.Limits.{input_limit};
 ghost use Rattle.repl_model.specs.World.{World};
 ghost use Rattle.run_core.specs.Runs.{Went, Stopped, is_refused};
-ghost use Rattle.script_lines.specs.Lines.{command, long_command};
-ghost use Rattle.script_lines.specs.Script.{line_of};
+ghost use Rattle.line_input.specs.Lines.{command, long_command};
+ghost use Rattle.line_input.specs.Script.{line_of};
 ghost use Rattle.site_store.specs.Servers.{AllClosed};
 ghost use Rattle.site_store.specs.Views.{names, held, work};
 ghost use Rattle.site_store.specs.Calls.{KeepsServers};
@@ -22,9 +22,9 @@ use crate::bodies::{Answer, Bodies};
 use crate::body_lines::{answer_body, answer_long_body, end_bodies};
 use crate::commands::run_line;
 use keep_core::{Keeper, Sink, Source};
+use line_input::{LineKind, Script};
 use repl_types::Refusal;
 use run_commands::parts::{RunError, refuse};
-use script_lines::{LineKind, Script};
 use site_store::Sites;
 use std::alloc::Global;
 

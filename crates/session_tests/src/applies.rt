@@ -13,7 +13,7 @@ use std::test::Fail;
 const NAMES: [&str; 2] = ["hq", "shop"];
 
 /// Two sets over one table, with other predicates. A transaction stays in flight.
-const BEGIN: &[u8] = b"load
+pub const BEGIN: &[u8] = b"load
 |[[table]]
 |server = 'hq'
 |name = 'orders'
@@ -58,18 +58,18 @@ feed hq
 ";
 
 /// What is done then: the first set takes a block, and the second is refreshed.
-const APPLY: &[u8] = b"capture hq
+pub const APPLY: &[u8] = b"capture hq
 apply q s
 apply q all
 ";
 
 /// What is asked at the end.
-const SHOW: &[u8] = b"show shop target large
+pub const SHOW: &[u8] = b"show shop target large
 show shop target ids
 ";
 
 /// How far both sets are.
-const STATUS: &[u8] = b"status q s
+pub const STATUS: &[u8] = b"status q s
 status q all
 ";
 

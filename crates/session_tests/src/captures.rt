@@ -14,7 +14,7 @@ use std::test::Fail;
 /// A load of three registered tables: one with a before-image, one whose updates are taken apart
 /// into a delete and an insert, and one of which a column isn't registered, and updates of that
 /// column alone aren't captured.
-const LOAD: &[u8] = b"load
+pub const LOAD: &[u8] = b"load
 |[[table]]
 |server = 'hq'
 |name = 'orders'
@@ -65,7 +65,7 @@ const HEAD: &[u8] = b"\0\0\0\0\0\0\0\x04\0\0\0\0\0\0\0\x04\0\0\0\0\0\0\0\0";
 
 /// The rest of the log, from 5 on. The first unit changes all three tables. The transactions 2 and
 /// 5 cross, 3 and 4 end while 2 is in flight, 6 is aborted, and the last unit has no change.
-const FEED: &[u8] = b"feed hq
+pub const FEED: &[u8] = b"feed hq
 |insert 1 orders 1 'pen' 20
 |insert 1 parts 'a' 1
 |insert 1 stock 7 3 null
@@ -88,7 +88,7 @@ const FEED: &[u8] = b"feed hq
 const FED: &[u8] = b"ok fed 16 last 00000000000000140000\n";
 
 /// A script that captures the whole log: three units and one, and then two and one.
-const IN_FOUR_COMMITS: &[u8] = b"capture hq units 4 every 3\ncapture hq units 9 every 2\n";
+pub const IN_FOUR_COMMITS: &[u8] = b"capture hq units 4 every 3\ncapture hq units 9 every 2\n";
 
 /// Scripts that capture the whole log.
 const CUTS: [&[u8]; 4] = [
@@ -144,7 +144,7 @@ ok captured 00000000000000140000 units 2 rows 1
 ";
 
 /// A script that shows what is captured, and how far the server is.
-const SHOW: &[u8] = b"show hq cd orders
+pub const SHOW: &[u8] = b"show hq cd orders
 show hq cd parts
 show hq cd stock
 show hq uow

@@ -10,7 +10,7 @@ use std::test::Fail;
 
 /// A load of one table, and seven records in three batches: of positions 1 to 3, 4 and 5, and 6 and
 /// 7. The transaction 1 begins anew at position 4, and stays in flight.
-const WHOLE: &[u8] = b"load
+pub const WHOLE: &[u8] = b"load
 |[[table]]
 |server = 'hq'
 |name = 'orders'
@@ -83,7 +83,7 @@ captured 00000000000000000000 restart 00000000000000010000 floor 000000000000000
 ];
 
 /// A script that shows the log, what is committed, and how far the server is.
-const SHOW: &[u8] = b"show hq log
+pub const SHOW: &[u8] = b"show hq log
 show hq source orders
 status hq
 ";

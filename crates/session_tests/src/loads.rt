@@ -14,7 +14,7 @@ const NAMES: [&str; 3] = ["hq", "shop", "branch"];
 
 /// The first text has a set from hq to shop. The second has a set from hq to branch, over the table
 /// of the first text, and one from branch to hq.
-const SCRIPT: &[u8] = b"load
+pub const SCRIPT: &[u8] = b"load
 |[[table]]
 |server = 'hq'
 |name = 'orders'

@@ -1,4 +1,5 @@
-//! Tests of whole scripts, run by `session` at servers in memory, with a failure at each call.
+//! Tests of whole scripts, run by `session` at servers in memory, with a failure at each call, and
+//! over databases in memory.
 //!
 //! It has no code but tests. It stands on `session_core`, and nothing stands on it.
 //!
@@ -11,6 +12,8 @@ mod applies;
 mod captures;
 #[cfg(test)]
 mod damage;
+#[cfg(test)]
+mod databases;
 #[cfg(test)]
 mod feeds;
 #[cfg(test)]

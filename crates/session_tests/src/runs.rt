@@ -152,10 +152,10 @@ pub fn failing_at(
 }
 
 /// Runs a script at the servers that these words name, and answers what it wrote and its status.
-pub fn run_at(
+pub fn run_at<K: Keeper>(
     alloc: Global,
     servers: &str,
-    sites: &mut Sites<MapKeeper>,
+    sites: &mut Sites<K>,
     script: &[u8],
 ) -> Result<(BytesSink, Status), AllocError> {
     let words = words_of(alloc, servers)?;

@@ -3,7 +3,7 @@ use Rattle.std.proofs.Common.{ℕ, ◌<◌, List, length, subst}
 use Rattle.repl_types.specs.declared.area.Area.{Area}
 use Rattle.repl_types.specs.declared.area.Area.TheVariants as areas
 use Rattle.repl_types.specs.declared.status.DamageCause.{DamageCause}
-use Rattle.faults.specs.declared.fault.Fault.{Fault}
+use Rattle.repl_types.specs.declared.fault.Fault.{Fault}
 use Rattle.keep_core.specs.Kept.{Kept}
 use Rattle.repl_model.specs.World.{World}
 use Rattle.site_store.specs.declared.sites.Sites.{Sites}
@@ -14,11 +14,11 @@ use Rattle.site_store.specs.Calls.{reads_of_one, AtServer, Fails}
 use Rattle.site_store.specs.Damage.{Shows, IsNoDamage}
 use Rattle.site_store.specs.laws.Counts.{at_most_itself}
 use Rattle.site_store.specs.laws.Steps.{get_fails}
-use Rattle.server_steps.specs.Calls.{Looks, Stops}
-use Rattle.server_steps.specs.laws.Faults.{stops_at, stops_as, stops_after}
-use Rattle.server_steps.specs.laws.Reads.{looks_sees}
+use Rattle.site_store.specs.one_server.Calls.{Looks, Stops}
+use Rattle.site_store.specs.one_server.laws.Faults.{stops_at, stops_as, stops_after}
+use Rattle.site_store.specs.one_server.laws.Reads.{looks_sees}
 use Rattle.world_store.specs.Stands.{Stands}
-use Rattle.stored_defs.specs.Reading.{Spells}
+use Rattle.world_store.specs.SpelledRows.{Spells}
 use Rattle.stored_defs.specs.Rules.{rules, ShowsDamage}
 use Rattle.stored_defs.specs.laws.Standing.{none_damaged}
 

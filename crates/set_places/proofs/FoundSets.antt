@@ -13,21 +13,20 @@ use Rattle.row_codec.specs.Spelling.{set_spelling}
 use Rattle.repl_definitions.specs.Sets.{target_set_spelling, IsTargetSet}
 use Rattle.repl_definitions.specs.declared.set.SetDef.{SetDef}
 use Rattle.repl_definitions.specs.declared.set.TargetSet.{TargetSet}
-use Rattle.repl_model.specs.Sound.{IsSound, empty_server}
+use Rattle.repl_model.specs.Sound.{IsSound}
+use Rattle.repl_model.specs.World.{empty_server, SourceSide, TargetSide, Server, World, KnownSet, same_set, server_named, source_side, target_side, known_from, known_sets, known_set, server_in}
 use Rattle.repl_model.specs.SoundDefinitions.{ServerKeepsRules, KnownSetKeepsRules}
-use Rattle.repl_model.specs.World.{SourceSide, TargetSide, Server, World, KnownSet, same_set, server_named, source_side, target_side, known_from, known_sets, known_set}
 use Rattle.site_store.specs.declared.sites.Sites.{Sites}
 use Rattle.site_store.specs.Records.{RowIs}
 use Rattle.site_store.specs.Servers.{AllClosed}
 use Rattle.site_store.specs.Views.{names, held, work, sees}
-use Rattle.server_steps.specs.Calls.{Looks}
+use Rattle.site_store.specs.one_server.Calls.{Looks}
 use Rattle.world_store.specs.Stands.{Stands}
-use Rattle.load_worlds.specs.laws.Entries.{in_numbered, numbered_place, at_place_in}
-use Rattle.load_worlds.specs.laws.KnownSets.{known_stands, known_in}
-use Rattle.load_worlds.specs.laws.Members.{In, at_one, found_in}
-use Rattle.load_worlds.specs.laws.Servers.{same_id, name_itself}
-use Rattle.stored_defs.specs.Known.{server_in}
-use Rattle.stored_defs.specs.laws.Passing.{if_seen}
+use Rattle.lists.specs.laws.Numbered.{in_numbered, numbered_place, at_place_in}
+use Rattle.repl_model.specs.laws.KnownSets.{known_stands, known_in}
+use Rattle.lists.specs.laws.Members.{In, at_one, found_in}
+use Rattle.repl_model.specs.laws.GrowingServers.{same_id, name_itself}
+use Rattle.site_store.specs.laws.Passing.{if_seen}
 use Rattle.stored_defs.specs.laws.Standing.{same_count, keeps_at, stands_on}
 use Rattle.set_places.specs.declared.placed_set.PlacedSet.{PlacedSet}
 use Rattle.set_places.specs.Finding.{IsFoundIn, IsFoundFrom, IsKnownAt}

@@ -11,8 +11,7 @@ use Rattle.row_codec.specs.Spelling.{set_spelling}
 use Rattle.repl_definitions.specs.Sets.{source_set_spelling, IsSourceSet, target_set_spelling}
 use Rattle.repl_definitions.specs.declared.set.SourceSet.{SourceSet}
 use Rattle.repl_definitions.specs.declared.set.TargetSet.{TargetSet}
-use Rattle.repl_model.specs.Sound.{empty_server}
-use Rattle.repl_model.specs.World.{World, source_side}
+use Rattle.repl_model.specs.World.{empty_server, World, source_side, server_in}
 use Rattle.rows_in_order.specs.Rows.{table_from_rows}
 use Rattle.site_store.specs.declared.sites.Sites.{Sites}
 use Rattle.site_store.specs.Records.{RowIs}
@@ -20,8 +19,7 @@ use Rattle.site_store.specs.Servers.{AllClosed, HasNone, IsPlace}
 use Rattle.site_store.specs.Views.{names, held, work, sees}
 use Rattle.world_store.specs.DefinitionRows.{source_set_rows, target_set_rows}
 use Rattle.world_store.specs.Stands.{Stands}
-use Rattle.stored_defs.specs.Known.{server_in}
-use Rattle.stored_defs.specs.laws.Passing.{if_seen}
+use Rattle.site_store.specs.laws.Passing.{if_seen}
 use Rattle.stored_defs.specs.laws.Standing.{same_count, keeps_at, seen_at, holds_defs, server_at_place, no_server}
 use Rattle.set_places.specs.Finding.{IsFoundFrom}
 use Rattle.set_places.specs.Places.{HasSourceRow}

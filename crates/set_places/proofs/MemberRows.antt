@@ -14,9 +14,9 @@ use Rattle.repl_model.specs.SoundDefinitions.{ServerKeepsRules}
 use Rattle.site_store.specs.declared.sites.Sites.{Sites}
 use Rattle.site_store.specs.Records.{RowIs}
 use Rattle.site_store.specs.Views.{sees}
-use Rattle.load_worlds.specs.laws.Entries.{at_place_in}
-use Rattle.load_worlds.specs.laws.Members.{at_one}
-use Rattle.stored_defs.specs.laws.Passing.{if_seen}
+use Rattle.lists.specs.laws.Numbered.{at_place_in}
+use Rattle.lists.specs.laws.Members.{at_one}
+use Rattle.site_store.specs.laws.Passing.{if_seen}
 use Rattle.stored_defs.specs.laws.Standing.{holds_defs}
 use Rattle.set_places.specs.declared.placed_set.PlacedSet.{PlacedSet}
 use Rattle.set_places.specs.Members.{ForSource, IsRegistrationOf, is_called_for}

@@ -4,11 +4,10 @@ use Rattle.std.specs.Option.{option_and_then}
 use Rattle.keep_core.specs.Kept.{Kept}
 use Rattle.repl_types.specs.declared.record.SetId.{SetId}
 use Rattle.repl_definitions.specs.declared.set.TargetSet.{TargetSet}
-use Rattle.repl_model.specs.World.{Server, SourceSide, World, server_named, source_side, target_side, known_from}
+use Rattle.repl_model.specs.World.{Server, SourceSide, World, server_named, source_side, target_side, known_from, server_in}
 use Rattle.site_store.specs.declared.sites.Sites.{Sites}
 use Rattle.site_store.specs.Views.{names, held}
 use Rattle.world_store.specs.Stands.{Stands}
-use Rattle.stored_defs.specs.Known.{server_in}
 use Rattle.set_places.specs.declared.placed_set.PlacedSet.{PlacedSet}
 use Rattle.set_places.specs.Places.{IsPlacedAtSource, IsKnownAs}
 

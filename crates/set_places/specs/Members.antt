@@ -16,8 +16,8 @@ use Rattle.site_store.specs.declared.sites.Sites.{Sites}
 use Rattle.site_store.specs.Damage.{Rules}
 use Rattle.site_store.specs.Views.{sees}
 use Rattle.world_store.specs.Stands.{Reveals}
-use Rattle.stored_defs.specs.Reading.{Spells}
-use Rattle.load_worlds.specs.laws.Members.{In}
+use Rattle.world_store.specs.SpelledRows.{Spells}
+use Rattle.lists.specs.laws.Members.{In}
 use Rattle.set_places.specs.declared.placed_set.PlacedSet.{PlacedSet}
 use Rattle.set_places.specs.Places.{IsPlacedAs}
 

@@ -12,7 +12,7 @@ use Rattle.repl_model.specs.Rules.{is_replica_set}
 use Rattle.site_store.specs.declared.sites.Sites.{Sites}
 use Rattle.site_store.specs.Views.{names, held, sees}
 use Rattle.world_store.specs.Stands.{Stands}
-use Rattle.load_worlds.specs.laws.Members.{In}
+use Rattle.lists.specs.laws.Members.{In}
 use Rattle.set_places.specs.declared.placed_set.PlacedSet.{PlacedSet}
 
 -- ---- at servers

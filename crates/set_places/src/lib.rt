@@ -5,10 +5,9 @@
 //! reads the registration that a member of a found set is over. `specs/Places.antt` has the words
 //! by which the layers above speak of a found set: `IsPlaced` says that its rows are seen where it
 //! was found, and `ForSet` says something of each world that the servers stand for, and of the
-//! read-only set that stands there. It stands on `site_store`, whose records it reads, on
-//! `server_steps`, for the words of its contracts, and on `stored_defs`, which shows what is seen
-//! of definitions at servers that stand for a world. `subs_sets`, `prune_control`, `full_refresh`
-//! and `apply_copies` stand on it.
+//! read-only set that stands there. It stands on `site_store`, whose records it reads, and on
+//! `stored_defs`, which shows what is seen of definitions at servers that stand for a world.
+//! `subs_sets`, `prune_control`, `full_refresh` and `apply_copies` stand on it.
 //!
 //! For example, the set `q/s` is the set with the number 0 among those whose target `shop` is, and
 //! with the number 1 among those whose source `hq` is. At two servers `hq` and `shop`, `find_set`

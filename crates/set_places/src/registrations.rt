@@ -5,16 +5,16 @@ ghost use Rattle.repl_types.specs.declared.area.Area.TheVariants as areas;
 ghost use Rattle.repl_definitions.specs.Defined.{IsDefinedRegistration};
 ghost use Rattle.site_store.specs.Calls.{Reads};
 ghost use Rattle.site_store.specs.Views.{sees};
-ghost use Rattle.server_steps.specs.Calls.{Looks, Breaks};
+ghost use Rattle.site_store.specs.one_server.Calls.{Looks, Breaks};
 ghost use Rattle.set_places.specs.Places.{IsPlacedAtSource};
 ghost use Rattle.set_places.specs.Members.{ForSource, HasRegistration, IsRegistrationOf};
 ghost use Rattle.set_places.specs.Members.{member_rules};
 ghost use Rattle.set_places.specs.Reading.{is_of_definitions, ReadsOnly};
 
 use crate::placed_set::PlacedSet;
-use faults::Fault;
 use keep_core::Keeper;
 use repl_definitions::DefinedRegistration;
+use repl_types::Fault;
 use row_codec::Table1;
 use site_store::Sites;
 use std::alloc::Global;

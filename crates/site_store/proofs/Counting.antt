@@ -3,7 +3,7 @@ use Rattle.std.proofs.Common.{◌≡◌, ℕ, ◌+◌, ◌<◌, ◌≤◌, Bool,
 use Rattle.std.specs.Prelude.{min, ◌==◌, ◌&&◌}
 use Rattle.repl_types.specs.declared.area.Area.{Area}
 use Rattle.repl_types.specs.Area.{same_area, area_number}
-use Rattle.faults.specs.declared.fault.Fault.{Fault}
+use Rattle.repl_types.specs.declared.fault.Fault.{Fault}
 use Rattle.repl_types.specs.declared.status.DamageCause.{DamageCause}
 use Rattle.keep_core.specs.Kept.{Kept, counted}
 use Rattle.keep_core.specs.Revealed.{count_max, Rises}

@@ -6,3 +6,4 @@ pub mod Steps
 pub mod Views
 pub mod Works
 pub mod laws
+pub mod one_server

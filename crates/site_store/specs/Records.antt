@@ -7,8 +7,8 @@ use Rattle.repl_types.specs.Sizes.{IsKeySize, IsValueSize}
 use Rattle.repl_types.specs.declared.area.Area.{Area}
 use Rattle.repl_types.specs.declared.status.DamageCause.{DamageCause}
 use Rattle.repl_types.specs.declared.status.DamageCause.TheVariants as causes
-use Rattle.faults.specs.declared.fault.Fault.{Fault}
-use Rattle.faults.specs.declared.fault.Fault.TheVariants as faults
+use Rattle.repl_types.specs.declared.fault.Fault.{Fault}
+use Rattle.repl_types.specs.declared.fault.Fault.TheVariants as faults
 use Rattle.keep_core.specs.Contents.{Contents, IsNextKey, IsLastKey}
 use Rattle.keep_core.specs.Kept.{Kept, seen}
 use Rattle.keep_core.specs.Revealed.{Rises}

@@ -3,3 +3,4 @@ pub mod Damage
 pub mod Numbers
 pub mod Steps
 pub mod Transactions
+pub mod Passing

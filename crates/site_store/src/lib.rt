@@ -11,11 +11,14 @@
 //! The crate's `specs/` have the words in which every layer above says what it changed: `Views` is
 //! what a clause sees of all servers, `Calls` is what a call leaves, at Ok and at a fault, `Works`
 //! what a transaction makes of what it sees, and `Damage` what shows that contents are damaged.
-//! `specs/laws` has the laws by which calls compose: `Counts`, `Transactions`, `Damage`, `Steps`.
+//! `specs/laws` has the laws by which calls compose: `Counts`, `Transactions`, `Passing`,
+//! `Damage`, `Steps`. `specs/one_server` has words for calls at one server, one after another: `Looks`
+//! for calls that only read, `GoesOn` for calls that go on with the open transaction of the
+//! server, and `Stops` for a call that failed, with who is to blame; they compose by
+//! `specs/one_server/laws`.
 //!
-//! It stands on `keep_core` for keepers, on `row_codec` and `repl_records` for records, on
-//! `rows_in_order` and on `faults`. The layers that work on servers stand on it; `two_areas` and
-//! `rows_at_work` show its use.
+//! It stands on `keep_core` for keepers, on `row_codec` for records, and on `rows_in_order`. The
+//! layers that work on servers stand on it.
 #![tactic(auto)]
 
 mod buffers;

@@ -14,9 +14,8 @@ ghost use Rattle.site_store.specs.Records.{NoDamage, Misread, Misspelt, Misspelt
 ghost use Rattle.site_store.specs.Records.{Halts, MayHalt, MissesOrMisreads, IsMissing};
 
 use crate::buffers::Buffers;
-use faults::Fault;
 use keep_core::{KeepError, Keeper};
-use repl_types::{Area, DamageCause, List};
+use repl_types::{Area, DamageCause, Fault, List};
 use row_codec::{Stored, TableNumber, TakeError};
 use std::alloc::{AllocError, Global};
 

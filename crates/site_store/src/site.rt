@@ -8,9 +8,8 @@ ghost use Rattle.keep_core.specs.Kept.{Closes};
 
 use crate::buffers::Buffers;
 use crate::records::{begin_at, commit_at, get_record, next_record, put_record, remove_record};
-use faults::Fault;
 use keep_core::Keeper;
-use repl_types::Name;
+use repl_types::{Fault, Name};
 use row_codec::Stored;
 use std::alloc::Global;
 

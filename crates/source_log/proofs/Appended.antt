@@ -8,10 +8,10 @@ use Rattle.repl_types.specs.declared.area.Area.{Area}
 use Rattle.repl_types.specs.declared.area.Area.TheVariants as areas
 use Rattle.repl_types.specs.declared.record.LogRecord.{LogRecord}
 use Rattle.repl_types.specs.declared.status.DamageCause.{DamageCause}
-use Rattle.faults.specs.declared.call_errors.AppendError.{AppendError}
-use Rattle.faults.specs.declared.call_errors.AppendError.TheVariants as errors
-use Rattle.faults.specs.declared.fault.Fault.{Fault}
-use Rattle.faults.specs.declared.fault.Fault.TheVariants as faults
+use Rattle.repl_types.specs.declared.call_errors.AppendError.{AppendError}
+use Rattle.repl_types.specs.declared.call_errors.AppendError.TheVariants as errors
+use Rattle.repl_types.specs.declared.fault.Fault.{Fault}
+use Rattle.repl_types.specs.declared.fault.Fault.TheVariants as faults
 use Rattle.keep_core.specs.Contents.{Contents, set_key, put_at}
 use Rattle.keep_core.specs.Kept.{Kept, seen_of}
 use Rattle.repl_records.specs.RecordKeys.{single_spelling}
@@ -19,16 +19,16 @@ use Rattle.repl_records.specs.SourceSide.{head_spelling}
 use Rattle.repl_records.specs.declared.source_side.Head.{Head}
 use Rattle.repl_model.specs.Applicable.{is_applicable}
 use Rattle.repl_model.specs.Longer.{with_more, grown}
-use Rattle.repl_model.specs.Sound.{IsSound, empty_server}
+use Rattle.repl_model.specs.Sound.{IsSound}
+use Rattle.repl_model.specs.World.{empty_server, Server, World, tables_of, server_in}
 use Rattle.repl_model.specs.SoundLogs.{LogIsSound}
-use Rattle.repl_model.specs.World.{Server, World, tables_of}
-use Rattle.load_worlds.specs.laws.Members.{In}
-use Rattle.log_rows.specs.InFlight.{InFlightRowsStand, OpenChangesAreRows, OpenChangesAreStored}
-use Rattle.log_rows.specs.LongerTables.{HeadFits}
-use Rattle.log_rows.specs.SourceLogs.{SourceRowsStand}
-use Rattle.log_store.specs.LongerServers.{is_of_log, Logged, LoggedHolds, OthersHold}
-use Rattle.log_worlds.specs.LongerLogs.{AllFollow}
-use Rattle.log_worlds.specs.StaysSound.{UsersRecordsStaySound}
+use Rattle.lists.specs.laws.Members.{In}
+use Rattle.stored_commits.specs.records.InFlight.{InFlightRowsStand, OpenChangesAreRows, OpenChangesAreStored}
+use Rattle.stored_commits.specs.records.LongerTables.{HeadFits}
+use Rattle.stored_commits.specs.records.SourceLogs.{SourceRowsStand}
+use Rattle.stored_commits.specs.logs.LongerServers.{is_of_log, Logged, LoggedHolds, OthersHold}
+use Rattle.world_commits.specs.logs.LongerLogs.{AllFollow}
+use Rattle.world_commits.specs.logs.StaysSound.{UsersRecordsStaySound}
 use Rattle.rows_in_order.specs.laws.Written.{put_here, put_other_table}
 use Rattle.site_store.specs.declared.sites.Sites.{Sites}
 use Rattle.site_store.specs.Servers.{AllClosed}
@@ -38,10 +38,9 @@ use Rattle.site_store.specs.laws.Counts.{at_most_itself, none_back_then, passes_
 use Rattle.site_store.specs.Damage.{Shows, IsUndamaged, IsNoDamage}
 use Rattle.site_store.specs.laws.Damage.{no_damage}
 use Rattle.site_store.specs.laws.Transactions.{begun_sees, took, closed_again}
-use Rattle.server_steps.specs.Calls.{GoesOn}
-use Rattle.server_steps.specs.laws.Faults.{stops_as, stops_after, blames_after}
-use Rattle.server_steps.specs.laws.Steps.{goes_then}
-use Rattle.stored_defs.specs.Known.{server_in}
+use Rattle.site_store.specs.one_server.Calls.{GoesOn}
+use Rattle.site_store.specs.one_server.laws.Faults.{stops_as, stops_after, blames_after}
+use Rattle.site_store.specs.one_server.laws.Steps.{goes_then}
 use Rattle.stored_defs.specs.laws.Standing.{all_at_place, same_count, keeps_at, seen_at}
 use Rattle.world_store.specs.Stands.{shown, Holds, Stands}
 use Rattle.source_log.specs.Appending.{taken, error_at, append_error, stop_at, HasTaken, TakesAll, PutsEnd, CommitsEnd, MayCommitEnd, StandGrown, HasAppended, HasNotAppended, BlamesFault, BlamesOrStops}

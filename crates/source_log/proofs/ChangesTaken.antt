@@ -29,10 +29,10 @@ use Rattle.repl_model.specs.SoundLogs.{log_limit}
 use Rattle.repl_model.specs.Tables.{table_of}
 use Rattle.repl_model.specs.World.{Server, tables_of}
 use Rattle.world_store.specs.LogRows.{head_of}
-use Rattle.log_store.specs.LongerServers.{is_of_log}
-use Rattle.log_rows.specs.InFlight.{in_flight_table, ChangeIsInFlight}
-use Rattle.log_rows.specs.LongerTables.{log_table, LogGetsRow}
-use Rattle.log_rows.specs.SourceLogs.{ChangeLeavesSource}
+use Rattle.stored_commits.specs.logs.LongerServers.{is_of_log}
+use Rattle.stored_commits.specs.records.InFlight.{in_flight_table, ChangeIsInFlight}
+use Rattle.stored_commits.specs.records.LongerTables.{log_table, LogGetsRow}
+use Rattle.stored_commits.specs.records.SourceLogs.{ChangeLeavesSource}
 use Rattle.site_store.specs.Damage.{AddsOnlySpelt}
 use Rattle.site_store.specs.laws.Damage.{adds_put, adds_then}
 use Rattle.source_log.specs.Fitting.{may_stand}

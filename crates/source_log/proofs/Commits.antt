@@ -9,10 +9,10 @@ use Rattle.row_codec.specs.LogRecords.{IsLogRecord, log_spelling}
 use Rattle.row_codec.specs.Spelling.{b64}
 use Rattle.repl_records.specs.declared.source_side.Head.{Head}
 use Rattle.repl_model.specs.SoundLogs.{log_limit}
-use Rattle.log_rows.specs.InFlight.{InFlightRowsStand, EndLeavesOthers, OpenPositionsAreRows, OpenChangesAreStored}
-use Rattle.log_rows.specs.LongerTables.{LogGetsRow}
-use Rattle.log_rows.specs.SourceLogs.{SourceRowsStand, TablesAreFound}
-use Rattle.log_rows.specs.SourceTables.{ChangeIsStored, RowsStayStanding}
+use Rattle.stored_commits.specs.records.InFlight.{InFlightRowsStand, EndLeavesOthers, OpenPositionsAreRows, OpenChangesAreStored}
+use Rattle.stored_commits.specs.records.LongerTables.{LogGetsRow}
+use Rattle.stored_commits.specs.records.SourceLogs.{SourceRowsStand, TablesAreFound}
+use Rattle.stored_commits.specs.records.SourceTables.{ChangeIsStored, RowsStayStanding}
 use Rattle.source_log.specs.Making.{StepCanBeMade, AreSteps, MakesAll}
 use Rattle.source_log.specs.Reading.{ArePositions, with_dropped}
 use Rattle.source_log.specs.Storing.{CommitMakesChanges, TakesRecord, IsCommit}

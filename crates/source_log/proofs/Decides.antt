@@ -15,8 +15,8 @@ use Rattle.repl_definitions.specs.declared.defined.DefinedTable.{DefinedTable}
 use Rattle.repl_records.specs.SourceSide.{source_row_spelling}
 use Rattle.repl_records.specs.declared.source_side.SourceRow.{SourceRow}
 use Rattle.repl_model.specs.Tables.{Rows, key_of, same_values, is_row, holds}
-use Rattle.log_rows.specs.SourceTables.{RowsStand, rows_table}
-use Rattle.log_rows.specs.SourceReads.{Found, values_read, InsertIsDecided, DeleteIsDecided}
+use Rattle.stored_commits.specs.records.SourceTables.{RowsStand, rows_table}
+use Rattle.stored_commits.specs.records.SourceReads.{Found, values_read, InsertIsDecided, DeleteIsDecided}
 use Rattle.source_log.specs.Making.{Tells}
 use Rattle.source_log.specs.Reading.{FindsRow, HasFreeKey}
 use Rattle.source_log.proofs.Makes.{back_by_table, insert_back, delete_back, update_back}

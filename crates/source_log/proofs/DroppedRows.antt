@@ -11,7 +11,7 @@ use Rattle.repl_records.specs.SourceSide.{in_flight_spelling}
 use Rattle.rows_in_order.specs.Rows.{table_from_rows, IsRising, without_row}
 use Rattle.rows_in_order.specs.laws.Changed.{rises_without, without_split}
 use Rattle.rows_in_order.specs.laws.Written.{written_removed}
-use Rattle.log_rows.specs.InFlight.{InFlightRow, of_transaction, of_others}
+use Rattle.stored_commits.specs.records.InFlight.{InFlightRow, of_transaction, of_others}
 use Rattle.source_log.specs.Reading.{with_dropped}
 use Rattle.source_log.specs.Rules.{flight_key}
 

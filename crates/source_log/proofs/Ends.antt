@@ -6,8 +6,8 @@ use Rattle.repl_types.specs.declared.area.Area.TheVariants as areas
 use Rattle.repl_types.specs.declared.record.LogRecord.{LogRecord}
 use Rattle.repl_types.specs.declared.status.DamageCause.{DamageCause}
 use Rattle.repl_types.specs.declared.status.DamageCause.TheVariants as causes
-use Rattle.faults.specs.declared.fault.Fault.{Fault}
-use Rattle.faults.specs.declared.fault.Fault.TheVariants as faults
+use Rattle.repl_types.specs.declared.fault.Fault.{Fault}
+use Rattle.repl_types.specs.declared.fault.Fault.TheVariants as faults
 use Rattle.keep_core.specs.Contents.{Contents, IsNextKey}
 use Rattle.keep_core.specs.Kept.{Kept}
 use Rattle.row_codec.specs.LogRecords.{log_spelling}
@@ -18,11 +18,11 @@ use Rattle.site_store.specs.declared.sites.Sites.{Sites}
 use Rattle.site_store.specs.Views.{sees}
 use Rattle.site_store.specs.Calls.{no_access, Reads, ClosesAll, IsMemoryOr}
 use Rattle.site_store.specs.Damage.{Shows, Damages}
-use Rattle.server_steps.specs.Calls.{Looks, Breaks}
-use Rattle.server_steps.specs.laws.Damage.{breaks_after, unfit_breaks}
-use Rattle.server_steps.specs.laws.Faults.{stops_as}
-use Rattle.server_steps.specs.laws.Reads.{sees_on}
-use Rattle.stored_defs.specs.laws.Passing.{if_seen, if_both_seen}
+use Rattle.site_store.specs.one_server.Calls.{Looks, Breaks}
+use Rattle.site_store.specs.one_server.laws.Damage.{breaks_after, unfit_breaks}
+use Rattle.site_store.specs.one_server.laws.Faults.{stops_as}
+use Rattle.site_store.specs.one_server.laws.Reads.{sees_on}
+use Rattle.site_store.specs.laws.Passing.{if_seen, if_both_seen}
 use Rattle.source_log.specs.Rules.{rules, all_rules, EndIs, ShowsDamage, BreaksFirst}
 
 -- what the rules show, all rules show

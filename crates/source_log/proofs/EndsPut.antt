@@ -19,9 +19,9 @@ use Rattle.repl_model.specs.Units.{ends}
 use Rattle.repl_model.specs.World.{Server}
 use Rattle.world_store.specs.LogRows.{head_of, in_flight_rows}
 use Rattle.world_store.specs.Tables.{source_table}
-use Rattle.log_rows.specs.InFlight.{InFlightRowsStand, EndLeavesOthers}
-use Rattle.log_rows.specs.LongerTables.{LogGetsRow, head_after}
-use Rattle.log_store.specs.LongerServers.{is_of_log}
+use Rattle.stored_commits.specs.records.InFlight.{InFlightRowsStand, EndLeavesOthers}
+use Rattle.stored_commits.specs.records.LongerTables.{LogGetsRow, head_after}
+use Rattle.stored_commits.specs.logs.LongerServers.{is_of_log}
 use Rattle.source_log.specs.Reading.{ArePositions, with_dropped}
 use Rattle.source_log.specs.Storing.{IsKept, Stores, MayBeLogged, Extends}
 use Rattle.source_log.proofs.DroppedRows.{dropped_elsewhere, dropped_rows}

@@ -22,11 +22,11 @@ use Rattle.repl_model.specs.Units.{ends, units, open_changes, last_commit, last_
 use Rattle.repl_model.specs.World.{ServerTable, Server, tables_of}
 use Rattle.world_store.specs.LogRows.{head_of}
 use Rattle.world_store.specs.Tables.{no_rows, source_table}
-use Rattle.log_rows.specs.Applying.{apply_to_each}
-use Rattle.log_rows.specs.InFlight.{InFlightRowsStand, EndLeavesOthers, OpenPositionsAreRows, OpenChangesAreStored}
-use Rattle.log_rows.specs.LongerTables.{LogGetsRow}
-use Rattle.log_rows.specs.SourceLogs.{SourceRowsStand, TablesAreFound, AbortLeavesSource}
-use Rattle.log_rows.specs.SourceTables.{ChangeIsStored, RowsStand, RowsStayStanding, rows_table}
+use Rattle.stored_commits.specs.records.Applying.{apply_to_each}
+use Rattle.stored_commits.specs.records.InFlight.{InFlightRowsStand, EndLeavesOthers, OpenPositionsAreRows, OpenChangesAreStored}
+use Rattle.stored_commits.specs.records.LongerTables.{LogGetsRow}
+use Rattle.stored_commits.specs.records.SourceLogs.{SourceRowsStand, TablesAreFound, AbortLeavesSource}
+use Rattle.stored_commits.specs.records.SourceTables.{ChangeIsStored, RowsStand, RowsStayStanding, rows_table}
 use Rattle.source_log.specs.Making.{StepCanBeMade, AreSteps, ApplyAll, SourceStands, all_made}
 use Rattle.source_log.specs.Reading.{ArePositions, with_dropped}
 use Rattle.source_log.specs.Storing.{CommitMakesChanges, IsKept, Stores, MayBeLogged, TakesRecord, IsCommit, outcome_of}

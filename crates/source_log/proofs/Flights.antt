@@ -29,7 +29,7 @@ use Rattle.rows_in_order.specs.laws.Fitting.{fits_next}
 use Rattle.rows_in_order.specs.laws.Found.{next_of}
 use Rattle.rows_in_order.specs.laws.Prefixed.{begins_longer, begins_parts, prefix_next, prefix_last, prefix_past}
 use Rattle.rows_in_order.specs.laws.Rising.{no_row}
-use Rattle.log_rows.specs.InFlight.{InFlightRow, of_transaction, TransactionIsPrefix, TransactionStarts}
+use Rattle.stored_commits.specs.records.InFlight.{InFlightRow, of_transaction, TransactionIsPrefix, TransactionStarts}
 use Rattle.source_log.specs.Reading.{positions_after, OfRows, IsNextPosition, IsAbove, ArePositions}
 use Rattle.source_log.specs.Rules.{flight_key, IsInFlight}
 

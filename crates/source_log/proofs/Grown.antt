@@ -7,16 +7,15 @@ use Rattle.std.proofs.lemmas.List.{append-nil}
 use Rattle.repl_types.specs.declared.record.LogRecord.{LogRecord}
 use Rattle.keep_core.specs.Contents.{Contents}
 use Rattle.keep_core.specs.Kept.{Kept}
-use Rattle.repl_model.specs.Sound.{IsSound, empty_server}
-use Rattle.repl_model.specs.World.{Server, World, server_named}
+use Rattle.repl_model.specs.Sound.{IsSound}
+use Rattle.repl_model.specs.World.{empty_server, Server, World, server_named, server_in}
 use Rattle.repl_model.specs.Longer.{with_more, grown_server, grown}
-use Rattle.load_worlds.specs.laws.Members.{In}
-use Rattle.log_store.specs.LongerServers.{Logged, LoggedHolds, OthersHold}
+use Rattle.repl_model.specs.laws.GrowingServers.{name_itself, same_name}
+use Rattle.lists.specs.laws.Members.{In}
+use Rattle.stored_commits.specs.logs.LongerServers.{Logged, LoggedHolds, OthersHold}
 use Rattle.site_store.specs.declared.sites.Sites.{Sites}
 use Rattle.site_store.specs.Servers.{AllClosed}
 use Rattle.site_store.specs.Views.{names, held, work}
-use Rattle.stored_defs.specs.Known.{server_in}
-use Rattle.stored_defs.specs.laws.Rows.{text_is, text_itself}
 use Rattle.stored_defs.specs.laws.Standing.{same_count, name_at_place, server_at_place}
 use Rattle.world_store.specs.Stands.{Holds, Reveals, Stands}
 
@@ -99,7 +98,7 @@ module _ {K : Type 0} (kept : K → Kept) (s0 : Sites K) (closed : AllClosed (wo
 
       pick : (b : Bool) → bytes_eq name (server_in w m).name ≡ b → b ≡ false
       pick false e = refl
-      pick true e = absurd (two (text_is name (server_in w m).name e ∙ sym (named m)) (one_first m n ne))
+      pick true e = absurd (two (same_name name (server_in w m).name e ∙ sym (named m)) (one_first m n ne))
 
   -- once the server holds what its longer log calls for, the servers stand for the world with that log
   pub stands_grown : LoggedHolds → OthersHold → (records : List LogRecord) (c d : Contents) → IsSound (grown name records w) → Holds w (server_in w n) c → Logged records (server_in w n) c d → Stands (names s0) (set (held kept s0) n (Some d)) (grown name records w)
@@ -119,6 +118,6 @@ module _ {K : Type 0} (kept : K → Kept) (s0 : Sites K) (closed : AllClosed (wo
       here : Reveals (grown name records w) (grown_server name records (server_in w n)) (Some d)
       here =
           let server = server_in w n in
-          let own : bytes_eq name server.name ≡ true = subst (λ (l : List ℕ). bytes_eq name l ≡ true) (named n) (text_itself name) in
+          let own : bytes_eq name server.name ≡ true = subst (λ (l : List ℕ). bytes_eq name l ≡ true) (named n) (name_itself name) in
           subst (λ (s : Server). Reveals (grown name records w) s (Some d)) (sym (ap (λ (b : Bool). cond b (with_more records server) server) own))
           (d, refl, logged name records w server c d stands.sound found_there holds puts)

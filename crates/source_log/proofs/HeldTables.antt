@@ -22,7 +22,7 @@ use Rattle.rows_in_order.specs.laws.Numbered.{numbered_below}
 use Rattle.repl_model.specs.SoundLogs.{log_limit}
 use Rattle.repl_model.specs.World.{Server}
 use Rattle.world_store.specs.LogRows.{log_rows, head_of}
-use Rattle.log_rows.specs.LongerTables.{HeadFits}
+use Rattle.stored_commits.specs.records.LongerTables.{HeadFits}
 use Rattle.source_log.specs.Rules.{EndIs}
 use Rattle.source_log.specs.Storing.{StoresWhole}
 use Rattle.source_log.specs.laws.Whole.{whole_reads}

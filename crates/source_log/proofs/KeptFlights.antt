@@ -30,20 +30,21 @@ use Rattle.rows_in_order.specs.Rows.{HasRow}
 use Rattle.rows_in_order.specs.laws.Fitting.{fits_each}
 use Rattle.rows_in_order.specs.laws.Found.{row_of}
 use Rattle.rows_in_order.specs.laws.Written.{differ_numbers}
-use Rattle.repl_model.specs.Rules.{TableKeepsRules, all_places, are_among, may_be_key}
+use Rattle.repl_model.specs.Rules.{TableKeepsRules, all_places, may_be_key}
+use Rattle.lists.specs.Lists.{are_among}
 use Rattle.repl_model.specs.Tables.{key_of, same_values, table_of}
 use Rattle.repl_model.specs.Applicable.{fits, fits_columns, change_fits, table_named, is_change_applicable, is_signal_applicable}
 use Rattle.repl_model.specs.Units.{open_changes}
 use Rattle.repl_model.specs.World.{ServerTable, Server, tables_of, registered_of}
 use Rattle.repl_model.specs.SoundDefinitions.{KeepsTable, column_limit}
 use Rattle.repl_model.specs.SoundLogs.{record_fits}
-use Rattle.load_worlds.specs.laws.Entries.{at_place_in, numbered_in}
-use Rattle.load_worlds.specs.laws.Members.{In, at_one, found_in, in_map, in_second, kept_by}
+use Rattle.lists.specs.laws.Numbered.{at_place_in, numbered_in}
+use Rattle.lists.specs.laws.Members.{In, at_one, found_in, in_map, in_second, kept_by}
 use Rattle.world_store.specs.DefinitionRows.{table_rows}
 use Rattle.world_store.specs.LogRows.{in_flight_rows}
-use Rattle.stored_defs.specs.Reading.{RowFits}
-use Rattle.log_rows.specs.InFlight.{InFlightRow, in_flight_row, of_transaction, InFlightRowsStand, OpenChangesAreRows, OpenChangesAreStored}
-use Rattle.log_rows.specs.LongerTables.{log_table}
+use Rattle.world_store.specs.SpelledRows.{RowFits}
+use Rattle.stored_commits.specs.records.InFlight.{InFlightRow, in_flight_row, of_transaction, InFlightRowsStand, OpenChangesAreRows, OpenChangesAreStored}
+use Rattle.stored_commits.specs.records.LongerTables.{log_table}
 use Rattle.source_log.specs.Fitting.{has_short_rows, may_stand}
 use Rattle.source_log.specs.Rules.{flight_key, IsInFlight, HasTable, IsKeptChange}
 use Rattle.source_log.specs.Storing.{IsKept, Stores}

@@ -1,7 +1,7 @@
 -- Tables that are known from earlier changes: proofs.
 use Rattle.std.proofs.Common.{◌≡◌, ℕ, true, List, sym, ap, subst, ◌∙◌}
 use Rattle.std.specs.Prelude.{Option, Some, None}
-use Rattle.load_worlds.specs.laws.Servers.{same_name}
+use Rattle.repl_model.specs.laws.GrowingServers.{same_name}
 use Rattle.repl_types.specs.declared.area.Area.TheVariants as areas
 use Rattle.repl_types.specs.declared.record.Change.{Change}
 use Rattle.keep_core.specs.Contents.{Contents, Table}

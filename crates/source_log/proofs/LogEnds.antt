@@ -19,9 +19,9 @@ use Rattle.repl_records.specs.declared.source_side.Head.{Head}
 use Rattle.repl_model.specs.SoundLogs.{log_limit}
 use Rattle.rows_in_order.specs.laws.Before.{order}
 use Rattle.rows_in_order.specs.laws.Rising.{same_is, differ}
-use Rattle.log_rows.specs.LongerTables.{head_after}
-use Rattle.log_rows.specs.SourceTables.{with_effect}
-use Rattle.log_store.specs.LongerServers.{is_of_log}
+use Rattle.stored_commits.specs.records.LongerTables.{head_after}
+use Rattle.stored_commits.specs.records.SourceTables.{with_effect}
+use Rattle.stored_commits.specs.logs.LongerServers.{is_of_log}
 use Rattle.site_store.specs.laws.Damage.{adds_put, adds_remove}
 use Rattle.source_log.specs.Making.{all_made, with_made}
 use Rattle.source_log.specs.Reading.{with_dropped}

@@ -1,7 +1,6 @@
 -- Making a change at its table, and taking it back: proofs.
-use Rattle.std.proofs.Common.{◌≡◌, ℕ, Bool, true, false, cond, List, refl, sym, ap, subst, ◌∙◌}
+use Rattle.std.proofs.Common.{◌≡◌, ℕ, Bool, true, false, cond, List, refl, sym, ap, subst, ◌∙◌, arith}
 use Rattle.std.specs.Prelude.{Option, Some, None, ◌&&◌, ◌==◌}
-use Rattle.std.proofs.Common.{arith}
 use Rattle.std.proofs.lemmas.Bool.{eqb-true}
 use Rattle.std.proofs.lemmas.Bool.Decides.{nat_tests}
 use Rattle.rows_in_order.specs.laws.Before.{not_both}
@@ -17,7 +16,7 @@ use Rattle.rows_in_order.specs.laws.Written.{put_here}
 use Rattle.row_codec.specs.Spelling.{key_spelling, row_spelling}
 use Rattle.repl_definitions.specs.declared.defined.DefinedTable.{DefinedTable}
 use Rattle.repl_model.specs.Tables.{key_of, inverse}
-use Rattle.log_rows.specs.SourceTables.{with_effect}
+use Rattle.stored_commits.specs.records.SourceTables.{with_effect}
 use Rattle.source_log.specs.Making.{with_made}
 
 -- a table that is replaced twice

@@ -15,7 +15,7 @@ use Rattle.row_codec.specs.Spelling.{key_spelling}
 use Rattle.row_codec.specs.laws.Sizes.{key_size}
 use Rattle.repl_model.specs.Tables.{key_of, table_of, same_values}
 use Rattle.repl_model.specs.Applicable.{fits, fits_columns, change_fits, is_change_applicable}
-use Rattle.log_rows.specs.laws.StandingRows.{some_byte}
+use Rattle.stored_commits.specs.records.laws.StandingRows.{some_byte}
 use Rattle.source_log.specs.Fitting.{has_short_rows, may_stand, CanBeMade, RowMayStand}
 
 -- the key of a row that may stand in a table has the size of a key

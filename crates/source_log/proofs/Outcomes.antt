@@ -22,13 +22,14 @@ use Rattle.repl_records.specs.declared.source_side.Head.{Head}
 use Rattle.rows_in_order.specs.laws.Before.{not_both}
 use Rattle.rows_in_order.specs.laws.Written.{differ_numbers}
 use Rattle.repl_model.specs.Applicable.{fits_column, fits_columns, fits, change_fits, table_named, is_change_applicable, is_applicable}
-use Rattle.repl_model.specs.Rules.{all_places, are_among, may_be_key, TableKeepsRules}
+use Rattle.repl_model.specs.Rules.{all_places, may_be_key, TableKeepsRules}
+use Rattle.lists.specs.Lists.{are_among}
 use Rattle.repl_model.specs.SoundDefinitions.{column_limit}
 use Rattle.repl_model.specs.SoundLogs.{log_limit}
 use Rattle.repl_model.specs.Tables.{key_of, table_of, same_values}
 use Rattle.repl_model.specs.World.{Server, tables_of}
 use Rattle.world_store.specs.LogRows.{head_of}
-use Rattle.load_worlds.specs.laws.Members.{found_in}
+use Rattle.lists.specs.laws.Members.{found_in}
 use Rattle.source_log.specs.Fitting.{has_short_rows, may_stand}
 use Rattle.source_log.specs.Storing.{IsKept, Stores, outcome_of}
 use Rattle.source_log.specs.declared.outcome.Outcome.TheVariants as outcomes

@@ -22,9 +22,9 @@ use Rattle.repl_model.specs.SoundLogs.{log_limit}
 use Rattle.repl_model.specs.SourceAt.{unplaced}
 use Rattle.repl_model.specs.Tables.{Rows, table_of, after_change, after_changes}
 use Rattle.repl_model.specs.World.{Server}
-use Rattle.log_rows.specs.LongerTables.{log_table, LogGetsRow}
-use Rattle.log_rows.specs.SourceLogs.{SourceRowsStand, TablesAreFound}
-use Rattle.log_rows.specs.SourceTables.{with_effect, ChangeIsStored, RowsStayStanding, TypedChangesHaveRows}
+use Rattle.stored_commits.specs.records.LongerTables.{log_table, LogGetsRow}
+use Rattle.stored_commits.specs.records.SourceLogs.{SourceRowsStand, TablesAreFound}
+use Rattle.stored_commits.specs.records.SourceTables.{with_effect, ChangeIsStored, RowsStayStanding, TypedChangesHaveRows}
 use Rattle.source_log.specs.Making.{HasSource, SourceStands, IsOfServer, StepCanBeMade}
 use Rattle.source_log.specs.Rules.{HasTable}
 use Rattle.source_log.specs.Storing.{IsKept, Stores}

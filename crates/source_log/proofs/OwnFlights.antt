@@ -19,9 +19,9 @@ use Rattle.repl_model.specs.SourceAt.{unplaced}
 use Rattle.repl_model.specs.Tables.{after_changes}
 use Rattle.repl_model.specs.Units.{open_changes}
 use Rattle.repl_model.specs.World.{Server}
-use Rattle.load_worlds.specs.laws.Members.{In, in_second, in_filter, kept_by}
+use Rattle.lists.specs.laws.Members.{In, in_second, in_filter, kept_by}
 use Rattle.world_store.specs.LogRows.{in_flight_rows}
-use Rattle.log_rows.specs.InFlight.{InFlightRow, in_flight_row, of_transaction, in_flight_table, OpenChangesAreRows}
+use Rattle.stored_commits.specs.records.InFlight.{InFlightRow, in_flight_row, of_transaction, in_flight_table, OpenChangesAreRows}
 use Rattle.source_log.specs.Storing.{CommitMakesChanges}
 use Rattle.source_log.specs.Units.{own_change, own_commit, unit_records, ChangeOpens, CommitCloses, ChangeLeavesRows, committed}
 use Rattle.source_log.proofs.Extending.{some_none}

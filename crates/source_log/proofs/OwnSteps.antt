@@ -20,10 +20,10 @@ use Rattle.repl_model.specs.Tables.{table_of}
 use Rattle.repl_model.specs.Units.{At, positions as places, last_end, change_of, open_changes}
 use Rattle.repl_model.specs.SourceAt.{unplaced}
 use Rattle.repl_model.specs.World.{Server}
+use Rattle.repl_model.specs.laws.GrowingServers.{same_name}
 use Rattle.world_store.specs.LogRows.{in_flight_rows}
-use Rattle.stored_defs.specs.laws.Rows.{text_is}
-use Rattle.log_rows.specs.InFlight.{InFlightRowsStand, OpenPositionsAreRows, OpenChangesAreStored}
-use Rattle.log_rows.specs.LongerTables.{log_table}
+use Rattle.stored_commits.specs.records.InFlight.{InFlightRowsStand, OpenPositionsAreRows, OpenChangesAreStored}
+use Rattle.stored_commits.specs.records.LongerTables.{log_table}
 use Rattle.source_log.specs.Fitting.{CanBeMade}
 use Rattle.source_log.specs.Making.{StepCanBeMade, AreSteps, IsOfServer, changes_of}
 use Rattle.source_log.specs.Reading.{ArePositions}
@@ -66,7 +66,7 @@ open_typed tx log all =
 
 -- and so is the record of a change that can be made at a stored table
 made_typed : (tx : ℕ) (table : DefinedTable) (change : Change) → Is32 tx → IsDefinedTable table → CanBeMade table.def change → IsLogRecord (records.Change tx change)
-made_typed tx table change ft fits can = by_kind change (subst IsName (sym (text_is (table_of change) table.def.name (parts_of table.def change can.stands).own)) fits.1.0) can
+made_typed tx table change ft fits can = by_kind change (subst IsName (sym (same_name (table_of change) table.def.name (parts_of table.def change can.stands).own)) fits.1.0) can
   where
     by_kind : (change : Change) → IsName (table_of change) → CanBeMade table.def change → IsLogRecord (records.Change tx change)
     by_kind (Insert name row) named can = (ft, named, can.rows)

@@ -14,18 +14,19 @@ use Rattle.repl_definitions.specs.declared.defined.DefinedTable.{DefinedTable}
 use Rattle.rows_in_order.specs.Rows.{table_from_rows}
 use Rattle.rows_in_order.specs.laws.Before.{not_both}
 use Rattle.repl_model.specs.Applicable.{table_named}
-use Rattle.repl_model.specs.Rules.{all_differ, TableKeepsRules}
+use Rattle.repl_model.specs.Rules.{TableKeepsRules}
+use Rattle.lists.specs.Lists.{all_differ}
 use Rattle.repl_model.specs.SoundDefinitions.{KeepsTable, column_limit}
 use Rattle.repl_model.specs.World.{ServerTable, Server, server_table, tables_of}
 use Rattle.world_store.specs.DefinitionRows.{table_rows}
-use Rattle.load_worlds.specs.laws.Entries.{at_place_in}
-use Rattle.load_worlds.specs.laws.Members.{at_one, first_alone, find_image}
-use Rattle.load_worlds.specs.laws.Servers.{name_itself}
-use Rattle.log_rows.specs.Applying.{AllAreFound}
-use Rattle.log_rows.specs.SourceLogs.{TablesAreFound}
-use Rattle.stored_defs.specs.Reading.{RowFits}
+use Rattle.lists.specs.laws.Numbered.{at_place_in}
+use Rattle.lists.specs.laws.Members.{at_one, first_alone, find_image}
+use Rattle.repl_model.specs.laws.GrowingServers.{name_itself}
+use Rattle.stored_commits.specs.records.Applying.{AllAreFound}
+use Rattle.stored_commits.specs.records.SourceLogs.{TablesAreFound}
+use Rattle.world_store.specs.SpelledRows.{RowFits}
 use Rattle.stored_defs.specs.laws.NamedTables.{table_stands, table_numbered}
-use Rattle.stored_defs.specs.laws.Rows.{table_rows_are}
+use Rattle.world_store.specs.laws.DefinitionRows.{table_rows_are}
 use Rattle.source_log.specs.Making.{TablesApart}
 use Rattle.source_log.specs.Storing.{IsKept, Stores}
 

@@ -10,7 +10,7 @@ use Rattle.repl_types.specs.declared.record.LogRecord.TheVariants as records
 use Rattle.repl_types.specs.declared.unit.Placed.{Placed}
 use Rattle.repl_model.specs.SoundLogs.{is_of_tx, is_own_change, is_own_abort, begins_with_tx, own_units_are_whole}
 use Rattle.repl_model.specs.Units.{At, positions, ends, last_end, change_of, open_changes}
-use Rattle.load_worlds.specs.laws.Members.{In, in_filter, in_filter_map}
+use Rattle.lists.specs.laws.Members.{In, in_filter, in_filter_map}
 
 -- ---- the last end of the program's transaction
 

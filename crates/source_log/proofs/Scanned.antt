@@ -9,7 +9,7 @@ use Rattle.repl_types.specs.Value.{Values}
 use Rattle.repl_types.specs.declared.area.Area.TheVariants as areas
 use Rattle.repl_types.specs.declared.table.TableDef.{TableDef}
 use Rattle.repl_types.specs.laws.Lists.{all_weaker, filter_none}
-use Rattle.faults.specs.declared.fault.Fault.{Fault}
+use Rattle.repl_types.specs.declared.fault.Fault.{Fault}
 use Rattle.keep_core.specs.Kept.{Kept}
 use Rattle.keep_core.specs.Contents.{Contents, Table, IsNextKey, IsLastKey}
 use Rattle.row_codec.specs.Spelling.{IsKey, IsRow, key_spelling, row_spelling}
@@ -19,28 +19,30 @@ use Rattle.rows_in_order.specs.Rows.{table_from_rows, rows_after, is_before, IsR
 use Rattle.rows_in_order.specs.laws.After.{after_all, after_first, after_next}
 use Rattle.rows_in_order.specs.laws.Fitting.{fits_each, fits_next}
 use Rattle.rows_in_order.specs.laws.Rising.{no_row}
-use Rattle.repl_model.specs.Rules.{all_places, are_among, may_be_key}
+use Rattle.repl_model.specs.Rules.{all_places, may_be_key}
+use Rattle.lists.specs.Lists.{are_among}
 use Rattle.repl_model.specs.SoundDefinitions.{KeepsTable}
 use Rattle.repl_model.specs.SourceAt.{source_at}
 use Rattle.repl_model.specs.Tables.{Rows, key_of}
 use Rattle.repl_model.specs.Units.{last_commit}
 use Rattle.repl_model.specs.World.{ServerTable, Server}
-use Rattle.load_worlds.specs.laws.Entries.{at_place_in}
-use Rattle.load_worlds.specs.laws.Members.{at_one}
+use Rattle.lists.specs.laws.Numbered.{at_place_in}
+use Rattle.lists.specs.laws.Members.{at_one}
 use Rattle.world_store.specs.LogRows.{source_rows}
 use Rattle.world_store.specs.Tables.{no_rows}
-use Rattle.log_rows.specs.SourceLogs.{SourceRowsStand}
-use Rattle.log_rows.specs.SourceTables.{StandsUnderKey, RowsStand, KeysOfRowsFit}
-use Rattle.log_rows.specs.laws.StandingRows.{rows_apart, table_of_entries, standing_fit, standing_rise, standing_some}
+use Rattle.stored_commits.specs.records.SourceLogs.{SourceRowsStand}
+use Rattle.stored_commits.specs.records.SourceTables.{StandsUnderKey, RowsStand, KeysOfRowsFit}
+use Rattle.stored_commits.specs.records.laws.StandingRows.{rows_apart, table_of_entries, standing_fit, standing_rise, standing_some}
 use Rattle.site_store.specs.declared.sites.Sites.{Sites}
 use Rattle.site_store.specs.Calls.{reads_of_one, AtServer, Blames, Fails}
 use Rattle.site_store.specs.Damage.{Rules, IsUndamaged, IsSpelt, IsNoDamage}
 use Rattle.site_store.specs.Records.{after_key, Misread, MisspeltNext}
 use Rattle.site_store.specs.Views.{sees}
 use Rattle.site_store.specs.laws.Damage.{rows_spelt, spelt_undamaged, no_damage}
-use Rattle.server_steps.specs.Calls.{Stops}
-use Rattle.server_steps.specs.laws.Damage.{next_breaks}
-use Rattle.stored_defs.specs.Reading.{RowFits, table_rules}
+use Rattle.site_store.specs.one_server.Calls.{Stops}
+use Rattle.site_store.specs.one_server.laws.Damage.{next_breaks}
+use Rattle.stored_defs.specs.Reading.{table_rules}
+use Rattle.world_store.specs.SpelledRows.{RowFits}
 use Rattle.source_log.specs.Scanning.{HasCommitted, rows_left, IsFirstLeft, ShowsBadRow}
 use Rattle.source_log.proofs.OwnTables.{own_tables_keep}
 

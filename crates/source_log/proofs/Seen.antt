@@ -1,23 +1,21 @@
 -- A server that is seen to have what a sound world calls for: proofs.
 use Rattle.std.proofs.Common.{◌≡◌, ℕ, [], sym, subst}
 use Rattle.std.specs.Prelude.{Option, Some, IfSome}
-use Rattle.faults.specs.declared.fault.Fault.{Fault}
+use Rattle.repl_types.specs.declared.fault.Fault.{Fault}
 use Rattle.keep_core.specs.Contents.{Contents}
 use Rattle.keep_core.specs.Kept.{Kept}
 use Rattle.repl_records.specs.SourceSide.{IsHead}
 use Rattle.repl_records.specs.declared.source_side.Head.{Head}
-use Rattle.repl_model.specs.Sound.{empty_server}
-use Rattle.repl_model.specs.World.{Server, World}
-use Rattle.load_worlds.specs.laws.Members.{In}
-use Rattle.log_rows.specs.InFlight.{InFlightRowsStand, OpenChangesAreRows, OpenChangesAreStored}
-use Rattle.log_rows.specs.LongerTables.{HeadFits}
-use Rattle.log_rows.specs.SourceLogs.{SourceRowsStand}
+use Rattle.repl_model.specs.World.{empty_server, Server, World, server_in}
+use Rattle.lists.specs.laws.Members.{In}
+use Rattle.stored_commits.specs.records.InFlight.{InFlightRowsStand, OpenChangesAreRows, OpenChangesAreStored}
+use Rattle.stored_commits.specs.records.LongerTables.{HeadFits}
+use Rattle.stored_commits.specs.records.SourceLogs.{SourceRowsStand}
 use Rattle.site_store.specs.declared.sites.Sites.{Sites}
 use Rattle.site_store.specs.Calls.{Blames}
 use Rattle.site_store.specs.Damage.{IsUndamaged, IsNoDamage}
 use Rattle.site_store.specs.Views.{sees}
 use Rattle.site_store.specs.laws.Damage.{no_damage}
-use Rattle.stored_defs.specs.Known.{server_in}
 use Rattle.world_store.specs.LogRows.{head_of}
 use Rattle.source_log.specs.Rules.{all_rules, EndIs, ShowsDamage}
 use Rattle.source_log.specs.Scanning.{IsSeenAs}

@@ -7,8 +7,8 @@ use Rattle.repl_types.specs.declared.record.Change.{Change}
 use Rattle.repl_types.specs.declared.record.LogRecord.{LogRecord}
 use Rattle.repl_types.specs.declared.record.LogRecord.TheVariants as records
 use Rattle.repl_types.specs.declared.status.DamageCause.TheVariants as causes
-use Rattle.faults.specs.declared.fault.Fault.{Fault}
-use Rattle.faults.specs.declared.fault.Fault.TheVariants as faults
+use Rattle.repl_types.specs.declared.fault.Fault.{Fault}
+use Rattle.repl_types.specs.declared.fault.Fault.TheVariants as faults
 use Rattle.keep_core.specs.Contents.{Contents}
 use Rattle.keep_core.specs.Kept.{Kept}
 use Rattle.rows_in_order.specs.laws.Before.{not_both}
@@ -26,9 +26,9 @@ use Rattle.site_store.specs.declared.sites.Sites.{Sites}
 use Rattle.site_store.specs.Records.{RowIs}
 use Rattle.site_store.specs.Views.{sees}
 use Rattle.site_store.specs.Calls.{no_access, Reads, ClosesAll, IsMemoryOr}
-use Rattle.server_steps.specs.Calls.{Breaks}
-use Rattle.server_steps.specs.laws.Damage.{unfit_breaks}
-use Rattle.stored_defs.specs.laws.Passing.{if_seen, if_both_seen}
+use Rattle.site_store.specs.one_server.Calls.{Breaks}
+use Rattle.site_store.specs.one_server.laws.Damage.{unfit_breaks}
+use Rattle.site_store.specs.laws.Passing.{if_seen, if_both_seen}
 use Rattle.source_log.specs.Fitting.{may_stand}
 use Rattle.source_log.specs.Rules.{rules, flight_key, IsInFlight, IsLogged, HasTable, IsKeptChange}
 use Rattle.source_log.proofs.Extending.{some_none, some_is}

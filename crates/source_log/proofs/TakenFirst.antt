@@ -7,7 +7,7 @@ use Rattle.std.proofs.lemmas.List.{append_assoc, append-nil, take_more, drop_mor
 use Rattle.repl_types.specs.declared.area.Area.{Area}
 use Rattle.repl_types.specs.declared.area.Area.TheVariants as areas
 use Rattle.repl_types.specs.declared.record.LogRecord.{LogRecord}
-use Rattle.faults.specs.declared.call_errors.AppendError.TheVariants as errors
+use Rattle.repl_types.specs.declared.call_errors.AppendError.TheVariants as errors
 use Rattle.keep_core.specs.Contents.{Contents, IsLastKey}
 use Rattle.row_codec.specs.Spelling.{b64}
 use Rattle.repl_records.specs.declared.source_side.Head.{Head}
@@ -15,10 +15,10 @@ use Rattle.repl_model.specs.Applicable.{is_applicable}
 use Rattle.repl_model.specs.World.{Server, tables_of}
 use Rattle.repl_model.specs.SoundLogs.{log_limit}
 use Rattle.repl_model.specs.Longer.{with_more}
-use Rattle.log_rows.specs.LongerTables.{HeadGoesOn, head_after}
-use Rattle.log_store.specs.LongerServers.{is_of_log}
-use Rattle.log_worlds.specs.LongerLogs.{CanFollow, AllFollow}
-use Rattle.log_worlds.specs.StaysSound.{LogStaysSound}
+use Rattle.stored_commits.specs.records.LongerTables.{HeadGoesOn, head_after}
+use Rattle.stored_commits.specs.logs.LongerServers.{is_of_log}
+use Rattle.world_commits.specs.logs.LongerLogs.{CanFollow, AllFollow}
+use Rattle.world_commits.specs.logs.StaysSound.{LogStaysSound}
 use Rattle.world_store.specs.LogRows.{head_of}
 use Rattle.source_log.specs.Appending.{is_taken, taken, error_at, stop_at, TakesFirst}
 use Rattle.source_log.specs.Storing.{IsKept, Stores, outcome_of, Extends, TakesRecord, MayAppend}

@@ -7,14 +7,13 @@ use Rattle.std.specs.Str.{bytes_eq}
 use Rattle.std.proofs.lemmas.Bool.{eqb-true, eq-eqb}
 use Rattle.rows_in_order.specs.laws.Before.{not_both}
 use Rattle.repl_types.specs.laws.Lists.{all_weaker}
-use Rattle.stored_defs.specs.laws.Rows.{text_is}
 use Rattle.stored_defs.specs.laws.Standing.{all_at_place}
 use Rattle.repl_model.specs.Applicable.{table_named}
 use Rattle.repl_model.specs.World.{ServerTable, Server, tables_of}
 use Rattle.world_store.specs.Tables.{no_rows}
-use Rattle.log_rows.specs.Applying.{EmptyListApplies, FirstThenOthersApply, AppliesToItsOwn, applies_to_each, apply_to_each}
-use Rattle.log_rows.specs.SourceTables.{RowsStand, rows_table, ChangeIsStored, RowsStayStanding, with_effect}
-use Rattle.source_log.specs.Making.{StepCanBeMade, HasSource, SourceStands, IsOfServer, TablesApart}
+use Rattle.stored_commits.specs.records.Applying.{EmptyListApplies, FirstThenOthersApply, AppliesToItsOwn, applies_to_each, apply_to_each}
+use Rattle.stored_commits.specs.records.SourceTables.{RowsStand, rows_table, ChangeIsStored, RowsStayStanding, with_effect}
+use Rattle.source_log.specs.Making.{StepCanBeMade, HasSource, SourceStands, IsOfServer, TablesApart, Tells, MakesOne, MakesFirst, with_made, all_made, all_unmade, changes_of}
 use Rattle.source_log.proofs.MayStand.{parts_of}
 use Rattle.site_store.specs.Damage.{ShownBefore}
 use Rattle.source_log.specs.Rules.{rules}
@@ -27,7 +26,7 @@ use Rattle.repl_types.specs.declared.record.Change.{Change}
 use Rattle.repl_types.specs.declared.table.TableDef.{TableDef}
 use Rattle.keep_core.specs.Contents.{Contents, Table}
 use Rattle.repl_model.specs.Tables.{Rows, table_of, inverse, applies_here, after_change, after_changes}
-use Rattle.source_log.specs.Making.{Tells, MakesOne, MakesFirst, with_made, all_made, all_unmade, changes_of}
+use Rattle.repl_model.specs.laws.GrowingServers.{same_name}
 use Rattle.source_log.specs.declared.step.Step.{Step}
 
 -- one more is made last
@@ -122,7 +121,7 @@ module _ (stored : ChangeIsStored) (stays : RowsStayStanding) (server : Server) 
       elsewhere : (t : ServerTable) → slice_get server.tables n ≡ Some t → (num == n) ≡ false → (b : Bool) → bytes_eq (table_of change) t.def.name ≡ b → bytes_eq (table_of change) t.def.name ≡ false
       elsewhere t at ne false e = e
       elsewhere t at ne true e =
-          let same : t.def ≡ def = some_inner (sym (found_at server n t apart at) ∙ ap (λ (name : List ℕ). table_named name (tables_of server)) (sym (text_is (table_of change) t.def.name e)) ∙ of.named) in
+          let same : t.def ≡ def = some_inner (sym (found_at server n t apart at) ∙ ap (λ (name : List ℕ). table_named name (tables_of server)) (sym (same_name (table_of change) t.def.name e)) ∙ of.named) in
           absurd (not_both (num == n) (eq-eqb num n (apart.apart num n of.table t of.at_number at (of.def ∙ sym same))) ne)
 
       other : (num == n) ≡ false → (o : Option ServerTable) → slice_get server.tables n ≡ o → option_map_or (λ t. rows_table (rows t.def)) o no_rows ≡ now o

@@ -5,6 +5,7 @@ use Rattle.std.specs.FinMap.{entries}
 use Rattle.std.specs.List.{AllByRecursion}
 use Rattle.std.specs.Option.{option_map_or, option_or}
 use Rattle.std.specs.declared.cmp.Ordering.TheVariants.{Less}
+use Rattle.lists.specs.laws.Members.{each_image}
 use Rattle.repl_types.specs.Bytes.{bytes_cmp}
 use Rattle.repl_types.specs.laws.Lists.{all_weaker}
 use Rattle.repl_types.specs.declared.area.Area.{Area}
@@ -33,12 +34,12 @@ use Rattle.site_store.specs.laws.Damage.{rows_spelt}
 use Rattle.world_store.specs.DefinitionRows.{table_rows}
 use Rattle.world_store.specs.LogRows.{log_rows, source_rows, in_flight_rows, head_of, head_rows}
 use Rattle.world_store.specs.Tables.{no_rows, first_table}
-use Rattle.stored_defs.specs.Reading.{RowFits}
-use Rattle.stored_defs.specs.laws.Lists.{all_map, all_numbered}
-use Rattle.log_rows.specs.InFlight.{InFlightRow, InFlightRowsStand, OpenChangesAreRows, OpenChangesAreStored}
-use Rattle.log_rows.specs.LongerTables.{HeadFits}
-use Rattle.log_rows.specs.SourceLogs.{SourceRowsStand}
-use Rattle.log_rows.specs.SourceTables.{StandsUnderKey, stored_row}
+use Rattle.world_store.specs.SpelledRows.{RowFits}
+use Rattle.lists.specs.laws.Places.{all_numbered}
+use Rattle.stored_commits.specs.records.InFlight.{InFlightRow, InFlightRowsStand, OpenChangesAreRows, OpenChangesAreStored}
+use Rattle.stored_commits.specs.records.LongerTables.{HeadFits}
+use Rattle.stored_commits.specs.records.SourceLogs.{SourceRowsStand}
+use Rattle.stored_commits.specs.records.SourceTables.{StandsUnderKey, stored_row}
 use Rattle.source_log.specs.Rules.{all_rules, is_called_for, is_stray, is_past_end, IsInFlight, IsKeptChange}
 use Rattle.source_log.specs.Storing.{IsKept, Stores, StoresWhole, MayBeLogged}
 use Rattle.source_log.proofs.Extending.{some_none, some_is}
@@ -59,7 +60,7 @@ source_spelt : SourceRowsStand → (server : Server) (def : TableDef) (n : ℕ) 
 source_spelt stand server def n sound =
     let spelt = RowSpelt areas.Source n key_spelling source_row_spelling in
     let rows = entries (source_at def server.log (last_commit server.log)) in
-    all_map spelt stored_row rows (all_weaker (StandsUnderKey def) (λ e. spelt (stored_row e)) rows (λ e stands. (tt, (record { row = e.1 }, stands.row, refl))) (stand server def sound))
+    each_image spelt stored_row rows (all_weaker (StandsUnderKey def) (λ e. spelt (stored_row e)) rows (λ e stands. (tt, (record { row = e.1 }, stands.row, refl))) (stand server def sound))
 
 -- of each of its changes in flight
 in_flight_spelt : InFlightRowsStand → (server : Server) → LogIsSound server → AllByRecursion (RowSpelt areas.Inflight 0 in_flight_key_spelling in_flight_spelling) (in_flight_rows server)

@@ -7,7 +7,7 @@ use Rattle.repl_types.specs.declared.area.Area.TheVariants as areas
 use Rattle.repl_types.specs.declared.status.DamageCause.TheVariants as causes
 use Rattle.repl_types.specs.declared.unit.Placed.{Placed}
 use Rattle.repl_types.specs.declared.unit.Unit.{Unit as LogUnit}
-use Rattle.faults.specs.declared.fault.Fault.{Fault}
+use Rattle.repl_types.specs.declared.fault.Fault.{Fault}
 use Rattle.keep_core.specs.Contents.{Contents}
 use Rattle.keep_core.specs.Kept.{Kept}
 use Rattle.repl_definitions.specs.Defined.{defined_table_spelling, IsDefinedTable}
@@ -17,15 +17,15 @@ use Rattle.row_codec.specs.laws.Ones.{one_whole}
 use Rattle.rows_in_order.specs.laws.Before.{not_both}
 use Rattle.repl_model.specs.Applicable.{is_signal, is_change_applicable}
 use Rattle.repl_model.specs.World.{Server, tables_of}
-use Rattle.load_worlds.specs.laws.Members.{In, at_one}
-use Rattle.log_rows.specs.InFlight.{InFlightRowsStand, OpenChangesAreRows, OpenChangesAreStored}
-use Rattle.log_rows.specs.LongerTables.{HeadFits}
-use Rattle.log_rows.specs.SourceLogs.{SourceRowsStand}
+use Rattle.lists.specs.laws.Members.{In, at_one}
+use Rattle.stored_commits.specs.records.InFlight.{InFlightRowsStand, OpenChangesAreRows, OpenChangesAreStored}
+use Rattle.stored_commits.specs.records.LongerTables.{HeadFits}
+use Rattle.stored_commits.specs.records.SourceLogs.{SourceRowsStand}
 use Rattle.site_store.specs.declared.sites.Sites.{Sites}
 use Rattle.site_store.specs.Damage.{Rules, joined, IsUndamaged, IsSpelt, IsNoDamage}
 use Rattle.site_store.specs.Views.{sees}
 use Rattle.site_store.specs.laws.Damage.{no_damage}
-use Rattle.server_steps.specs.Calls.{Stops}
+use Rattle.site_store.specs.one_server.Calls.{Stops}
 use Rattle.source_log.specs.Fitting.{may_stand}
 use Rattle.source_log.specs.Rules.{all_rules, HasTable}
 use Rattle.source_log.specs.Storing.{StoresWhole}

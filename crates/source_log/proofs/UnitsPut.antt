@@ -25,9 +25,9 @@ use Rattle.repl_model.specs.Units.{open_changes}
 use Rattle.repl_model.specs.World.{ServerTable, Server}
 use Rattle.world_store.specs.LogRows.{head_of}
 use Rattle.world_store.specs.Tables.{no_rows, source_table}
-use Rattle.log_rows.specs.InFlight.{in_flight_table, OpenChangesAreRows}
-use Rattle.log_rows.specs.LongerTables.{log_table, LogGetsRow, HeadGoesOn, HeadFits}
-use Rattle.log_rows.specs.SourceTables.{rows_table}
+use Rattle.stored_commits.specs.records.InFlight.{in_flight_table, OpenChangesAreRows}
+use Rattle.stored_commits.specs.records.LongerTables.{log_table, LogGetsRow, HeadGoesOn, HeadFits}
+use Rattle.stored_commits.specs.records.SourceTables.{rows_table}
 use Rattle.site_store.specs.Records.{or_first}
 use Rattle.source_log.specs.Rules.{EndIs}
 use Rattle.source_log.specs.Storing.{CommitMakesChanges, IsKept, Stores}

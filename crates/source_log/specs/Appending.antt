@@ -4,29 +4,28 @@ use Rattle.repl_types.specs.declared.area.Area.{Area}
 use Rattle.repl_types.specs.declared.area.Area.TheVariants as areas
 use Rattle.repl_types.specs.declared.record.LogRecord.{LogRecord}
 use Rattle.repl_types.specs.declared.status.DamageCause.{DamageCause}
-use Rattle.faults.specs.declared.fault.Fault.{Fault}
-use Rattle.faults.specs.declared.fault.Fault.TheVariants as faults
-use Rattle.faults.specs.declared.call_errors.AppendError.{AppendError}
-use Rattle.faults.specs.declared.call_errors.AppendError.TheVariants as errors
+use Rattle.repl_types.specs.declared.fault.Fault.{Fault}
+use Rattle.repl_types.specs.declared.fault.Fault.TheVariants as faults
+use Rattle.repl_types.specs.declared.call_errors.AppendError.{AppendError}
+use Rattle.repl_types.specs.declared.call_errors.AppendError.TheVariants as errors
 use Rattle.keep_core.specs.Contents.{Contents, put_at}
 use Rattle.keep_core.specs.Kept.{Kept}
 use Rattle.repl_records.specs.RecordKeys.{single_spelling}
 use Rattle.repl_records.specs.SourceSide.{head_spelling, IsHead}
 use Rattle.repl_records.specs.declared.source_side.Head.{Head}
 use Rattle.repl_model.specs.Applicable.{is_applicable}
-use Rattle.repl_model.specs.World.{Server, World, tables_of}
+use Rattle.repl_model.specs.World.{Server, World, tables_of, server_in}
 use Rattle.repl_model.specs.SoundLogs.{log_limit}
 use Rattle.repl_model.specs.Longer.{with_more, grown}
 use Rattle.world_store.specs.LogRows.{head_of}
 use Rattle.world_store.specs.Stands.{Stands}
-use Rattle.log_store.specs.LongerServers.{is_of_log}
+use Rattle.stored_commits.specs.logs.LongerServers.{is_of_log}
 use Rattle.site_store.specs.declared.sites.Sites.{Sites}
 use Rattle.site_store.specs.Servers.{AllClosed}
 use Rattle.site_store.specs.Views.{names, held, work, sees}
 use Rattle.site_store.specs.Calls.{Bounds, Passes, Commits, Blames, HoldsOrInDoubt}
 use Rattle.site_store.specs.Damage.{IsNoDamage}
-use Rattle.server_steps.specs.Calls.{GoesOn}
-use Rattle.stored_defs.specs.Known.{server_in}
+use Rattle.site_store.specs.one_server.Calls.{GoesOn}
 use Rattle.source_log.specs.Rules.{EndIs}
 use Rattle.source_log.specs.Storing.{IsKept, Stores}
 use Rattle.source_log.specs.declared.outcome.Outcome.{Outcome}

@@ -7,7 +7,7 @@ use Rattle.repl_types.specs.declared.record.Change.TheVariants.{Insert, Update, 
 use Rattle.repl_types.specs.declared.table.TableDef.{TableDef}
 use Rattle.row_codec.specs.Spelling.{IsRow}
 use Rattle.repl_model.specs.Applicable.{fits, is_change_applicable}
-use Rattle.log_rows.specs.SourceTables.{HasRows}
+use Rattle.stored_commits.specs.records.SourceTables.{HasRows}
 
 -- each row of a change has at most 64 values
 abbrev pub has_short_rows : Change → Bool

@@ -11,8 +11,8 @@ use Rattle.repl_model.specs.Tables.{Rows, table_of, inverse, applies_here}
 use Rattle.repl_model.specs.Applicable.{table_named}
 use Rattle.repl_model.specs.World.{ServerTable, Server, tables_of}
 use Rattle.world_store.specs.Tables.{no_rows}
-use Rattle.log_rows.specs.Applying.{AllAreFound, apply_to_each}
-use Rattle.log_rows.specs.SourceTables.{rows_table, RowsStand, with_effect}
+use Rattle.stored_commits.specs.records.Applying.{AllAreFound, apply_to_each}
+use Rattle.stored_commits.specs.records.SourceTables.{rows_table, RowsStand, with_effect}
 use Rattle.source_log.specs.Fitting.{CanBeMade}
 use Rattle.source_log.specs.Rules.{HasTable, IsLogged}
 use Rattle.source_log.specs.declared.outcome.Outcome.{Outcome}

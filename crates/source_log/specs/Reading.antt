@@ -12,7 +12,7 @@ use Rattle.repl_records.specs.RecordKeys.{in_flight_key_spelling}
 use Rattle.repl_records.specs.SourceSide.{source_row_spelling, IsSourceRow, in_flight_spelling}
 use Rattle.repl_records.specs.declared.source_side.SourceRow.{SourceRow}
 use Rattle.repl_model.specs.Tables.{key_of, same_values}
-use Rattle.log_rows.specs.InFlight.{InFlightRow, of_transaction, AreInFlight}
+use Rattle.stored_commits.specs.records.InFlight.{InFlightRow, of_transaction, AreInFlight}
 use Rattle.source_log.specs.Rules.{flight_key, IsInFlight}
 
 -- This is the row that a table has at a key, if there is one.

@@ -8,7 +8,7 @@ use Rattle.repl_types.specs.declared.area.Area.TheVariants as areas
 use Rattle.repl_types.specs.declared.record.Change.{Change}
 use Rattle.repl_types.specs.declared.record.LogRecord.TheVariants as records
 use Rattle.repl_types.specs.declared.status.DamageCause.{DamageCause}
-use Rattle.faults.specs.declared.fault.Fault.{Fault}
+use Rattle.repl_types.specs.declared.fault.Fault.{Fault}
 use Rattle.keep_core.specs.Contents.{Contents}
 use Rattle.keep_core.specs.Kept.{Kept}
 use Rattle.row_codec.specs.LogRecords.{IsLogRecord, log_spelling}
@@ -24,8 +24,8 @@ use Rattle.repl_model.specs.Tables.{table_of}
 use Rattle.site_store.specs.declared.sites.Sites.{Sites}
 use Rattle.site_store.specs.Damage.{Rules, Damages}
 use Rattle.site_store.specs.Records.{StateIs}
-use Rattle.server_steps.specs.Calls.{Breaks}
-use Rattle.stored_defs.specs.Reading.{Spells}
+use Rattle.site_store.specs.one_server.Calls.{Breaks}
+use Rattle.world_store.specs.SpelledRows.{Spells}
 use Rattle.source_log.specs.Fitting.{may_stand}
 
 -- ---- what may stand there

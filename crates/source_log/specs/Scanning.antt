@@ -15,14 +15,13 @@ use Rattle.rows_in_order.specs.Rows.{rows_after}
 use Rattle.repl_model.specs.Tables.{Rows, key_of}
 use Rattle.repl_model.specs.Units.{last_commit}
 use Rattle.repl_model.specs.SourceAt.{source_at}
-use Rattle.repl_model.specs.World.{ServerTable, Server, World}
+use Rattle.repl_model.specs.World.{ServerTable, Server, World, server_in}
 use Rattle.repl_model.specs.Sound.{IsSound}
 use Rattle.world_store.specs.Stands.{Reveals}
 use Rattle.world_store.specs.Tables.{source_table}
 use Rattle.site_store.specs.declared.sites.Sites.{Sites}
 use Rattle.site_store.specs.Damage.{Damages}
 use Rattle.site_store.specs.Views.{sees}
-use Rattle.stored_defs.specs.Known.{server_in}
 use Rattle.stored_defs.specs.Reading.{table_rules}
 use Rattle.source_log.specs.Storing.{IsKept}
 

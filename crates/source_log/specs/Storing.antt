@@ -27,11 +27,11 @@ use Rattle.world_store.specs.DefinitionRows.{table_rows}
 use Rattle.world_store.specs.LogRows.{head_of}
 use Rattle.world_store.specs.Stands.{shown}
 use Rattle.world_store.specs.Tables.{source_table}
-use Rattle.log_store.specs.LongerServers.{is_of_log}
-use Rattle.log_rows.specs.InFlight.{in_flight_table}
-use Rattle.log_rows.specs.LongerTables.{log_table, head_after, head_table}
+use Rattle.stored_commits.specs.logs.LongerServers.{is_of_log}
+use Rattle.stored_commits.specs.records.InFlight.{in_flight_table}
+use Rattle.stored_commits.specs.records.LongerTables.{log_table, head_after, head_table}
 use Rattle.site_store.specs.Damage.{AddsOnlySpelt}
-use Rattle.log_worlds.specs.LongerLogs.{is_users, IsEarly}
+use Rattle.world_commits.specs.logs.LongerLogs.{is_users, IsEarly}
 use Rattle.source_log.specs.Rules.{rules, flight_key, HasTable, IsKnown, IsKeptChange}
 use Rattle.source_log.specs.declared.outcome.Outcome.{Outcome}
 use Rattle.source_log.specs.declared.outcome.Outcome.TheVariants as outcomes

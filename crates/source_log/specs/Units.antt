@@ -12,8 +12,8 @@ use Rattle.repl_types.specs.declared.table.TableDef.{TableDef}
 use Rattle.repl_types.specs.declared.unit.Placed.{Placed}
 use Rattle.repl_types.specs.declared.unit.Unit.{Unit}
 use Rattle.repl_types.specs.declared.unit.UnitHead.{UnitHead}
-use Rattle.faults.specs.declared.call_errors.AppendError.{AppendError}
-use Rattle.faults.specs.declared.call_errors.AppendError.TheVariants as errors
+use Rattle.repl_types.specs.declared.call_errors.AppendError.{AppendError}
+use Rattle.repl_types.specs.declared.call_errors.AppendError.TheVariants as errors
 use Rattle.keep_core.specs.Contents.{Contents, set_key, put_at}
 use Rattle.keep_core.specs.Kept.{Kept}
 use Rattle.row_codec.specs.LogRecords.{IsLogRecord, HasLogSpelling, log_spelling}
@@ -30,16 +30,16 @@ use Rattle.repl_model.specs.SourceAt.{unplaced, source_at}
 use Rattle.repl_model.specs.Tables.{Rows, table_of, after_changes}
 use Rattle.repl_model.specs.Units.{open_changes, last_commit}
 use Rattle.repl_model.specs.World.{Server, tables_of}
-use Rattle.load_worlds.specs.laws.Members.{In}
+use Rattle.lists.specs.laws.Members.{In}
 use Rattle.world_store.specs.LogRows.{head_of}
-use Rattle.log_rows.specs.LongerTables.{log_table}
-use Rattle.log_store.specs.LongerServers.{is_of_log}
+use Rattle.stored_commits.specs.records.LongerTables.{log_table}
+use Rattle.stored_commits.specs.logs.LongerServers.{is_of_log}
 use Rattle.site_store.specs.declared.sites.Sites.{Sites}
 use Rattle.site_store.specs.Damage.{Rules, joined, Damages, IsNoDamage}
 use Rattle.site_store.specs.Servers.{AllClosed}
 use Rattle.site_store.specs.Views.{work}
-use Rattle.server_steps.specs.Calls.{GoesOn, Stops}
-use Rattle.stored_defs.specs.Reading.{Spells}
+use Rattle.site_store.specs.one_server.Calls.{GoesOn, Stops}
+use Rattle.world_store.specs.SpelledRows.{Spells}
 use Rattle.source_log.specs.Fitting.{may_stand}
 use Rattle.source_log.specs.Making.{HasSource, SourceStands, with_made}
 use Rattle.source_log.specs.Rules.{all_rules, EndIs, HasTable}

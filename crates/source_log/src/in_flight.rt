@@ -2,15 +2,14 @@
 
 ghost use Rattle.std.specs.Prelude.{◌≡◌, ◌<◌, length, OnOk, IfOk, IfErr, IfSome};
 ghost use Rattle.site_store.specs.Views.{names, work, sees, IsOpenAt};
-ghost use Rattle.server_steps.specs.Calls.{Looks, GoesOn, Breaks, FailsToWrite};
+ghost use Rattle.site_store.specs.one_server.Calls.{Looks, GoesOn, Breaks, FailsToWrite};
 ghost use Rattle.source_log.specs.Reading.{IsNextPosition, IsAbove, ArePositions, with_dropped};
 ghost use Rattle.source_log.specs.Rules.{rules};
 
 use crate::laws::laws_of_transactions;
-use faults::Fault;
 use keep_core::Keeper;
 use repl_records::{InFlight, InFlightKey};
-use repl_types::List;
+use repl_types::{Fault, List};
 use row_codec::Table0;
 use site_store::Sites;
 use std::alloc::Global;

@@ -12,33 +12,33 @@ ghost use Rattle.row_codec.specs.Storable.{IsStorable};
 ghost use Rattle.repl_records.specs.SourceSide.{source_row_spelling, IsSourceRow};
 ghost use Rattle.repl_records.specs.SourceSide.{HasSourceRowSpelling};
 ghost use Rattle.repl_records.specs.declared.source_side.SourceRow.{SourceRow};
-ghost use Rattle.log_rows.specs.SourceTables.{KeysOfRowsFit, TypedChangesHaveRows};
-ghost use Rattle.log_rows.specs.SourceTables.{ChangeIsStored, RowsStayStanding};
-ghost use Rattle.log_rows.specs.Applying.{EmptyListApplies, FirstThenOthersApply, AppliesToItsOwn};
-ghost use Rattle.log_rows.specs.InFlight.{InFlightRowsStand, ChangeIsInFlight, EndLeavesOthers};
-ghost use Rattle.log_rows.specs.InFlight.{TransactionIsPrefix, TransactionStarts};
-ghost use Rattle.log_rows.specs.InFlight.{OpenChangesAreRows, OpenPositionsAreRows};
-ghost use Rattle.log_rows.specs.InFlight.{OpenChangesAreStored};
-ghost use Rattle.log_rows.specs.LongerTables.{LogGetsRow, HeadGoesOn, HeadFits};
-ghost use Rattle.log_rows.specs.SourceLogs.{SourceRowsStand, TablesAreFound, ChangeLeavesSource};
-ghost use Rattle.log_rows.specs.SourceLogs.{AbortLeavesSource};
-ghost use Rattle.log_worlds.specs.StaysSound.{LogStaysSound, UsersRecordsStaySound};
-ghost use Rattle.log_store.specs.LongerServers.{LoggedHolds, OthersHold};
-ghost use Rattle.log_rows.specs.SourceReads.{InsertIsDecided, DeleteIsDecided, UpdateIsDecided};
-ghost use Rattle.log_rows.specs.SourceReads.{MoveIsDecided};
+ghost use Rattle.stored_commits.specs.records.SourceTables.{KeysOfRowsFit, TypedChangesHaveRows};
+ghost use Rattle.stored_commits.specs.records.SourceTables.{ChangeIsStored, RowsStayStanding};
+ghost use Rattle.stored_commits.specs.records.Applying.{EmptyListApplies, FirstThenOthersApply, AppliesToItsOwn};
+ghost use Rattle.stored_commits.specs.records.InFlight.{InFlightRowsStand, ChangeIsInFlight, EndLeavesOthers};
+ghost use Rattle.stored_commits.specs.records.InFlight.{TransactionIsPrefix, TransactionStarts};
+ghost use Rattle.stored_commits.specs.records.InFlight.{OpenChangesAreRows, OpenPositionsAreRows};
+ghost use Rattle.stored_commits.specs.records.InFlight.{OpenChangesAreStored};
+ghost use Rattle.stored_commits.specs.records.LongerTables.{LogGetsRow, HeadGoesOn, HeadFits};
+ghost use Rattle.stored_commits.specs.records.SourceLogs.{SourceRowsStand, TablesAreFound, ChangeLeavesSource};
+ghost use Rattle.stored_commits.specs.records.SourceLogs.{AbortLeavesSource};
+ghost use Rattle.world_commits.specs.logs.StaysSound.{LogStaysSound, UsersRecordsStaySound};
+ghost use Rattle.stored_commits.specs.logs.LongerServers.{LoggedHolds, OthersHold};
+ghost use Rattle.stored_commits.specs.records.SourceReads.{InsertIsDecided, DeleteIsDecided, UpdateIsDecided};
+ghost use Rattle.stored_commits.specs.records.SourceReads.{MoveIsDecided};
 ghost use Rattle.source_log.specs.Storing.{CommitMakesChanges};
 ghost use Rattle.source_log.specs.Units.{ChangeOpens, CommitCloses, ChangeLeavesRows};
 
-use log_rows::{
-    a_change_is_in_flight, a_change_is_stored, a_commit_is_stored, a_log_gets_a_row,
-    an_end_leaves_the_others, changes_apply_in_turn, open_changes_are_rows, reads_decide,
-    rows_of_a_transaction_lie_together, the_head_goes_on, the_source_stands,
-};
-use log_store::{a_server_with_more_records_holds, the_others_hold};
-use log_worlds::{users_records_keep_a_log_sound, users_records_stay_sound};
 use repl_model::{in_flight_grows, source_grows};
 use repl_records::records_of_64_values_are_storable;
 use row_codec::{length_of_a_key, rows_of_64_values_are_storable};
+use stored_commits::{
+    a_change_is_in_flight, a_change_is_stored, a_commit_is_stored, a_log_gets_a_row,
+    a_server_with_more_records_holds, an_end_leaves_the_others, changes_apply_in_turn,
+    open_changes_are_rows, others_hold_a_longer_log, reads_decide,
+    rows_of_a_transaction_lie_together, the_head_goes_on, the_source_stands,
+};
+use world_commits::{users_records_keep_a_log_sound, users_records_stay_sound};
 
 /// Which rows and records can be stored.
 pub fn laws_of_source()
@@ -128,7 +128,7 @@ pub fn laws_of_worlds()
     users_records_keep_a_log_sound();
     users_records_stay_sound();
     a_server_with_more_records_holds();
-    the_others_hold();
+    others_hold_a_longer_log();
     the_head_goes_on();
 }
 

@@ -6,13 +6,12 @@
 //! and removes them from the changes in flight; an abort only removes them. A commit of which one
 //! change doesn't apply is undone, and isn't taken. `specs/Appending.antt` says which records are
 //! taken and why the others aren't, and `specs/Rules.antt` what shows that a server is damaged. It
-//! stands on `site_store`, whose records it reads and puts, on `server_steps`, for the words of its
-//! contracts, on `row_changes`, which says whether a change fits its table, on `log_rows`, which
-//! says what one more record makes of stored tables, and on `log_worlds` and `log_store`, which
-//! show what that makes of a world.
+//! stands on `site_store`, whose records it reads and puts, on `row_changes`, which says whether a
+//! change fits its table, and on `stored_commits` and `world_commits`, which show what one more
+//! record makes of stored tables and of a world.
 //!
-//! `append_unit` appends one more unit of the program's own, inside a transaction that is open: its
-//! changes are made as they are put into the log, so none of them is ever among the changes in
+//! `append_unit` appends one more unit of the program's own, inside a transaction that is open:
+//! its changes are made as they are put into the log, so none of them is ever among the changes in
 //! flight. `last_commit` reads the end of a log, and `scan_table` the committed rows of a table,
 //! one after another; neither needs a transaction.
 //!

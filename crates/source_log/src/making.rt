@@ -3,7 +3,7 @@
 ghost use Rattle.std.specs.Prelude.{◌≡◌, ◌<◌, ◌+◌, true, length, OnOk, IfOk, IfErr};
 ghost use Rattle.std.specs.List.{AllByRecursion};
 ghost use Rattle.site_store.specs.Views.{names, work, IsOpenAt};
-ghost use Rattle.server_steps.specs.Calls.{GoesOn, Breaks, FailsToWrite};
+ghost use Rattle.site_store.specs.one_server.Calls.{GoesOn, Breaks, FailsToWrite};
 ghost use Rattle.source_log.specs.Making.{StepCanBeMade, MakesOne, MakesFirst, MakesAll};
 ghost use Rattle.source_log.specs.Making.{all_unmade};
 ghost use Rattle.source_log.specs.Rules.{rules};
@@ -12,8 +12,8 @@ use crate::laws::laws_of_turns;
 use crate::outcome::Outcome;
 use crate::source::{change_applies, make_change, unmake_change};
 use crate::step::Step;
-use faults::Fault;
 use keep_core::Keeper;
+use repl_types::Fault;
 use site_store::Sites;
 use std::alloc::Global;
 

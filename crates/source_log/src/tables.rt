@@ -2,14 +2,13 @@
 
 ghost use Rattle.std.specs.Prelude.{◌≡◌, ◌<◌, Some, length, OnOk, IfOk, IfErr, IfSome};
 ghost use Rattle.site_store.specs.Views.{names, sees};
-ghost use Rattle.server_steps.specs.Calls.{Looks, Breaks};
+ghost use Rattle.site_store.specs.one_server.Calls.{Looks, Breaks};
 ghost use Rattle.source_log.specs.Rules.{rules, IsKnown, IsTableAt};
 
 use crate::shared_table::SharedTable;
-use faults::Fault;
 use keep_core::Keeper;
 use repl_definitions::DefinedTable;
-use repl_types::Name;
+use repl_types::{Fault, Name};
 use row_codec::Table0;
 use site_store::Sites;
 use std::alloc::{AllocError, Global};

@@ -1,7 +1,6 @@
 //! One record is taken, inside an open transaction.
 
-ghost use Rattle.std.specs.Prelude.{◌≡◌, ◌<◌, Some, length, nat_lt};
-ghost use Rattle.std.specs.Prelude.{OnOk, IfOk, IfErr};
+ghost use Rattle.std.specs.Prelude.{◌≡◌, ◌<◌, Some, length, nat_lt, OnOk, IfOk, IfErr};
 ghost use Rattle.repl_types.specs.declared.area.Area.TheVariants.{Log, Inflight};
 ghost use Rattle.keep_core.specs.Contents.{put_at};
 ghost use Rattle.row_codec.specs.LogRecords.{IsLogRecord, HasLogSpelling, log_spelling};
@@ -10,8 +9,8 @@ ghost use Rattle.row_codec.specs.Storable.{IsStorable};
 ghost use Rattle.repl_records.specs.SourceSide.{in_flight_spelling};
 ghost use Rattle.repl_model.specs.SoundLogs.{log_limit};
 ghost use Rattle.site_store.specs.Views.{names, work, IsOpenAt};
-ghost use Rattle.server_steps.specs.Calls.{GoesOn, Breaks, FailsToWrite};
-ghost use Rattle.log_rows.specs.LongerTables.{head_after as head_after_lem};
+ghost use Rattle.site_store.specs.one_server.Calls.{GoesOn, Breaks, FailsToWrite};
+ghost use Rattle.stored_commits.specs.records.LongerTables.{head_after as head_after_lem};
 ghost use Rattle.source_log.specs.Reading.{with_dropped};
 ghost use Rattle.source_log.specs.Rules.{rules, flight_key};
 ghost use Rattle.source_log.specs.Storing.{TakesRecord, TakesKnowing, HasRoom, IsCommit};
@@ -24,10 +23,9 @@ use crate::outcome::Outcome;
 use crate::shared_table::SharedTable;
 use crate::steps::read_steps;
 use crate::tables::find_table;
-use faults::Fault;
 use keep_core::Keeper;
 use repl_records::{Head, InFlight, InFlightKey};
-use repl_types::{Change, LogRecord};
+use repl_types::{Change, Fault, LogRecord};
 use row_changes::table_of;
 use row_codec::Table0;
 use site_store::Sites;

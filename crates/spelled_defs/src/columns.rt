@@ -2,7 +2,7 @@
 
 ghost use Rattle.std.specs.Prelude.{◌≡◌, [], length, unwrap_or, IfOk};
 ghost use Rattle.std.specs.List.{list_all, range_with_len};
-ghost use Rattle.repl_model.specs.Rules.{is_among as is_among_lem, are_among as are_among_lem};
+ghost use Rattle.lists.specs.Lists.{is_among as is_among_lem, are_among as are_among_lem};
 ghost use Rattle.spelled_defs.specs.Spelled.{column_place as column_place_lem};
 ghost use Rattle.spelled_defs.specs.Spelled.{column_places as column_places_lem};
 ghost use Rattle.spelled_defs.specs.Spelled.{names_column as names_column_lem};

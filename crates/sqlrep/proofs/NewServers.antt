@@ -15,7 +15,7 @@ use Rattle.run_words.specs.Openings.{map_path}
 use Rattle.run_words.specs.declared.opening.ServerWord.{ServerWord}
 use Rattle.site_store.specs.Servers.{names_of, site_name, site_keeper, held_of, work_of, AllClosed, AreApart}
 use Rattle.site_store.specs.declared.site.Site.{Site}
-use Rattle.repl_model.specs.Rules.{all_differ}
+use Rattle.lists.specs.Lists.{all_differ}
 use Rattle.sqlrep.specs.Opened.{all_in_memory, IsOpened, AreOpened}
 
 -- the elements up to one more place

@@ -5,7 +5,8 @@ use Rattle.std.specs.List.{All, AllByRecursion}
 use Rattle.keep_core.specs.Contents.{Contents, nothing}
 use Rattle.keep_sqlite.specs.AnyKeepers.{any_kept}
 use Rattle.keep_sqlite.specs.declared.any_keeper.AnyKeeper.{AnyKeeper}
-use Rattle.repl_model.specs.Sound.{AreServerNames, empty_world}
+use Rattle.repl_model.specs.Sound.{AreServerNames}
+use Rattle.repl_model.specs.World.{empty_world}
 use Rattle.repl_types.specs.Name.{is_name}
 use Rattle.repl_types.specs.declared.status.Status.{Status}
 use Rattle.repl_types.specs.declared.status.Status.TheVariants as statuses

@@ -1,5 +1,5 @@
 -- Which words ask for a text.
-use Rattle.std.specs.Prelude.{ℕ, codes, List, Bool, true, false, not, ◌&&◌}
+use Rattle.std.specs.Prelude.{ℕ, codes, List, Bool, true, false, not, ◌&&◌, ◌||◌, ◌==◌, length}
 use Rattle.std.specs.List.{list_all, list_any}
 use Rattle.clap.specs.Faults.{fault_of}
 use Rattle.clap.specs.Kinds.{Kinds}
@@ -31,10 +31,22 @@ is_shown _ = false
 abbrev pub all_shown : Kinds → Bool
 all_shown kinds = not (is_empty kinds) && list_all is_shown kinds
 
--- the words, of which the first is the program's name, ask for help or for the version
-abbrev pub asks_text : List (List ℕ) → Bool
-asks_text words = all_shown (fault_of sqlrep_app words)
+-- what a parse answers to the words is a text that was asked for
+abbrev pub shows_text : List (List ℕ) → Bool
+shows_text words = all_shown (fault_of sqlrep_app words)
 
--- they ask for neither
+-- it is none
+abbrev pub shows_nothing : List (List ℕ) → Bool
+shows_nothing words = not (list_any is_shown (fault_of sqlrep_app words))
+
+-- there is one word beside the program's name, which is the first
+abbrev pub is_alone : List (List ℕ) → Bool
+is_alone words = length words == 2
+
+-- the words ask for help or for the version, by one word alone
+abbrev pub asks_text : List (List ℕ) → Bool
+asks_text words = is_alone words && shows_text words
+
+-- they ask for neither, or beside other words
 abbrev pub asks_nothing : List (List ℕ) → Bool
-asks_nothing words = not (list_any is_shown (fault_of sqlrep_app words))
+asks_nothing words = not (is_alone words) || shows_nothing words

@@ -1,7 +1,7 @@
 -- What a run at servers in memory comes to.
 use Rattle.std.specs.Prelude.{◌≡◌, ℕ, List, Option}
 use Rattle.keep_core.specs.Revealed.{Takes}
-use Rattle.repl_model.specs.Sound.{empty_world}
+use Rattle.repl_model.specs.World.{empty_world}
 use Rattle.run_core.specs.Runs.{lines_of}
 use Rattle.run_words.specs.declared.opening.Opening.{Opening}
 use Rattle.session_core.specs.Session.{server_names, run_events, status_of}

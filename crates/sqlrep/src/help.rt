@@ -1,11 +1,10 @@
 //! What `--help` and `--version` print.
 
-ghost use Rattle.std.specs.Prelude.{◌≡◌, false, map, string_bytes, IfOk, IsNone, IsSome};
-ghost use Rattle.std.specs.Prelude.{IsTrue};
+ghost use Rattle.std.specs.Prelude.{◌≡◌, false, map, string_bytes, IfOk, IsNone, IsSome, IsTrue};
 ghost use Rattle.clap.specs.Words.{app_of, rule_of};
 ghost use Rattle.run_words.specs.Command.{cells_rule, servers_rule};
 ghost use Rattle.sqlrep.specs.Asked.{program_app, sqlrep_app, with_value_name};
-ghost use Rattle.sqlrep.specs.Asked.{asks_text, asks_nothing};
+ghost use Rattle.sqlrep.specs.Asked.{shows_text, shows_nothing, asks_text, asks_nothing};
 
 use clap::error::ErrorKind;
 use clap::{Arg, Command};
@@ -85,11 +84,11 @@ fn sqlrep_command<'a>(alloc: Global) -> Result<Command<'a>, AllocError>
         .subcommand(copy)
 }
 
-/// The text that the words of a command line ask for, if they ask for help or for the version.
-pub fn asked_text(alloc: Global, words: &[String]) -> Result<Option<String>, AllocError>
-    ensures asked { IsTrue (asks_text (map string_bytes words.now))
+/// The text that the words of a command line ask for somewhere, if they do.
+fn shown_text(alloc: Global, words: &[String]) -> Result<Option<String>, AllocError>
+    ensures asked { IsTrue (shows_text (map string_bytes words.now))
         → IfOk result (λ text. IsSome text) }
-    ensures other { IsTrue (asks_nothing (map string_bytes words.now))
+    ensures other { IsTrue (shows_nothing (map string_bytes words.now))
         → IfOk result (λ text. IsNone text) }
 {
     let Err(error) = sqlrep_command(alloc)?.try_get_matches_from(words) else {
@@ -99,5 +98,20 @@ pub fn asked_text(alloc: Global, words: &[String]) -> Result<Option<String>, All
         ErrorKind::OutOfMemory => Err(AllocError),
         _ if error.use_stderr() => Ok(None),
         _ => Ok(Some(format!(in alloc; "{error}")?)),
+    }
+}
+
+/// The text that the words of a command line ask for, if the one word after the program's name asks
+/// for help or for the version.
+pub fn asked_text(alloc: Global, words: &[String]) -> Result<Option<String>, AllocError>
+    ensures asked { IsTrue (asks_text (map string_bytes words.now))
+        → IfOk result (λ text. IsSome text) }
+    ensures other { IsTrue (asks_nothing (map string_bytes words.now))
+        → IfOk result (λ text. IsNone text) }
+{
+    if words.len() == 2 {
+        shown_text(alloc, words)
+    } else {
+        Ok(None)
     }
 }

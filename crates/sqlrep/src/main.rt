@@ -87,7 +87,7 @@ fn print_status(answer: Result<(), ReadError>) -> Status
     }
 }
 
-/// Prints the help or the version if the words of a command line ask for it, and else answers
+/// Prints the help or the version if the one word of a command line asks for it, and else answers
 /// `Usage`.
 fn run_help(rt: &HostRuntime, words: &[String]) -> Status
     ensures asked { IsTrue (asks_text (map string_bytes words.now)) → result ≢ Status.Usage }

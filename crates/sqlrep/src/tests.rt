@@ -1,13 +1,13 @@
 //! Runs of `session` over streams in memory: what is written, and how each failure ends a run.
 
 ghost use Rattle.std.specs.Prelude.{◌≡◌, IfOk, Some};
+ghost use Rattle.keep_map.specs.Keepers.{kept_of};
 ghost use Rattle.site_store.specs.Servers.{AllClosed};
 ghost use Rattle.site_store.specs.Views.{work};
 
 use crate::streams::{Reads, Writes};
-use keep_core::{Keeper, ReadError, Sink, Source};
+use keep_core::{ReadError, Sink, Source};
 use keep_map::{BytesSink, BytesSource, MapKeeper};
-use keep_sqlite::SqliteKeeper;
 use repl_types::{List, Name, Status};
 use session_core::session;
 use site_store::{Site, Sites};
@@ -15,57 +15,6 @@ use std::alloc::{AllocError, Global};
 use std::io;
 use std::io::ErrorKind;
 use std::test::Fail;
-
-/// A set is loaded and applied, its source is fed and captured, and the set applied again.
-const SET_SCRIPT: &[u8] = b"load\n\
-|[[table]]\n\
-|server = \"hq\"\n\
-|name = \"orders\"\n\
-|columns = [\"id int\", \"item text\", \"qty int null\"]\n\
-|key = [\"id\"]\n\
-|fixed = [\"id\"]\n\
-|[[registration]]\n\
-|server = \"hq\"\n\
-|table = \"orders\"\n\
-|before = [\"qty\"]\n\
-|[[set]]\n\
-|qual = \"q\"\n\
-|name = \"s\"\n\
-|source = \"hq\"\n\
-|target = \"shop\"\n\
-|[[set.member]]\n\
-|source = \"orders\"\n\
-|target = \"orders_copy\"\n\
-|type = \"user_copy\"\n\
-|columns = [\"id = id\", \"qty = qty\"]\n\
-|where = \"qty >= 10\"\n\
-apply q s\n\
-feed hq\n\
-|insert 1 orders 1 'pen' 20\n\
-|insert 1 orders 2 'ink' 5\n\
-|commit 1 ann 100\n\
-|update 2 orders 2 'ink' 5 -> 2 'ink' 12\n\
-|update 2 orders 1 'pen' 20 -> 1 'pen' 9\n\
-|commit 2 bob 160\n\
-capture hq\n\
-apply q s\n\
-show shop target orders_copy\n\
-status q s\n";
-
-/// What that script writes.
-const SET_REPLIES: &[u8] = b"ok loaded tables 1 registrations 1 sets 1\n\
-ok signal hq 00000000000000020000\n\
-ok refresh 00000000000000020000 rows 0\n\
-ok report 00000000000000020000\n\
-ok apply steps 3\n\
-ok fed 6 last 00000000000000080000\n\
-ok captured 00000000000000080000 units 3 rows 4\n\
-ok block 00000000000000020000 00000000000000080000 insert 2 update 2 delete 0\n\
-ok report 00000000000000080000\n\
-ok apply steps 2\n\
-row 2 12\n\
-ok rows 1\n\
-ok set q/s synchpoint 00000000000000080000 base 00000000000000020000 flag 0 trail 2 mark 00000000000000080000\n";
 
 /// Three units, of which the last two change what the first inserted.
 const THREE_UNITS: &[u8] = b"insert 1 items 1 'pen'\n\
@@ -159,28 +108,18 @@ fn source_of(alloc: Global, bytes: &[u8]) -> Result<BytesSource, AllocError> {
     Ok(BytesSource::new(List::from_vec(Vec::from_slice(alloc, bytes)?)))
 }
 
-/// A server of this name with a keeper, of which no transaction is open.
-fn server_with<K: Keeper + Drop>(
-    alloc: Global,
-    name: &str,
-    mut keeper: K,
-) -> Result<Site<K>, Fail> {
-    keeper.rollback();
-    Ok(Site::open_site(Name::new(alloc, name)?, keeper))
+/// A server of this name, which holds nothing.
+fn new_server(alloc: Global, name: &str) -> Result<Site<MapKeeper>, Fail> {
+    Ok(Site::open_site(Name::new(alloc, name)?, MapKeeper::new(alloc)))
 }
 
-/// Two servers of these names with these keepers. No transaction is open.
-fn two_servers<K: Keeper + Drop>(
-    alloc: Global,
-    names: (&str, &str),
-    first: K,
-    second: K,
-) -> Result<Sites<K>, Fail>
-    ensures { IfOk result (λ sites. AllClosed (work K.kept sites)) }
+/// The servers `src` and `dst`, which hold nothing.
+fn two_servers(alloc: Global) -> Result<Sites<MapKeeper>, Fail>
+    ensures { IfOk result (λ sites. AllClosed (work kept_of sites)) }
 {
     let mut list = List::new(alloc);
-    list.push(server_with(alloc, names.0, first)?)?;
-    list.push(server_with(alloc, names.1, second)?)?;
+    list.push(new_server(alloc, "src")?)?;
+    list.push(new_server(alloc, "dst")?)?;
     let mut sites = Sites::new(list)?;
     sites.rollback_all();
     Ok(sites)
@@ -194,8 +133,7 @@ fn run_at_two<I: Source, O: Sink>(
     output: &mut O,
 ) -> Result<Status, Fail> {
     let words = words_of(alloc, line)?;
-    let keepers = (MapKeeper::new(alloc), MapKeeper::new(alloc));
-    let mut sites = two_servers(alloc, ("src", "dst"), keepers.0, keepers.1)?;
+    let mut sites = two_servers(alloc)?;
     Ok(session(alloc, words.as_slice(), &mut sites, input, output))
 }
 
@@ -400,28 +338,4 @@ fn an_interrupted_call_is_tried_sixteen_times(rt: HostRuntime) {
         assert_eq!(rt; Reads::new(failing).read(&mut buffer), read, "at {times}");
         assert_eq!(rt; Writes::new(failing).write(b"line"), written, "at {times}");
     }
-}
-
-/// Runs the script of the set at two servers with these keepers, and answers what is written.
-fn set_replies<K: Keeper + Drop>(alloc: Global, hq: K, shop: K) -> Result<Vec<u8>, Fail> {
-    let mut sites = two_servers(alloc, ("hq", "shop"), hq, shop)?;
-    let words = words_of(alloc, "hq=:map: shop=:map:")?;
-    let mut input = source_of(alloc, SET_SCRIPT)?;
-    let mut output = BytesSink::new(alloc);
-    let status = session(alloc, words.as_slice(), &mut sites, &mut input, &mut output);
-    if status != Status::Ok {
-        return Err(Fail::new("the script isn't carried out"));
-    }
-    Ok(Vec::from_slice(alloc, output.bytes())?)
-}
-
-#[test]
-fn a_script_writes_over_databases_what_it_writes_over_maps(rt: HostRuntime) -> Result<(), Fail> {
-    let alloc = rt.alloc();
-    let over_maps = set_replies(alloc, MapKeeper::new(alloc), MapKeeper::new(alloc))?;
-    assert_eq!(rt; over_maps.as_slice(), SET_REPLIES);
-    let hq = SqliteKeeper::open_in_memory(alloc)?;
-    let shop = SqliteKeeper::open_in_memory(alloc)?;
-    assert_eq!(rt; set_replies(alloc, hq, shop)?.as_slice(), SET_REPLIES);
-    Ok(())
 }

@@ -1,2 +1,1 @@
 pub mod ReadingRows
-pub mod Sets

@@ -4,7 +4,7 @@ use Rattle.std.specs.Prelude.{map, Option, Some, None}
 use Rattle.std.proofs.lemmas.List.{nil_from_length, length-map}
 use Rattle.repl_types.specs.declared.area.Area.{Area}
 use Rattle.repl_types.specs.laws.Lists.{all_append, filter_none}
-use Rattle.faults.specs.declared.fault.Fault.{Fault}
+use Rattle.repl_types.specs.declared.fault.Fault.{Fault}
 use Rattle.keep_core.specs.Contents.{Contents, Table, IsNextKey, IsLastKey}
 use Rattle.keep_core.specs.Kept.{Kept}
 use Rattle.row_codec.specs.Takes.{One}
@@ -22,8 +22,9 @@ use Rattle.site_store.specs.Damage.{Damages}
 use Rattle.site_store.specs.laws.Counts.{at_most_itself}
 use Rattle.site_store.specs.laws.Damage.{fails_after}
 use Rattle.site_store.specs.laws.Steps.{next_fails}
-use Rattle.stored_defs.specs.Reading.{row_limit, RowFits, AreRows, HasRecords, AllStand, table_rules}
-use Rattle.stored_defs.specs.laws.Passing.{reads_more}
+use Rattle.stored_defs.specs.Reading.{HasRecords, AllStand, table_rules}
+use Rattle.world_store.specs.SpelledRows.{definition_limit, RowFits, AreRows}
+use Rattle.site_store.specs.laws.Passing.{reads_more}
 
 module _ {A X : Type 0} (key_fits : A → Type 0) (key : A → List ℕ) (fits : X → Type 0) (spelling : X → List ℕ) (a : Area) (t : ℕ) where
   -- the records that were read, followed by those of the rows after the last key, are the records of all rows
@@ -56,7 +57,7 @@ module _ {A X : Type 0} (key_fits : A → Type 0) (key : A → List ℕ) (fits :
       sym (read rows are is ∙ ap (λ (l : List (A × X)). records ++ map (λ row. row.1) l) (filter_none (λ (r : A × X). is_before after (key r.0)) rows (no_row key spelling rows after over)) ∙ append-nil records)
 
   -- there can't be one more
-  pub reads_full : (c : Contents) (last : Option A) (records : List X) → length records ≡ row_limit → HasReadTo last records c → HasRecords key_fits key fits spelling a t records c
+  pub reads_full : (c : Contents) (last : Option A) (records : List X) → length records ≡ definition_limit → HasReadTo last records c → HasRecords key_fits key fits spelling a t records c
   reads_full c last records full read rows are is =
       let rest : List X = map (λ row. row.1) (rows_after key (after_key key last) rows) in
       let all : map (λ row. row.1) rows ≡ records ++ rest = read rows are is in
@@ -64,10 +65,10 @@ module _ {A X : Type 0} (key_fits : A → Type 0) (key : A → List ℕ) (fits :
       sym (all ∙ ap (λ (l : List X). records ++ l) (nil_from_length rest none) ∙ append-nil records)
 
   -- the next record can't be read
-  pub reads_fail : {K : Type 0} (kept : K → Kept) (s0 s1 s2 : Sites K) (server n : ℕ) (after : List ℕ) (e : Fault) → n < row_limit → Stays kept s0 s1 (reads_of_one n server a) → Fails kept s1 s2 (reads_of_one 1 server a) (AtServer server (Misread a (MisspeltNext key_fits key fits spelling a t after (sees kept s1 server)))) e → Fails kept s0 s2 (reads_of_one row_limit server a) (Damages (λ s. s ≡ server) (table_rules key_fits key fits spelling a t) kept s0) e
+  pub reads_fail : {K : Type 0} (kept : K → Kept) (s0 s1 s2 : Sites K) (server n : ℕ) (after : List ℕ) (e : Fault) → n < definition_limit → Stays kept s0 s1 (reads_of_one n server a) → Fails kept s1 s2 (reads_of_one 1 server a) (AtServer server (Misread a (MisspeltNext key_fits key fits spelling a t after (sees kept s1 server)))) e → Fails kept s0 s2 (reads_of_one definition_limit server a) (Damages (λ s. s ≡ server) (table_rules key_fits key fits spelling a t) kept s0) e
   reads_fail kept s0 s1 s2 server n after e lt stays f =
       let rules = table_rules key_fits key fits spelling a t in
-      fails_after kept (λ s. s ≡ server) rules s0 s1 s2 (reads_of_one n server a) (reads_of_one 1 server a) (reads_of_one row_limit server a) e (reads_more n 1 row_limit server a (omega arith)) stays
+      fails_after kept (λ s. s ≡ server) rules s0 s1 s2 (reads_of_one n server a) (reads_of_one 1 server a) (reads_of_one definition_limit server a) e (reads_more n 1 definition_limit server a (omega arith)) stays
       (next_fails kept key_fits key fits spelling (λ s. s ≡ server) rules s1 s2 server a t after (reads_of_one 1 server a) e refl (λ bytes h. h refl refl) (λ bytes h. h refl refl) (at_most_itself (reads_of_one 1 server a)) f)
 
 -- one more record that stands in the table was read

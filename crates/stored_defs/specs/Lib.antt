@@ -1,4 +1,4 @@
-pub mod Known
+pub mod DefinitionReads
 pub mod Reading
 pub mod Rules
 pub mod laws

@@ -1,30 +1,11 @@
 -- What reading all records of a table gives, and what shows that it is damaged.
-use Rattle.std.specs.Prelude.{◌≡◌, ℕ, ◌<◌, ◌≤◌, List, Some, length, map}
+use Rattle.std.specs.Prelude.{◌≡◌, ℕ, List, Some, map}
 use Rattle.std.specs.List.{AllByRecursion}
 use Rattle.repl_types.specs.declared.area.Area.{Area}
 use Rattle.keep_core.specs.Contents.{Contents}
-use Rattle.rows_in_order.specs.Rows.{table_from_rows, IsRising}
+use Rattle.rows_in_order.specs.Rows.{table_from_rows}
 use Rattle.site_store.specs.Damage.{Rules}
-
--- the most rows of a table of definitions: a server has at most this many tables, and sets at each side
-abbrev pub row_limit : ℕ
-row_limit = 256
-
--- the bytes spell a thing of the kind
-abbrev pub Spells : {X : Type 0} → (X → Type 0) → (X → List ℕ) → List ℕ → Type 0
-Spells {X} fits spelling bytes = (x : X) × fits x × (bytes ≡ spelling x)
-
--- the key and the record have spellings
-abbrev pub RowFits : {A X : Type 0} → (A → Type 0) → (X → Type 0) → A × X → Type 0
-RowFits key_fits fits row = key_fits row.0 × fits row.1
-
--- Rows as they stand in a table of definitions: in the order of their keys, of which none is empty, and no
--- more than there may be.
-pub record AreRows {A X : Type 0} (key_fits : A → Type 0) (key : A → List ℕ) (fits : X → Type 0) (rows : List (A × X)) : Type 0 where
-  pub rise : IsRising key rows
-  pub fit : AllByRecursion (RowFits key_fits fits) rows
-  pub some : AllByRecursion (λ row. 0 < length (key row.0)) rows
-  pub few : length rows ≤ row_limit
+use Rattle.world_store.specs.SpelledRows.{Spells, AreRows}
 
 -- if a table of these contents is made of rows, these are their records, in order
 abbrev pub HasRecords : {A X : Type 0} → (A → Type 0) → (A → List ℕ) → (X → Type 0) → (X → List ℕ) → Area → ℕ → List X → Contents → Type 0

@@ -10,7 +10,7 @@ use Rattle.repl_definitions.specs.Sets.{source_set_spelling, IsSourceSet, target
 use Rattle.site_store.specs.declared.sites.Sites.{Sites}
 use Rattle.site_store.specs.Views.{names}
 use Rattle.site_store.specs.Damage.{Rules, Damages}
-use Rattle.stored_defs.specs.Reading.{Spells}
+use Rattle.world_store.specs.SpelledRows.{Spells}
 
 -- keys of tables, of registrations, and of sets at their sources and at their targets
 abbrev pub may_be_key : Area → ℕ → List ℕ → Type 0

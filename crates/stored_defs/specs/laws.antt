@@ -1,7 +1,4 @@
 pub mod Blaming
-pub mod ByKey
-pub mod Lists
 pub mod NamedTables
-pub mod Passing
-pub mod Rows
+pub mod DefinitionReads
 pub mod Standing

@@ -6,19 +6,18 @@ ghost use Rattle.site_store.specs.Servers.{AllClosed};
 ghost use Rattle.site_store.specs.Views.{names, work, sees};
 ghost use Rattle.site_store.specs.Calls.{reads_of_one, Stays, Fails};
 ghost use Rattle.site_store.specs.Damage.{Damages};
-ghost use Rattle.stored_defs.specs.Reading.{row_limit, HasRecords, AllStand};
-ghost use Rattle.stored_defs.specs.Reading.{table_rules};
+ghost use Rattle.stored_defs.specs.Reading.{HasRecords, AllStand, table_rules};
+ghost use Rattle.world_store.specs.SpelledRows.{definition_limit};
 
-use faults::Fault;
 use keep_core::Keeper;
-use repl_types::List;
+use repl_types::{Fault, List};
 use row_codec::Stored;
 use site_store::Sites;
 use std::alloc::Global;
 
 /// The most rows of a table of definitions: a server has at most this many tables, and sets at each
 /// side.
-const ROW_LIMIT: usize = 256;
+const DEFINITION_LIMIT: usize = 256;
 
 /// The records of a table of definitions, in the order of their keys. No more than 256 are read: a
 /// server that stands for a world has no more.
@@ -31,22 +30,22 @@ pub fn read_records<K: Keeper, R: Stored>(
     requires server { server < length (names sites.old) }
     requires closed { AllClosed (work K.kept sites.old) }
     ensures ok { OnOk result (Stays K.kept sites.old sites.new
-        (reads_of_one row_limit server R.AREA)) }
+        (reads_of_one definition_limit server R.AREA)) }
     ensures records { IfOk result (λ records. IfSome (sees K.kept sites.old server)
         (HasRecords R.Key.fits R.Key.spelling R.fits R.spelling R.AREA (R.Table.number table)
         records)) }
     ensures stand { IfOk result (λ records. IfSome (sees K.kept sites.old server)
         (AllStand R.spelling R.AREA (R.Table.number table) records)) }
     ensures fit { IfOk result (λ records. AllByRecursion R.fits records) }
-    ensures few { IfOk result (λ records. length records ≤ row_limit) }
+    ensures few { IfOk result (λ records. length records ≤ definition_limit) }
     ensures fault { let rules = table_rules R.Key.fits R.Key.spelling R.fits R.spelling R.AREA
         (R.Table.number table) in
-        IfErr result (Fails K.kept sites.old sites.new (reads_of_one row_limit server R.AREA)
+        IfErr result (Fails K.kept sites.old sites.new (reads_of_one definition_limit server R.AREA)
         (Damages (λ s. s ≡ server) rules K.kept sites.old)) }
 {
     let mut records = List::new(alloc);
     let mut last = None;
-    for _read in 0..ROW_LIMIT {
+    for _read in 0..DEFINITION_LIMIT {
         let row = sites.next::<R>(alloc, server, table, last.as_ref())?;
         let Some((key, record)) = row else {
             return Ok(records);

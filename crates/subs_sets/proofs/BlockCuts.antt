@@ -18,11 +18,11 @@ use Rattle.repl_model.specs.SourceAt.{units_between}
 use Rattle.repl_model.specs.Trails.{synchpoint}
 use Rattle.repl_model.specs.Units.{positions, unit_at, units, last_seq}
 use Rattle.repl_model.specs.World.{World, KnownSet}
-use Rattle.capture_worlds.specs.laws.Units.{others_after}
-use Rattle.load_worlds.specs.laws.Members.{In, at_one, in_filter}
-use Rattle.stored_defs.specs.laws.Lists.{alike, filter_map_few}
+use Rattle.world_commits.specs.captures.laws.Units.{others_after}
+use Rattle.lists.specs.laws.Members.{In, at_one, in_filter}
+use Rattle.lists.specs.laws.Places.{alike, filter_map_few}
 use Rattle.subs_sets.specs.Cuts.{captured_after, first_unit, is_within_limits}
-use Rattle.subs_sets.specs.laws.FewRows.{filter_few}
+use Rattle.world_store.specs.laws.FewRows.{filter_few}
 use Rattle.subs_sets.specs.laws.UnitRows.{unit_row, captured_units, captured_rise, captured_times, captured_fit, times_filter, times_later}
 
 -- the units that come next at a set

@@ -6,8 +6,8 @@ use Rattle.keep_core.specs.Kept.{Kept}
 use Rattle.repl_model.specs.World.{World, KnownSet}
 use Rattle.site_store.specs.declared.sites.Sites.{Sites}
 use Rattle.site_store.specs.Calls.{Reads, reads_of_one}
-use Rattle.server_steps.specs.Calls.{Looks}
-use Rattle.server_steps.specs.laws.Reads.{looks_sees}
+use Rattle.site_store.specs.one_server.Calls.{Looks}
+use Rattle.site_store.specs.one_server.laws.Reads.{looks_sees}
 use Rattle.set_places.specs.declared.placed_set.PlacedSet.{PlacedSet}
 use Rattle.set_places.specs.Members.{ForSource}
 use Rattle.set_places.specs.Reading.{is_of_definitions, ReadsOnly}

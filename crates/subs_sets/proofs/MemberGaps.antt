@@ -23,8 +23,8 @@ use Rattle.repl_model.specs.SoundDefinitions.{SetKeepsLimits, UnknownSource, Ser
 use Rattle.repl_model.specs.World.{Registered, ServerTable, SourceSide, World, KnownSet}
 use Rattle.site_store.specs.Records.{RowIs}
 use Rattle.world_store.specs.Stands.{Reveals}
-use Rattle.load_worlds.specs.laws.Entries.{at_place_in}
-use Rattle.load_worlds.specs.laws.Members.{at_one, given_in}
+use Rattle.lists.specs.laws.Numbered.{at_place_in}
+use Rattle.lists.specs.laws.Members.{at_one, given_in}
 use Rattle.set_places.specs.declared.placed_set.PlacedSet.{PlacedSet}
 use Rattle.set_places.specs.Members.{IsRegistrationOf}
 use Rattle.set_places.specs.Places.{IsPlacedAs}

@@ -20,11 +20,10 @@ use Rattle.rows_in_order.specs.Numbers.{AllBelow, NoneAbove}
 use Rattle.rows_in_order.specs.laws.ByNumber.{read_next, read_last}
 use Rattle.site_store.specs.Records.{NextRowIs}
 use Rattle.site_store.specs.laws.Numbers.{numbers_in_order}
-use Rattle.stored_defs.specs.laws.Lists.{all_map}
 use Rattle.world_store.specs.CaptureRows.{uow_rows}
 use Rattle.world_store.specs.Stands.{Reveals}
-use Rattle.load_worlds.specs.laws.Entries.{at_place_in}
-use Rattle.load_worlds.specs.laws.Members.{In}
+use Rattle.lists.specs.laws.Numbered.{at_place_in}
+use Rattle.lists.specs.laws.Members.{In, each_image}
 use Rattle.set_places.specs.declared.placed_set.PlacedSet.{PlacedSet}
 use Rattle.set_places.specs.Places.{IsPlacedAs}
 use Rattle.subs_sets.specs.Cuts.{captured_after, first_unit}
@@ -72,7 +71,7 @@ module _ (w : World) (k : KnownSet) (set : PlacedSet) (saw : Option Contents) (p
 
   -- their seqs have eight bytes
   below : AllBelow (2 ^ 64) (map (unit_row k.source) units)
-  below = all_map (λ (r : ℕ × UowRow). r.0 < 2 ^ 64) (unit_row k.source) units (all_weaker (λ (u : LogUnit). (u.head.seq ≤ log_limit) × IsUow (unit_row k.source u).1) (λ u. u.head.seq < 2 ^ 64) units (λ u h. omega (arith, h.0)) (captured_fit w k.source sound i))
+  below = each_image (λ (r : ℕ × UowRow). r.0 < 2 ^ 64) (unit_row k.source) units (all_weaker (λ (u : LogUnit). (u.head.seq ≤ log_limit) × IsUow (unit_row k.source u).1) (λ u. u.head.seq < 2 ^ 64) units (λ u h. omega (arith, h.0)) (captured_fit w k.source sound i))
 
   -- the row that was read is that of the first unit after the point
   pub unit_read : (seq : ℕ) (row : UowRow) → Is64 seq → IsUow row → IfSome saw (NextRowIs b64 uow_spelling areas.Uow 0 (b64 point) (Some (seq, row))) → Some (seq, row.time) ≡ first_unit (captured_after point k.source)
@@ -83,7 +82,7 @@ module _ (w : World) (k : KnownSet) (set : PlacedSet) (saw : Option Contents) (p
       next_from k.source point units n.front n.back (seq, row) n.split n.passed n.above
     where
       apart : AllByRecursion (λ (r : ℕ × UowRow). r.0 ≡ seq → uow_spelling r.1 ≡ uow_spelling row → r ≡ (seq, row)) (map (unit_row k.source) units)
-      apart = all_map (λ (r : ℕ × UowRow). r.0 ≡ seq → uow_spelling r.1 ≡ uow_spelling row → r ≡ (seq, row)) (unit_row k.source) units (all_weaker (λ (u : LogUnit). (u.head.seq ≤ log_limit) × IsUow (unit_row k.source u).1) (λ u. u.head.seq ≡ seq → uow_spelling (unit_row k.source u).1 ≡ uow_spelling row → unit_row k.source u ≡ (seq, row)) units (λ u h same spelled. ap₂ (λ (n : ℕ) (r : UowRow). (n, r)) same (one_whole IsUow uow_spelling one_uow (unit_row k.source u).1 row h.1 fits spelled)) (captured_fit w k.source sound i))
+      apart = each_image (λ (r : ℕ × UowRow). r.0 ≡ seq → uow_spelling r.1 ≡ uow_spelling row → r ≡ (seq, row)) (unit_row k.source) units (all_weaker (λ (u : LogUnit). (u.head.seq ≤ log_limit) × IsUow (unit_row k.source u).1) (λ u. u.head.seq ≡ seq → uow_spelling (unit_row k.source u).1 ≡ uow_spelling row → unit_row k.source u ≡ (seq, row)) units (λ u h same spelled. ap₂ (λ (n : ℕ) (r : UowRow). (n, r)) same (one_whole IsUow uow_spelling one_uow (unit_row k.source u).1 row h.1 fits spelled)) (captured_fit w k.source sound i))
 
   -- if none was read, there is none
   pub none_read : IfSome saw (NextRowIs {X = UowRow} b64 uow_spelling areas.Uow 0 (b64 point) None) → None ≡ first_unit (captured_after point k.source)

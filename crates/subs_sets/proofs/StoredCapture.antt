@@ -14,7 +14,7 @@ use Rattle.repl_model.specs.World.{World, KnownSet}
 use Rattle.site_store.specs.Records.{StateIs}
 use Rattle.world_store.specs.CaptureRows.{capture_state}
 use Rattle.world_store.specs.Stands.{Reveals}
-use Rattle.load_worlds.specs.laws.Entries.{at_place_in}
+use Rattle.lists.specs.laws.Numbered.{at_place_in}
 use Rattle.set_places.specs.declared.placed_set.PlacedSet.{PlacedSet}
 use Rattle.set_places.specs.Places.{IsPlacedAs}
 use Rattle.subs_sets.specs.laws.Captured.{capture_fits, capture_at}

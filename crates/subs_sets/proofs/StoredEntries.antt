@@ -24,8 +24,8 @@ use Rattle.site_store.specs.laws.Numbers.{numbers_in_order}
 use Rattle.world_store.specs.Stands.{Reveals}
 use Rattle.world_store.specs.Tables.{no_rows}
 use Rattle.world_store.specs.TargetRows.{trail_entry, trail_rows}
-use Rattle.load_worlds.specs.laws.Entries.{at_place_in}
-use Rattle.load_worlds.specs.laws.Members.{In}
+use Rattle.lists.specs.laws.Numbered.{at_place_in}
+use Rattle.lists.specs.laws.Members.{In}
 use Rattle.set_places.specs.declared.placed_set.PlacedSet.{PlacedSet}
 use Rattle.set_places.specs.Places.{IsPlacedAs}
 use Rattle.set_places.specs.laws.Points.{target_numbers}

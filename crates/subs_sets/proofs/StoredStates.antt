@@ -20,7 +20,7 @@ use Rattle.repl_model.specs.World.{TargetSide, World, KnownSet}
 use Rattle.site_store.specs.Records.{or_first}
 use Rattle.world_store.specs.TargetRows.{has_points, source_time, state_of}
 use Rattle.world_store.specs.Stands.{Reveals}
-use Rattle.load_worlds.specs.laws.Entries.{at_place_in}
+use Rattle.lists.specs.laws.Numbered.{at_place_in}
 use Rattle.set_places.specs.declared.placed_set.PlacedSet.{PlacedSet}
 use Rattle.set_places.specs.Places.{HasTargetRow, IsPlacedAs}
 use Rattle.subs_sets.specs.Rules.{state_rules}

@@ -19,7 +19,7 @@ use Rattle.repl_model.specs.Rules.{is_replica_set}
 use Rattle.site_store.specs.declared.sites.Sites.{Sites}
 use Rattle.site_store.specs.Damage.{Rules, joined, Damages}
 use Rattle.site_store.specs.Views.{names}
-use Rattle.stored_defs.specs.Reading.{Spells}
+use Rattle.world_store.specs.SpelledRows.{Spells}
 use Rattle.set_places.specs.Members.{member_rules}
 use Rattle.prune_control.specs.Noting.{mark_rules}
 

@@ -13,7 +13,7 @@ use Rattle.repl_types.specs.declared.area.Area.{Area}
 use Rattle.repl_types.specs.declared.area.Area.TheVariants as areas
 use Rattle.repl_types.specs.declared.change_row.CdRow.{CdRow}
 use Rattle.repl_types.specs.declared.change_row.Op.{Op}
-use Rattle.faults.specs.declared.fault.Counts.{Counts}
+use Rattle.repl_types.specs.declared.fault.Counts.{Counts}
 use Rattle.keep_core.specs.Contents.{Contents}
 use Rattle.repl_definitions.specs.declared.member.Member.{Member}
 use Rattle.repl_definitions.specs.declared.member.TargetKind.{TargetKind}
@@ -27,12 +27,12 @@ use Rattle.repl_model.specs.SoundLogs.{log_limit, LogIsSound}
 use Rattle.repl_model.specs.SoundDefinitions.{MemberIsSound, ReplicaMemberIsSound}
 use Rattle.world_store.specs.Tables.{member_table}
 use Rattle.world_store.specs.TargetRows.{source_of, rows_refreshed, count_op, is_insert, is_update, is_delete, member_changes}
-use Rattle.load_worlds.specs.laws.KnownSets.{known_stands, source_in}
-use Rattle.load_worlds.specs.laws.Members.{In, at_one}
-use Rattle.action_store.specs.StoredSteps.{is_numbered}
+use Rattle.repl_model.specs.laws.KnownSets.{known_stands, source_in}
+use Rattle.lists.specs.laws.Members.{In, at_one}
+use Rattle.stored_commits.specs.actions.StoredSteps.{is_numbered}
 use Rattle.set_places.specs.laws.Known.{same_def, set_keeps_rules, members_few}
 use Rattle.set_places.specs.laws.Sources.{source_is_of}
-use Rattle.subs_sets.specs.laws.FewRows.{selected_few, between_few}
+use Rattle.world_store.specs.laws.FewRows.{selected_few, between_few}
 use Rattle.target_steps.specs.declared.step.Step.{Step}
 use Rattle.target_steps.specs.declared.step.Step.TheVariants.{Refresh, Block}
 use Rattle.target_steps.specs.Taking.{entry_of, counts_of, counted, no_counts, limited, sum_of, is_target}

@@ -6,8 +6,8 @@ use Rattle.std.proofs.lemmas.List.{get_or-set_other}
 use Rattle.repl_types.specs.declared.area.Area.{Area}
 use Rattle.repl_types.specs.declared.area.Area.TheVariants as areas
 use Rattle.repl_types.specs.declared.status.DamageCause.{DamageCause}
-use Rattle.faults.specs.declared.fault.Counts.{Counts}
-use Rattle.faults.specs.declared.fault.Fault.{Fault}
+use Rattle.repl_types.specs.declared.fault.Counts.{Counts}
+use Rattle.repl_types.specs.declared.fault.Fault.{Fault}
 use Rattle.keep_core.specs.Contents.{Contents, put_at, set_key}
 use Rattle.keep_core.specs.Kept.{Kept}
 use Rattle.row_codec.specs.Spelling.{b32, b64}
@@ -17,8 +17,8 @@ use Rattle.repl_records.specs.Trail.{entry_spelling}
 use Rattle.repl_records.specs.declared.set_state.SetState.{SetState}
 use Rattle.repl_records.specs.declared.trail.TrailEntry.{TrailEntry}
 use Rattle.world_store.specs.Stands.{Reveals}
-use Rattle.action_store.specs.ActedServers.{is_of_step}
-use Rattle.action_store.specs.StoredSteps.{PutsStep}
+use Rattle.stored_commits.specs.actions.ActedServers.{is_of_step}
+use Rattle.stored_commits.specs.actions.StoredSteps.{PutsStep}
 use Rattle.site_store.specs.declared.sites.Sites.{Sites}
 use Rattle.site_store.specs.Records.{NoDamage}
 use Rattle.site_store.specs.Servers.{AllClosed}
@@ -28,9 +28,9 @@ use Rattle.site_store.specs.Calls.{Bounds, no_access, both, Begins, Puts, InDoub
 use Rattle.site_store.specs.Damage.{IsNoDamage}
 use Rattle.site_store.specs.laws.Counts.{at_most_itself, passes_then}
 use Rattle.site_store.specs.laws.Damage.{blames_by}
-use Rattle.server_steps.specs.Calls.{GoesOn, Stops}
-use Rattle.server_steps.specs.laws.Faults.{blames_after, stops_as, stops_after, put_fails, write_fails_on}
-use Rattle.server_steps.specs.laws.Steps.{goes_then, goes_put, goes_as}
+use Rattle.site_store.specs.one_server.Calls.{GoesOn, Stops}
+use Rattle.site_store.specs.one_server.laws.Faults.{blames_after, stops_as, stops_after, put_fails, write_fails_on}
+use Rattle.site_store.specs.one_server.laws.Steps.{goes_then, goes_put, goes_as}
 use Rattle.set_places.specs.declared.placed_set.PlacedSet.{PlacedSet}
 use Rattle.set_places.specs.Steps.{MayCommitStep}
 use Rattle.set_places.specs.laws.Commits.{begun_open, begun_sees_all, stops_step, commit_fails}

@@ -7,8 +7,8 @@ use Rattle.std.proofs.lemmas.Option.{slice_get_within}
 use Rattle.repl_types.specs.declared.area.Area.{Area}
 use Rattle.repl_types.specs.declared.area.Area.TheVariants as areas
 use Rattle.repl_types.specs.declared.status.DamageCause.{DamageCause}
-use Rattle.faults.specs.declared.fault.Counts.{Counts}
-use Rattle.faults.specs.declared.fault.Fault.{Fault}
+use Rattle.repl_types.specs.declared.fault.Counts.{Counts}
+use Rattle.repl_types.specs.declared.fault.Fault.{Fault}
 use Rattle.keep_core.specs.Contents.{Contents}
 use Rattle.keep_core.specs.Kept.{Kept, seen_of}
 use Rattle.repl_definitions.specs.declared.member.Member.{Member}
@@ -19,16 +19,16 @@ use Rattle.repl_model.specs.World.{World, KnownSet, source_named}
 use Rattle.repl_model.specs.Sound.{IsSound}
 use Rattle.world_store.specs.Stands.{Holds, Reveals}
 use Rattle.world_store.specs.Tables.{member_table}
-use Rattle.load_worlds.specs.laws.Entries.{at_place_in}
-use Rattle.load_worlds.specs.laws.Members.{In}
-use Rattle.action_store.specs.StoredSteps.{is_numbered, TargetsStand}
+use Rattle.lists.specs.laws.Numbered.{at_place_in}
+use Rattle.lists.specs.laws.Members.{In}
+use Rattle.stored_commits.specs.actions.StoredSteps.{is_numbered, TargetsStand}
 use Rattle.site_store.specs.declared.sites.Sites.{Sites}
 use Rattle.site_store.specs.Damage.{IsNoDamage}
 use Rattle.site_store.specs.Views.{names, held, work, sees, IsOpenAt, IsClosedAt}
 use Rattle.site_store.specs.laws.Transactions.{open_below, other_work}
-use Rattle.server_steps.specs.Calls.{GoesOn, Stops}
-use Rattle.server_steps.specs.laws.Faults.{stops_as, stops_after}
-use Rattle.server_steps.specs.laws.Steps.{goes_none, goes_then, goes_as, goes_open}
+use Rattle.site_store.specs.one_server.Calls.{GoesOn, Stops}
+use Rattle.site_store.specs.one_server.laws.Faults.{stops_as, stops_after}
+use Rattle.site_store.specs.one_server.laws.Steps.{goes_none, goes_then, goes_as, goes_open}
 use Rattle.set_places.specs.declared.placed_set.PlacedSet.{PlacedSet}
 use Rattle.set_places.specs.Places.{IsPlacedAtSource, HasSourceRow, IsPlacedAs, IsReadOnly}
 use Rattle.set_places.specs.laws.Known.{is_among, same_def, members_few}

@@ -4,7 +4,7 @@ use Rattle.std.specs.List.{AllByRecursion, list_any}
 use Rattle.repl_types.specs.declared.area.Area.{Area}
 use Rattle.repl_types.specs.declared.area.Area.TheVariants as areas
 use Rattle.repl_types.specs.declared.status.DamageCause.{DamageCause}
-use Rattle.faults.specs.declared.fault.Counts.{Counts}
+use Rattle.repl_types.specs.declared.fault.Counts.{Counts}
 use Rattle.keep_core.specs.Contents.{Contents}
 use Rattle.keep_core.specs.Kept.{Kept}
 use Rattle.repl_definitions.specs.declared.member.TargetKind.{TargetKind}
@@ -16,8 +16,8 @@ use Rattle.repl_model.specs.AfterActions.{is_base_aggregate}
 use Rattle.repl_model.specs.World.{World, KnownSet}
 use Rattle.world_store.specs.Stands.{Holds}
 use Rattle.world_store.specs.TargetRows.{set_rows_refreshed, set_changes}
-use Rattle.action_store.specs.ActedServers.{is_of_step}
-use Rattle.action_store.specs.StoredSteps.{PutsStep, HasTargets, refreshed_state, block_state}
+use Rattle.stored_commits.specs.actions.ActedServers.{is_of_step}
+use Rattle.stored_commits.specs.actions.StoredSteps.{PutsStep, HasTargets, refreshed_state, block_state}
 use Rattle.site_store.specs.declared.sites.Sites.{Sites}
 use Rattle.site_store.specs.Views.{sees}
 use Rattle.subs_sets.specs.declared.states.ReadOnlyState.{ReadOnlyState}

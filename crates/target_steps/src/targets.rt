@@ -1,8 +1,8 @@
 //! What takes the targets of members through the steps of their set.
 
 use crate::step::Step;
-use faults::{Counts, Fault};
 use keep_core::Keeper;
+use repl_types::{Counts, Fault};
 use set_places::PlacedSet;
 use site_store::Sites;
 use std::alloc::Global;
@@ -17,11 +17,11 @@ pub trait Targets<K: Keeper> {
     ghost use Rattle.repl_types.specs.declared.status.DamageCause.TheVariants.{NoRest};
     ghost use Rattle.repl_definitions.specs.declared.member.TargetKind.{TargetKind};
     ghost use Rattle.keep_core.specs.Contents.{Contents};
-    ghost use Rattle.action_store.specs.StoredSteps.{is_numbered};
+    ghost use Rattle.stored_commits.specs.actions.StoredSteps.{is_numbered};
     ghost use Rattle.site_store.specs.Damage.{IsNoDamage};
     ghost use Rattle.site_store.specs.Servers.{AllClosed};
     ghost use Rattle.site_store.specs.Views.{names, work, IsOpenAt, IsClosedAt};
-    ghost use Rattle.server_steps.specs.Calls.{GoesOn, Stops};
+    ghost use Rattle.site_store.specs.one_server.Calls.{GoesOn, Stops};
     ghost use Rattle.set_places.specs.Places.{IsPlacedAtSource};
     ghost use Rattle.target_steps.specs.Taking.{TakesMember, ShowsAtEnds, ForMember};
     ghost use Rattle.target_steps.specs.Taking.{ReadsForStep, CountsReads};

@@ -1,12 +1,11 @@
 //! Reply lines against tables that are worked out by hand.
 
-use faults::Stepped;
 use repl_records::{
     AggregateRow, HistoryRow, LatestRow, PointRow, RegState, RejectedUnit, SyncMark, TrailEntry,
 };
 use repl_types::{
     CdRow, Change, DefPlace, GapPlace, ItemName, LimitKind, List, LogRecord, Name, Op, Refusal,
-    Row, Sequence, SetId, TEXT_LIMIT, Text, UnitHead, Value,
+    Row, Sequence, SetId, Stepped, TEXT_LIMIT, Text, UnitHead, Value,
 };
 use reply_text::{
     ReadOnlyStatus, ReplicaStatus, Reply, ServerStatus, write_aggregate_row, write_change_row,

@@ -4,4 +4,6 @@ pub mod CaptureRows
 pub mod TargetRows
 pub mod Tables
 pub mod Stands
+pub mod SpelledRows
 pub mod WorkedRows
+pub mod laws

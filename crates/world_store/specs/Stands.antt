@@ -3,7 +3,7 @@ use Rattle.std.specs.Prelude.{◌≡◌, ℕ, List, Option, Some, map}
 use Rattle.std.specs.List.{AllZip}
 use Rattle.repl_types.specs.declared.area.Area.{Area}
 use Rattle.repl_types.specs.declared.area.Area.TheVariants as areas
-use Rattle.keep_core.specs.Contents.{Contents, Table}
+use Rattle.rows_in_order.specs.Contents.{Contents, Table}
 use Rattle.repl_model.specs.World.{Server, World}
 use Rattle.repl_model.specs.Sound.{IsSound}
 use Rattle.world_store.specs.Tables.{no_rows, tables, with_first, first_table}

@@ -18,7 +18,7 @@ use Rattle.repl_records.specs.TargetSide.{copy_spelling, point_spelling, aggrega
 use Rattle.repl_records.specs.SetState.{state_spelling, last_number_spelling}
 use Rattle.repl_records.specs.Trail.{entry_spelling}
 use Rattle.repl_records.specs.FirstStates.{first_head, first_capture}
-use Rattle.keep_core.specs.Contents.{Table}
+use Rattle.rows_in_order.specs.Contents.{Table}
 use Rattle.rows_in_order.specs.Rows.{table_from_rows}
 use Rattle.repl_model.specs.SourceAt.{table_after}
 use Rattle.repl_model.specs.Selection.{SourceTable}

@@ -18,8 +18,9 @@
 mod worked_rows;
 
 ghost use Rattle.std.specs.Prelude.{ℕ, List, Option, Some, map};
-ghost use Rattle.keep_core.specs.Contents.{nothing};
-ghost use Rattle.repl_model.specs.Sound.{AreServerNames, empty_world};
+ghost use Rattle.rows_in_order.specs.Contents.{nothing};
+ghost use Rattle.repl_model.specs.Sound.{AreServerNames};
+ghost use Rattle.repl_model.specs.World.{empty_world};
 ghost use Rattle.world_store.specs.Stands.{Stands};
 
 use repl_model::the_empty_world_is_sound;

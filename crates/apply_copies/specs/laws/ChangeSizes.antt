@@ -3,6 +3,7 @@ use Rattle.std.proofs.Common.{◌≡◌, ℕ, Bool, true, false, cond, [], ◌�
 use Rattle.std.specs.Prelude.{◌&&◌, nat_lt, nat_le, Some}
 use Rattle.std.specs.List.{AllByRecursion}
 use Rattle.std.specs.Str.{bytes_eq}
+use Rattle.std.proofs.lemmas.Bool.{and_parts}
 use Rattle.repl_types.specs.Sizes.{IsKeySize}
 use Rattle.repl_types.specs.Value.{Values, images}
 use Rattle.repl_types.specs.declared.change_row.CdRow.{CdRow}
@@ -14,20 +15,20 @@ use Rattle.repl_types.specs.laws.Lists.{all_filter, all_weaker}
 use Rattle.row_codec.specs.Spelling.{IsRow, key_spelling}
 use Rattle.repl_model.specs.Applicable.{fits, change_fits, table_named}
 use Rattle.repl_model.specs.ChangeRows.{shows_nothing, insert_row, update_row, delete_row, rows_of, rows_of_placed, change_rows, changes_between}
-use Rattle.repl_model.specs.Rules.{RegistrationKeepsRules, all_places, are_among, places_rise}
+use Rattle.repl_model.specs.Rules.{RegistrationKeepsRules, all_places}
+use Rattle.lists.specs.Lists.{are_among, places_rise}
 use Rattle.repl_model.specs.SoundDefinitions.{KeepsTable}
 use Rattle.repl_model.specs.SoundLogs.{LogIsSound}
 use Rattle.repl_model.specs.SourceAt.{units_between}
 use Rattle.repl_model.specs.Tables.{same_values, table_of}
 use Rattle.repl_model.specs.Units.{units}
 use Rattle.repl_model.specs.World.{Registered, Server, ServerTable, tables_of}
-use Rattle.log_rows.specs.SourceTables.{TypedChangesHaveRows}
-use Rattle.log_rows.specs.StorableRows.{FittingRowIsStorable}
-use Rattle.stored_defs.specs.laws.Lists.{both_true}
+use Rattle.stored_commits.specs.records.SourceTables.{TypedChangesHaveRows}
+use Rattle.stored_commits.specs.records.StorableRows.{FittingRowIsStorable}
 use Rattle.cd_tables.specs.laws.InOrder.{all_lists}
-use Rattle.copy_changes.specs.ChangedCopies.{key_after}
-use Rattle.copy_changes.specs.laws.LoggedChanges.{Fits, UnitHas, units_fit}
-use Rattle.copy_changes.specs.laws.ShownRows.{key_shown}
+use Rattle.stored_commits.specs.copies.ChangedCopies.{key_after}
+use Rattle.stored_commits.specs.copies.laws.LoggedChanges.{Fits, UnitHas, units_fit}
+use Rattle.stored_commits.specs.copies.laws.ShownRows.{key_shown}
 use Rattle.apply_copies.specs.ChangeRules.{source_of}
 
 module _ (storable : FittingRowIsStorable) (t : ServerTable) (r : Registered) (keeps : KeepsTable t) (rules : RegistrationKeepsRules t.def r.reg) where
@@ -38,8 +39,8 @@ module _ (storable : FittingRowIsStorable) (t : ServerTable) (r : Registered) (k
   -- if its after-images are those of a row that fits the table, it is
   of_row : (change : CdRow) (row : Values) → change.after ≡ images r.reg.after row → IsRow row → fits t.def row ≡ true → HasSize change
   of_row change row is fit own =
-      let after = both_true (places_rise r.reg.after && are_among (all_places t.def) r.reg.after) (are_among r.reg.after t.def.key) rules.after in
-      let places = both_true (places_rise r.reg.after) (are_among (all_places t.def) r.reg.after) after.0 in
+      let after = and_parts (places_rise r.reg.after && are_among (all_places t.def) r.reg.after) (are_among r.reg.after t.def.key) rules.after in
+      let places = and_parts (places_rise r.reg.after) (are_among (all_places t.def) r.reg.after) after.0 in
       subst (λ (k : Values). IsKeySize (key_spelling k)) (sym (key_shown (source_of t.def r.reg) places.1 change row is after.1)) (storable t row keeps fit own).1
 
   -- so are the change rows of a change of the table
@@ -47,8 +48,8 @@ module _ (storable : FittingRowIsStorable) (t : ServerTable) (r : Registered) (k
   unfolding change_fits
   of_change seq pos (Insert table row) own fit = (of_row (insert_row r.reg seq pos 0 row) row refl fit.0 (fit.1 own), tt)
   of_change seq pos (Update table before after) own fit =
-      let both = both_true (fits t.def before && fits t.def after) (same_values (images t.def.fixed before) (images t.def.fixed after)) (fit.1 own) in
-      let rows = both_true (fits t.def before) (fits t.def after) both.0 in
+      let both = and_parts (fits t.def before && fits t.def after) (same_values (images t.def.fixed before) (images t.def.fixed after)) (fit.1 own) in
+      let rows = and_parts (fits t.def before) (fits t.def after) both.0 in
       pick rows.0 rows.1 (shows_nothing r.reg before after) r.reg.del_ins
     where
       pick : fits t.def before ≡ true → fits t.def after ≡ true → (nothing taken_apart : Bool) → AllByRecursion HasSize (cond nothing [] (cond taken_apart (delete_row r.reg seq pos before ∷ insert_row r.reg seq pos 1 after ∷ []) (update_row r.reg seq pos before after ∷ [])))

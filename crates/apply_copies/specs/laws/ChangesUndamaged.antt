@@ -38,21 +38,20 @@ use Rattle.site_store.specs.laws.Damage.{rows_spelt}
 use Rattle.world_store.specs.DefinitionRows.{table_rows}
 use Rattle.world_store.specs.Stands.{Holds}
 use Rattle.world_store.specs.Tables.{no_rows, tables}
-use Rattle.load_worlds.specs.laws.Entries.{at_place_in}
-use Rattle.load_worlds.specs.laws.Members.{In, at_one, image_in}
-use Rattle.log_rows.specs.SourceLogs.{TablesAreFound}
-use Rattle.log_rows.specs.SourceTables.{TypedChangesHaveRows}
-use Rattle.log_rows.specs.StorableRows.{FittingRowIsStorable}
-use Rattle.stored_defs.specs.Reading.{RowFits}
-use Rattle.stored_defs.specs.laws.Lists.{all_map}
+use Rattle.lists.specs.laws.Numbered.{at_place_in}
+use Rattle.lists.specs.laws.Members.{In, at_one, image_in, each_image}
+use Rattle.stored_commits.specs.records.SourceLogs.{TablesAreFound}
+use Rattle.stored_commits.specs.records.SourceTables.{TypedChangesHaveRows}
+use Rattle.stored_commits.specs.records.StorableRows.{FittingRowIsStorable}
+use Rattle.world_store.specs.SpelledRows.{RowFits}
 use Rattle.stored_defs.specs.laws.NamedTables.{table_stands}
 use Rattle.stored_defs.specs.laws.Standing.{holds_defs, holds_spelt}
 use Rattle.set_places.specs.Members.{HasRegistration, member_rules}
 use Rattle.set_places.specs.laws.Registrations.{members_undamaged}
-use Rattle.capture_rows.specs.StoredChanges.{stored_change}
+use Rattle.stored_commits.specs.units.StoredChanges.{stored_change}
 use Rattle.cd_tables.specs.Captured.{captured_changes}
 use Rattle.cd_tables.specs.StoredRows.{change_of}
-use Rattle.copy_changes.specs.ChangedCopies.{key_after}
+use Rattle.stored_commits.specs.copies.ChangedCopies.{key_after}
 use Rattle.apply_copies.specs.ChangeRules.{may_be_change_key, may_be_change, calls_for_table, source_of, IsKeyless, is_unfit_change, change_source_rules}
 use Rattle.apply_copies.specs.laws.ChangeSizes.{HasSize, all_sized}
 use Rattle.apply_copies.specs.laws.HeldChanges.{IsRegisteredAt, keeps_rules, keeps_table, keeps_registration, registration_held, table_held, changes_held}
@@ -83,7 +82,7 @@ module _ (typed : TypedChangesHaveRows) (found : TablesAreFound) (storable : Fit
       all = all_sized storable t r keeps (keeps_registration w server c sound i holds number t r here) typed server (at_one LogIsSound w server sound.logs i) named (max r.start r.floor) server.captured
 
       pick : (active : Bool) → AllByRecursion (λ (q : CdKey × ChangeRow). IsKeySize (key_spelling (key_after (source_of t.def r.reg) (change_of q)))) (cond active (map stored_change (changes_between server.log r.reg (max r.start r.floor) server.captured)) [])
-      pick true = all_map (λ (q : CdKey × ChangeRow). IsKeySize (key_spelling (key_after (source_of t.def r.reg) (change_of q)))) stored_change (changes_between server.log r.reg (max r.start r.floor) server.captured) all
+      pick true = each_image (λ (q : CdKey × ChangeRow). IsKeySize (key_spelling (key_after (source_of t.def r.reg) (change_of q)))) stored_change (changes_between server.log r.reg (max r.start r.floor) server.captured) all
       pick false = tt
 
   -- so none that stands there is of one whose key can't be

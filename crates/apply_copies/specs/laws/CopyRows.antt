@@ -27,13 +27,13 @@ use Rattle.repl_model.specs.Tables.{Rows, after_change, after_changes}
 use Rattle.repl_model.specs.Units.{units}
 use Rattle.repl_model.specs.World.{Server}
 use Rattle.rows_in_order.specs.Rows.{table_from_rows}
-use Rattle.load_worlds.specs.laws.Members.{each_image}
-use Rattle.log_rows.specs.SourceTables.{HasRows, StandsUnderKey, RowsStand, KeysOfRowsFit, TypedChangesHaveRows, RowsStayStanding}
-use Rattle.log_rows.specs.laws.StandingRows.{standing_fit}
+use Rattle.lists.specs.laws.Members.{each_image}
+use Rattle.stored_commits.specs.records.SourceTables.{HasRows, StandsUnderKey, RowsStand, KeysOfRowsFit, TypedChangesHaveRows, RowsStayStanding}
+use Rattle.stored_commits.specs.records.laws.StandingRows.{standing_fit}
 use Rattle.site_store.specs.Damage.{IsUndamaged, IsSpelt}
 use Rattle.site_store.specs.laws.Damage.{rows_spelt, spelt_undamaged}
-use Rattle.stored_defs.specs.Reading.{RowFits}
-use Rattle.copy_changes.specs.laws.LoggedChanges.{RecordHas, UnitHas, units_have}
+use Rattle.world_store.specs.SpelledRows.{RowFits}
+use Rattle.stored_commits.specs.copies.laws.LoggedChanges.{RecordHas, UnitHas, units_have}
 use Rattle.apply_copies.specs.Copying.{selected, copied}
 use Rattle.apply_copies.specs.Rules.{target_rules}
 use Rattle.apply_copies.specs.laws.Values.{target_row_fits}

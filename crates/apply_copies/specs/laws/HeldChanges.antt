@@ -26,17 +26,17 @@ use Rattle.rows_in_order.specs.laws.Found.{row_of}
 use Rattle.world_store.specs.DefinitionRows.{registration_rows}
 use Rattle.world_store.specs.Stands.{Holds}
 use Rattle.world_store.specs.Tables.{no_rows, tables}
-use Rattle.load_worlds.specs.laws.Entries.{at_place_in}
-use Rattle.load_worlds.specs.laws.Members.{In, at_one, found_in}
-use Rattle.load_worlds.specs.laws.Servers.{same_name}
+use Rattle.lists.specs.laws.Numbered.{at_place_in}
+use Rattle.lists.specs.laws.Members.{In, at_one, found_in}
+use Rattle.repl_model.specs.laws.GrowingServers.{same_name}
 use Rattle.stored_defs.specs.laws.NamedTables.{table_numbered}
 use Rattle.stored_defs.specs.laws.Standing.{holds_defs}
 use Rattle.set_places.specs.Members.{HasRegistration}
 use Rattle.set_places.specs.laws.Registrations.{registration_row_is}
-use Rattle.capture_rows.specs.StoredChanges.{stored_change}
+use Rattle.stored_commits.specs.units.StoredChanges.{stored_change}
 use Rattle.cd_tables.specs.Captured.{ServerIsSound, captured_changes}
 use Rattle.cd_tables.specs.laws.SoundChanges.{change_rows_are}
-use Rattle.subs_sets.specs.laws.FewRows.{between_few}
+use Rattle.world_store.specs.laws.FewRows.{between_few}
 use Rattle.apply_copies.specs.ChangeRules.{IsRegisteredIn}
 use Rattle.apply_copies.specs.Changing.{HasChanges}
 

@@ -2,7 +2,7 @@
 use Rattle.std.proofs.Common.{◌≡◌, ℕ, ◌≤◌, Bool, true, false, cond, List, [], ◌∷◌, ◌++◌, map, refl, ap, ◌∙◌, arith}
 use Rattle.std.specs.Prelude.{◌&&◌, nat_lt, nat_le, max, filter}
 use Rattle.std.specs.List.{AllByRecursion, flat_map}
-use Rattle.std.proofs.lemmas.Bool.{ltb-true, leb-true, lt-ltb, le-leb}
+use Rattle.std.proofs.lemmas.Bool.{ltb-true, leb-true, lt-ltb, le-leb, and_parts}
 use Rattle.std.proofs.lemmas.List.Elements.{filter-append}
 use Rattle.repl_types.specs.declared.change_row.CdRow.{CdRow}
 use Rattle.repl_types.specs.declared.change_row.Registration.{Registration}
@@ -18,9 +18,8 @@ use Rattle.repl_model.specs.SourceAt.{units_between}
 use Rattle.repl_model.specs.Units.{units}
 use Rattle.repl_model.specs.World.{Registered, Server}
 use Rattle.rows_in_order.specs.laws.Before.{not_both}
-use Rattle.stored_defs.specs.laws.Lists.{both_true}
-use Rattle.capture_rows.specs.StoredChanges.{stored_change}
-use Rattle.capture_worlds.specs.laws.Lists.{filter_images}
+use Rattle.stored_commits.specs.units.StoredChanges.{stored_change}
+use Rattle.lists.specs.laws.Images.{filter_images}
 use Rattle.cd_tables.specs.Captured.{captured_changes}
 use Rattle.cd_tables.specs.StoredRows.{change_of}
 use Rattle.cd_tables.specs.laws.InOrder.{all_always, all_lists}
@@ -82,7 +81,7 @@ module _ (reg : Registration) where
   unfolding changes_between
   longer_rows log first low high last le before =
       kept_rows (λ seq. nat_lt low seq && nat_le seq high) (units_between first last log)
-      ∙ ap (flat_map (change_rows reg)) (filter_within (λ (u : LogUnit). nat_lt low u.head.seq && nat_le u.head.seq high) (λ u. nat_lt first u.head.seq && nat_le u.head.seq last) (λ u in_short. in_long u.head.seq (both_true (nat_lt low u.head.seq) (nat_le u.head.seq high) in_short)) (units log))
+      ∙ ap (flat_map (change_rows reg)) (filter_within (λ (u : LogUnit). nat_lt low u.head.seq && nat_le u.head.seq high) (λ u. nat_lt first u.head.seq && nat_le u.head.seq last) (λ u in_short. in_long u.head.seq (and_parts (nat_lt low u.head.seq) (nat_le u.head.seq high) in_short)) (units log))
     where
       in_long : (seq : ℕ) → (nat_lt low seq ≡ true) × (nat_le seq high ≡ true) → (nat_lt first seq && nat_le seq last) ≡ true
       in_long seq h =

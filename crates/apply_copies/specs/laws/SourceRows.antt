@@ -17,14 +17,14 @@ use Rattle.repl_model.specs.World.{ServerTable, Server, World}
 use Rattle.world_store.specs.LogRows.{source_rows}
 use Rattle.world_store.specs.Stands.{Holds}
 use Rattle.world_store.specs.Tables.{no_rows, tables}
-use Rattle.load_worlds.specs.laws.Entries.{at_place_in}
-use Rattle.load_worlds.specs.laws.Members.{In, at_one}
-use Rattle.log_rows.specs.SourceLogs.{SourceRowsStand}
-use Rattle.log_rows.specs.SourceTables.{RowsStand, KeysOfRowsFit}
-use Rattle.log_rows.specs.laws.StandingRows.{table_of_entries, standing_fit, standing_rise, standing_some}
+use Rattle.lists.specs.laws.Numbered.{at_place_in}
+use Rattle.lists.specs.laws.Members.{In, at_one}
+use Rattle.stored_commits.specs.records.SourceLogs.{SourceRowsStand}
+use Rattle.stored_commits.specs.records.SourceTables.{RowsStand, KeysOfRowsFit}
+use Rattle.stored_commits.specs.records.laws.StandingRows.{table_of_entries, standing_fit, standing_rise, standing_some}
 use Rattle.set_places.specs.laws.Sources.{table_keyed}
 use Rattle.apply_copies.specs.Copying.{HasRows}
-use Rattle.subs_sets.specs.laws.FewRows.{source_few}
+use Rattle.world_store.specs.laws.FewRows.{source_few}
 
 module _ (keys : KeysOfRowsFit) (stand : SourceRowsStand) (w : World) (server : Server) (c : Contents) (sound : IsSound w) (i : In server w) (holds : Holds w server c) (number : ℕ) (t : ServerTable) (at : slice_get server.tables number ≡ Some t) where
   -- its log is sound

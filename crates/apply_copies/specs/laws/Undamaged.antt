@@ -30,11 +30,11 @@ use Rattle.world_store.specs.DefinitionRows.{source_set_rows}
 use Rattle.world_store.specs.LogRows.{source_rows}
 use Rattle.world_store.specs.Stands.{Holds}
 use Rattle.world_store.specs.Tables.{no_rows, tables}
-use Rattle.load_worlds.specs.laws.Entries.{at_place_in}
-use Rattle.load_worlds.specs.laws.Members.{In, at_one}
-use Rattle.log_rows.specs.SourceLogs.{SourceRowsStand}
-use Rattle.log_rows.specs.SourceTables.{KeysOfRowsFit}
-use Rattle.stored_defs.specs.Reading.{RowFits}
+use Rattle.lists.specs.laws.Numbered.{at_place_in}
+use Rattle.lists.specs.laws.Members.{In, at_one}
+use Rattle.stored_commits.specs.records.SourceLogs.{SourceRowsStand}
+use Rattle.stored_commits.specs.records.SourceTables.{KeysOfRowsFit}
+use Rattle.world_store.specs.SpelledRows.{RowFits}
 use Rattle.stored_defs.specs.laws.Standing.{holds_defs}
 use Rattle.set_places.specs.Members.{member_rules}
 use Rattle.set_places.specs.laws.Registrations.{members_undamaged}

@@ -14,9 +14,9 @@ use Rattle.repl_model.specs.SourceAt.{units_up_to, units_between, time_at}
 use Rattle.repl_model.specs.Trails.{synchpoint, base_of}
 use Rattle.repl_model.specs.Units.{units, last_time}
 use Rattle.repl_model.specs.World.{KnownSet}
-use Rattle.load_worlds.specs.laws.Entries.{numbered_in}
-use Rattle.load_worlds.specs.laws.Members.{In, at_one, at_each, in_filter, kept_by, in_map, some_passes}
-use Rattle.capture_worlds.specs.laws.Units.{Rise, units_rise, is_after, all_after}
+use Rattle.lists.specs.laws.Numbered.{numbered_in}
+use Rattle.lists.specs.laws.Members.{In, at_one, at_each, in_filter, kept_by, in_map, some_passes}
+use Rattle.world_commits.specs.captures.laws.Units.{Rise, units_rise, is_after, all_after}
 use Rattle.subs_sets.specs.Cuts.{first_unit, time_from}
 use Rattle.subs_sets.specs.laws.UnitRows.{rise_filter}
 

@@ -12,8 +12,8 @@ use Rattle.repl_model.specs.SourceAt.{units_between}
 use Rattle.repl_model.specs.Units.{units}
 use Rattle.repl_model.specs.World.{Registered, Server, ServerTable}
 use Rattle.rows_in_order.specs.Rows.{table_from_rows}
-use Rattle.capture_rows.specs.StoredCaptures.{HasCaptured}
-use Rattle.capture_worlds.specs.laws.Lists.{filter_images}
+use Rattle.stored_commits.specs.units.StoredCaptures.{HasCaptured}
+use Rattle.lists.specs.laws.Images.{filter_images}
 use Rattle.cd_tables.specs.Captured.{shown_head, unit_row, captured_units, next_captured, captured_changes}
 use Rattle.cd_tables.specs.Finding.{first_unit}
 use Rattle.cd_tables.specs.StoredRows.{first_of, HasChangeRows, HasUnitRows, head_of}

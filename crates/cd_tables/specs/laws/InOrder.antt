@@ -5,7 +5,7 @@ use Rattle.std.specs.List.{AllByRecursion, filter, filter_map, flat_map, cons_op
 use Rattle.std.specs.declared.cmp.Ordering.TheVariants.{Less}
 use Rattle.repl_types.specs.Bytes.{bytes_cmp}
 use Rattle.repl_types.specs.laws.Lists.{all_weaker, all_append, all_filter}
-use Rattle.stored_defs.specs.laws.Lists.{all_map, all_filter_map}
+use Rattle.lists.specs.laws.Members.{each_image, each_given}
 use Rattle.rows_in_order.specs.Rows.{IsRising}
 
 -- each element stands in a relation to each later one
@@ -47,7 +47,7 @@ given_rise {X} {Y} f at of same (x ∷ xs) order = pick (f x) (same x) (given_ri
 
     pick : (o : Option Y) → IfSome o (λ y. of y ≡ at x) → InOrder (Below of) (filter_map f xs) → InOrder (Below of) (cons_option o (filter_map f xs))
     pick None is rest = rest
-    pick (Some y) is rest = (all_filter_map (Below of y) f xs (all_weaker (Below at x) (λ z. IfSome (f z) (Below of y)) xs (λ z lt. later y z (f z) is lt (same z)) order.0), rest)
+    pick (Some y) is rest = (each_given (Below of y) f xs (all_weaker (Below at x) (λ z. IfSome (f z) (Below of y)) xs (λ z lt. later y z (f z) is lt (same z)) order.0), rest)
 
 -- two lists in order are in order, one after the other, if each element of the one comes before those of the other
 pub append_in_order : {X : Type 0} (R : X → X → Type 0) (xs ys : List X) → InOrder R xs → InOrder R ys → AllByRecursion (λ x. AllByRecursion (R x) ys) xs → InOrder R (xs ++ ys)
@@ -66,7 +66,7 @@ lists_in_order {X} {Y} R S Of f step own (x ∷ xs) all order = append_in_order 
 -- rows of elements in order rise, if the key of an element's row is before those of later ones
 pub rows_rise : {X A Y : Type 0} (R : X → X → Type 0) (fits : X → Type 0) (key : A → List ℕ) (row : X → A × Y) → ((x z : X) → fits x → fits z → R x z → bytes_cmp (key (row x).0) (key (row z).0) ≡ Less) → (xs : List X) → AllByRecursion fits xs → InOrder R xs → IsRising key (map row xs)
 rows_rise R fits key row before [] all order = tt
-rows_rise {X} R fits key row before (x ∷ xs) all order = (all_map (λ r. bytes_cmp (key (row x).0) (key r.0) ≡ Less) row xs (later xs all.1 order.0), rows_rise R fits key row before xs all.1 order.1)
+rows_rise {X} R fits key row before (x ∷ xs) all order = (each_image (λ r. bytes_cmp (key (row x).0) (key r.0) ≡ Less) row xs (later xs all.1 order.0), rows_rise R fits key row before xs all.1 order.1)
   where
     later : (zs : List X) → AllByRecursion fits zs → AllByRecursion (R x) zs → AllByRecursion (λ z. bytes_cmp (key (row x).0) (key (row z).0) ≡ Less) zs
     later [] fit above = tt

@@ -9,6 +9,8 @@ use Rattle.std.specs.declared.cmp.Ordering.{Ordering}
 use Rattle.std.specs.declared.cmp.Ordering.TheVariants.{Less, Equal}
 use Rattle.std.proofs.lemmas.List.{length-map}
 use Rattle.std.proofs.lemmas.Option.{same_Some}
+use Rattle.std.proofs.lemmas.Bool.{and_parts}
+use Rattle.lists.specs.laws.Members.{each_image}
 use Rattle.repl_types.specs.Bytes.{bytes_cmp}
 use Rattle.repl_types.specs.Value.{Values, images}
 use Rattle.repl_types.specs.ValueText.{IsValue}
@@ -26,16 +28,17 @@ use Rattle.row_codec.specs.laws.Orders.{whole_order}
 use Rattle.repl_records.specs.RecordKeys.{IsChangeKey, change_key_spelling, change_key_cmp}
 use Rattle.repl_records.specs.Capture.{IsChangeRow}
 use Rattle.repl_records.specs.laws.RecordKeys.{order_change_key}
-use Rattle.repl_model.specs.Rules.{RegistrationKeepsRules, all_places, are_among, places_rise}
+use Rattle.repl_model.specs.Rules.{RegistrationKeepsRules, all_places}
+use Rattle.lists.specs.Lists.{are_among, places_rise}
 use Rattle.repl_model.specs.Tables.{table_of}
 use Rattle.repl_model.specs.SourceAt.{units_between}
 use Rattle.repl_model.specs.ChangeRows.{shows_nothing, insert_row, update_row, delete_row, rows_of, rows_of_placed, change_rows, changes_between}
 use Rattle.repl_model.specs.SoundLogs.{LogIsSound}
 use Rattle.repl_model.specs.SoundDefinitions.{KeepsTable}
 use Rattle.repl_model.specs.World.{Registered, Server, ServerTable}
-use Rattle.stored_defs.specs.Reading.{RowFits}
-use Rattle.stored_defs.specs.laws.Lists.{all_map, among_below, among_first, both_true, rising_few}
-use Rattle.capture_rows.specs.StoredChanges.{stored_change}
+use Rattle.world_store.specs.SpelledRows.{RowFits}
+use Rattle.lists.specs.laws.Places.{among_below, among_first, rising_few}
+use Rattle.stored_commits.specs.units.StoredChanges.{stored_change}
 use Rattle.cd_tables.specs.Captured.{ServerIsSound, captured_changes}
 use Rattle.cd_tables.specs.StoredRows.{AreChangeRows}
 use Rattle.cd_tables.specs.laws.InOrder.{InOrder, Below, all_always, all_lists, lists_in_order, rows_rise}
@@ -57,9 +60,9 @@ pub has_few_columns : (t : ServerTable) (reg : Registration) → KeepsTable t �
 has_few_columns t reg keeps rules =
     let n = length t.def.columns in
     let few : n ≤ 64 = keeps.1 in
-    let after = both_true (places_rise reg.after && are_among (all_places t.def) reg.after) (are_among reg.after t.def.key) rules.after in
-    let rising = both_true (places_rise reg.after) (are_among (all_places t.def) reg.after) after.0 in
-    let before = both_true (places_rise reg.before) (are_among reg.after reg.before) rules.before in
+    let after = and_parts (places_rise reg.after && are_among (all_places t.def) reg.after) (are_among reg.after t.def.key) rules.after in
+    let rising = and_parts (places_rise reg.after) (are_among (all_places t.def) reg.after) after.0 in
+    let before = and_parts (places_rise reg.before) (are_among reg.after reg.before) rules.before in
     let below = among_first n reg.after rising.1 in
     record {
       after = omega (arith, few, rising_few n reg.after rising.0 below);
@@ -267,6 +270,6 @@ change_rows_are server sound n t r at is = pick r.active
     pick : (active : Bool) → AreChangeRows (cond active (map stored_change rows) [])
     pick true = record {
       rise = rows_rise Precedes ChangeRowFits change_key_spelling stored_change key_precedes rows fit (log_in_order r.reg server sound.log low server.captured);
-      fit = all_map (RowFits IsChangeKey IsChangeRow) stored_change rows fit;
+      fit = each_image (RowFits IsChangeKey IsChangeRow) stored_change rows fit;
     }
     pick false = record { rise = tt; fit = tt }

@@ -18,8 +18,9 @@ use Rattle.repl_model.specs.SourceAt.{units_between}
 use Rattle.repl_model.specs.SoundLogs.{LogIsSound}
 use Rattle.repl_model.specs.World.{Server, code_in}
 use Rattle.rows_in_order.specs.laws.ByNumber.{key_before}
-use Rattle.stored_defs.specs.Reading.{RowFits}
-use Rattle.stored_defs.specs.laws.Lists.{all_map, all_filter_map, all_numbered}
+use Rattle.world_store.specs.SpelledRows.{RowFits}
+use Rattle.lists.specs.laws.Places.{all_numbered}
+use Rattle.lists.specs.laws.Members.{each_image, each_given}
 use Rattle.cd_tables.specs.Captured.{ServerIsSound, unit_row, captured_units}
 use Rattle.cd_tables.specs.StoredRows.{AreUnitRows}
 use Rattle.cd_tables.specs.laws.InOrder.{InOrder, Below, filter_in_order, given_rise, rows_rise}
@@ -98,7 +99,7 @@ module _ (tx : ℕ) where
 
     -- and are in their ranges
     changes_fit : RecordsFit log → AllByRecursion ChangeFits (changes_up_to tx before log)
-    changes_fit fit = all_filter_map ChangeFits (change_of tx) (filter is_open (positions log)) (all_filter (λ (r : At). IfSome (change_of tx r) ChangeFits) is_open (positions log) (all_weaker (RowFits Is64 IsLogRecord) (λ (r : At). IfSome (change_of tx r) ChangeFits) (positions log) change_fits fit))
+    changes_fit fit = each_given ChangeFits (change_of tx) (filter is_open (positions log)) (all_filter (λ (r : At). IfSome (change_of tx r) ChangeFits) is_open (positions log) (all_weaker (RowFits Is64 IsLogRecord) (λ (r : At). IfSome (change_of tx r) ChangeFits) (positions log) change_fits fit))
 
 -- the unit that a record ends is in its ranges
 unit_fits : (log : List LogRecord) → RecordsFit log → (r : At) → RowFits Is64 IsLogRecord r → IfSome (unit_at log r) UnitFits
@@ -116,7 +117,7 @@ unit_fits log all (pos, records.Abort tx) fit = tt
 -- so are all units of a log
 units_fit : (log : List LogRecord) → RecordsFit log → AllByRecursion UnitFits (units log)
 unfolding units
-units_fit log all = all_filter_map UnitFits (unit_at log) (positions log) (all_weaker (RowFits Is64 IsLogRecord) (λ (r : At). IfSome (unit_at log r) UnitFits) (positions log) (unit_fits log all) all)
+units_fit log all = each_given UnitFits (unit_at log) (positions log) (all_weaker (RowFits Is64 IsLogRecord) (λ (r : At). IfSome (unit_at log r) UnitFits) (positions log) (unit_fits log all) all)
 
 -- their seqs rise
 units_rise : (log : List LogRecord) → InOrder (Below seq_of) (units log)
@@ -144,7 +145,7 @@ module _ (server : Server) (sound : LogIsSound server) (low high : ℕ) where
 -- ---- the unit-of-work table
 
 -- the code that is shown for a unit is a code, if all shown codes are
-code_small : (limit : ℕ) (codes : List (ℕ × ℕ)) (seq : ℕ) → AllByRecursion (λ c. (c.0 ≤ limit) × (0 < c.1) × (c.1 ≤ 4)) codes → IsCode (code_in codes seq)
+pub code_small : (limit : ℕ) (codes : List (ℕ × ℕ)) (seq : ℕ) → AllByRecursion (λ c. (c.0 ≤ limit) × (0 < c.1) × (c.1 ≤ 4)) codes → IsCode (code_in codes seq)
 code_small limit [] seq all = omega arith
 code_small limit (c ∷ codes) seq all = pick (c.0 == seq) (code_small limit codes seq all.1)
   where
@@ -156,7 +157,7 @@ code_small limit (c ∷ codes) seq all = pick (c.0 == seq) (code_small limit cod
 pub unit_rows_are : (server : Server) → ServerIsSound server → AreUnitRows (captured_units server)
 unit_rows_are server sound = record {
   rise = rows_rise (Below seq_of) UnitFits b64 (unit_row server) (λ u v fit more lt. key_before b64 (2 ^ 64) (λ x y fx fy. whole_order Is64 b64 nat_cmp order64 x y fx fy) u.head.seq v.head.seq fit.seq more.seq lt) there all (between_rise server sound.log server.floor server.captured);
-  fit = all_map (RowFits Is64 IsUow) (unit_row server) there (all_weaker UnitFits (λ u. RowFits Is64 IsUow (unit_row server u)) there (λ u fit. (fit.seq, (fit.time, fit.authid, fit.origin, code_small server.captured server.shown u.head.seq sound.numbers.shown))) all);
+  fit = each_image (RowFits Is64 IsUow) (unit_row server) there (all_weaker UnitFits (λ u. RowFits Is64 IsUow (unit_row server u)) there (λ u fit. (fit.seq, (fit.time, fit.authid, fit.origin, code_small server.captured server.shown u.head.seq sound.numbers.shown))) all);
 }
   where
     there : List LogUnit

@@ -23,9 +23,10 @@ use Rattle.site_store.specs.Damage.{Shows, IsUndamaged}
 use Rattle.world_store.specs.CaptureRows.{mark_rows}
 use Rattle.world_store.specs.Stands.{Holds}
 use Rattle.world_store.specs.Tables.{no_rows, tables, with_first, first_table}
-use Rattle.load_worlds.specs.laws.KnownSets.{known_stands, source_in}
-use Rattle.load_worlds.specs.laws.Members.{In, at_one}
-use Rattle.stored_defs.specs.Reading.{Spells}
+use Rattle.repl_model.specs.laws.KnownSets.{known_stands, source_in}
+use Rattle.lists.specs.laws.Members.{In, at_one}
+use Rattle.world_store.specs.SpelledRows.{Spells}
+use Rattle.world_store.specs.laws.FirstStates.{no_first}
 use Rattle.set_places.specs.laws.Points.{mark_short, signal_short}
 use Rattle.set_places.specs.laws.SetRows.{held_source_row}
 use Rattle.prune_control.specs.Noting.{may_be_mark, calls_for_mark, mark_rules}
@@ -36,14 +37,6 @@ use Rattle.prune_control.specs.laws.Numbered.{row_at}
 -- what is stored of a set at its source
 abbrev pub mark_of : SourceSide → SyncMark
 mark_of side = record { mark = side.mark; signal = side.signal }
-
--- a table without first states is what is there
-pub no_first : (t : Table) → with_first no_rows t ≡ t
-no_first t = λ i k. none (t k) i
-  where
-    none : (o : Option (List ℕ)) → option_or o None ≡ o
-    none None = refl
-    none (Some v) = refl
 
 -- what a server holds of marks
 pub held_marks : (w : World) (server : Server) (c : Contents) → Holds w server c → c areas.Prune 0 ≡ table_from_rows b32 mark_spelling (mark_rows server)

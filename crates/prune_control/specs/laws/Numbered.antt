@@ -12,7 +12,7 @@ use Rattle.rows_in_order.specs.laws.ByNumber.{key_same}
 use Rattle.rows_in_order.specs.laws.Numbered.{numbered_at}
 use Rattle.rows_in_order.specs.laws.Rising.{same_itself}
 use Rattle.rows_in_order.specs.laws.Written.{differ_numbers}
-use Rattle.action_store.specs.laws.Numbered.{small_in_order, numbered_images}
+use Rattle.stored_commits.specs.actions.laws.Numbered.{small_in_order, numbered_images}
 
 -- ---- each thing makes a row
 

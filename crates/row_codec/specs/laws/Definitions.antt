@@ -6,8 +6,7 @@ use Rattle.repl_types.specs.declared.table.Kind.TheVariants.{Int, Text}
 use Rattle.repl_types.specs.declared.table.ColumnDef.{ColumnDef}
 use Rattle.row_codec.specs.laws.Tags.{other_tag}
 use Rattle.row_codec.specs.Takes.{One, PairFits, pair_spelling}
-use Rattle.row_codec.specs.laws.Ones.{one_by}
-use Rattle.row_codec.specs.laws.Ones.{one_pair}
+use Rattle.row_codec.specs.laws.Ones.{one_by, one_pair}
 use Rattle.row_codec.specs.laws.Numbers.{one16, one_flag}
 use Rattle.row_codec.specs.laws.Names.{one_name}
 use Rattle.row_codec.specs.laws.Values.{one_list}

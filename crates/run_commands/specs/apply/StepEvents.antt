@@ -5,7 +5,7 @@ use Rattle.std.specs.Option.{option_map_or}
 use Rattle.repl_types.specs.declared.record.SetId.{SetId}
 use Rattle.repl_types.specs.declared.refusal.Refusal.{Refusal}
 use Rattle.repl_types.specs.declared.refusal.Refusal.TheVariants as refusals
-use Rattle.faults.specs.declared.fault.Stepped.TheVariants as steps
+use Rattle.repl_types.specs.declared.fault.Stepped.TheVariants as steps
 use Rattle.repl_definitions.specs.declared.set.SetDef.{SetDef}
 use Rattle.repl_model.specs.AfterActions.{after_action}
 use Rattle.repl_model.specs.NextActions.{Action, signals, idles, refuses, next_action}
@@ -16,8 +16,8 @@ use Rattle.reply_text.specs.Steps.{step_line}
 use Rattle.reply_text.specs.declared.reply.Reply.TheVariants as replies
 use Rattle.run_core.specs.Runs.{Event, commits, writes}
 use Rattle.run_commands.specs.parts.Refusing.{refused}
-use Rattle.full_refresh.specs.Signals.{length_signalled}
-use Rattle.copy_targets.specs.Copies.{is_user_copy}
+use Rattle.apply_cycle.specs.Signals.{length_signalled}
+use Rattle.apply_copies.specs.Copies.{is_user_copy}
 use Rattle.apply_cycle.specs.Stepping.{answer_of}
 
 -- ---- what a step comes to
@@ -72,7 +72,7 @@ events_from zero made number id w = []
 events_from (suc left) made number id w = events_of (writes (reply_line (replies.Applied made)) ∷ []) (events_from left (made + 1) number id) (outcome number id w)
 
 -- how many steps may be made at most: five more than the point up to which the source is captured, and before that a
--- step is refused or there is nothing to do (`next_actions_come_to_rest` of `action_worlds`)
+-- step is refused or there is nothing to do (`next_actions_come_to_rest` of `world_commits`)
 abbrev pub most_steps : SetId → World → ℕ
 most_steps id w = option_map_or (λ k. k.source.captured + 5) (known_set w id) 1
 

@@ -4,8 +4,8 @@ use Rattle.std.specs.Option.{option_map, option_map_or}
 use Rattle.repl_types.specs.declared.record.LogRecord.{LogRecord}
 use Rattle.repl_types.specs.declared.refusal.Refusal.{Refusal}
 use Rattle.repl_types.specs.declared.refusal.Refusal.TheVariants as refusals
-use Rattle.faults.specs.declared.call_errors.AppendError.{AppendError}
-use Rattle.faults.specs.declared.call_errors.AppendError.TheVariants as errors
+use Rattle.repl_types.specs.declared.call_errors.AppendError.{AppendError}
+use Rattle.repl_types.specs.declared.call_errors.AppendError.TheVariants as errors
 use Rattle.log_text.specs.Records.{record_of}
 use Rattle.repl_model.specs.Longer.{grown}
 use Rattle.repl_model.specs.World.{Server, World, server_named}

@@ -7,14 +7,14 @@ use Rattle.site_store.specs.declared.sites.Sites.{Sites}
 use Rattle.site_store.specs.Views.{names, sees}
 use Rattle.site_store.specs.Damage.{Rules, joined, Shows}
 use Rattle.stored_defs.specs.Rules.{rules as stored_rules}
-use Rattle.show_rows.specs.Rules.{rules as status_rules}
-use Rattle.show_source.specs.Rules.{rules as source_rules}
+use Rattle.shows.specs.servers.Rules.{rules as status_rules}
+use Rattle.shows.specs.tables.Rules.{rules as source_rules}
 use Rattle.source_log.specs.Rules.{all_rules as append_rules}
 use Rattle.source_log.specs.Units.{table_rules}
 use Rattle.capture_core.specs.Rules.{rules as capture_rules}
 use Rattle.subs_sets.specs.Rules.{rules as set_rules}
-use Rattle.show_sets.specs.Rules.{rules as shown_rules}
-use Rattle.copy_targets.specs.Copies.{ShowsCopyDamage}
+use Rattle.shows.specs.sets.Rules.{rules as shown_rules}
+use Rattle.apply_copies.specs.Copies.{ShowsCopyDamage}
 
 -- the rules of what is read of definitions, of how far a server is, of its source, before its log is made longer, when its
 -- log is captured, of how far a set is, of tables when a unit of the program's own is appended, and of sets when they are shown

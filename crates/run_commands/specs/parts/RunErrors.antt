@@ -1,9 +1,9 @@
 -- Why a run ends early, by the error of a call.
 use Rattle.std.specs.Prelude.{Option, Some, None}
-use Rattle.faults.specs.declared.fault.Fault.{Fault}
-use Rattle.faults.specs.declared.fault.Fault.TheVariants as faults
-use Rattle.faults.specs.declared.call_errors.ShowError.{ShowError}
-use Rattle.faults.specs.declared.call_errors.ShowError.TheVariants as shows
+use Rattle.repl_types.specs.declared.fault.Fault.{Fault}
+use Rattle.repl_types.specs.declared.fault.Fault.TheVariants as faults
+use Rattle.repl_types.specs.declared.call_errors.ShowError.{ShowError}
+use Rattle.repl_types.specs.declared.call_errors.ShowError.TheVariants as shows
 use Rattle.keep_core.specs.declared.streams.ReadError.{ReadError}
 use Rattle.keep_core.specs.declared.streams.ReadError.TheVariants as reads
 use Rattle.line_input.specs.declared.input.InputError.{InputError}

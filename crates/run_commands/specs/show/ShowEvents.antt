@@ -5,7 +5,7 @@ use Rattle.repl_types.specs.declared.refusal.Refusal.TheVariants as refusals
 use Rattle.repl_model.specs.World.{Server, World, server_named, server_table}
 use Rattle.run_core.specs.Runs.{Event, writes}
 use Rattle.run_commands.specs.parts.Refusing.{refused}
-use Rattle.show_source.specs.Replies.{source_lines, log_lines, registered_named, change_lines, unit_lines}
+use Rattle.shows.specs.tables.Replies.{source_lines, log_lines, registered_named, change_lines, unit_lines}
 
 -- the lines of the rows of a table at a server of a name, or the refusal of the table if the server has none of its name
 abbrev pub table_events : List ℕ → List ℕ → Server → List (Event World)

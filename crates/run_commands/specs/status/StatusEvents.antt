@@ -4,7 +4,7 @@ use Rattle.std.specs.Option.{option_map_or}
 use Rattle.repl_types.specs.declared.refusal.Refusal.TheVariants as refusals
 use Rattle.repl_model.specs.World.{World, server_named}
 use Rattle.run_core.specs.Runs.{Event, writes}
-use Rattle.show_rows.specs.Status.{status_lines}
+use Rattle.shows.specs.servers.Status.{status_lines}
 use Rattle.run_commands.specs.parts.Refusing.{refused}
 
 -- it writes the lines of the server of that name, or refuses the name if no server has it

@@ -8,8 +8,8 @@ use Rattle.repl_model.specs.Rules.{is_replica_set}
 use Rattle.repl_model.specs.World.{Server, World, KnownSet, server_named, known_set}
 use Rattle.run_core.specs.Runs.{Event, writes}
 use Rattle.run_commands.specs.parts.Refusing.{refused}
-use Rattle.copy_targets.specs.Copies.{is_user_copy}
-use Rattle.show_sets.specs.Replies.{set_line, copy_lines, target_named}
+use Rattle.apply_copies.specs.Copies.{is_user_copy}
+use Rattle.shows.specs.sets.Replies.{set_line, copy_lines, target_named}
 
 -- how far a known set is, at a line with a number: a replica set isn't carried out yet, and is refused as an unknown command is
 abbrev pub known_set_events : ℕ → KnownSet → List (Event World)

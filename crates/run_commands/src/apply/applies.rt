@@ -5,7 +5,7 @@ ghost use Rattle.repl_model.specs.World.{World};
 ghost use Rattle.site_store.specs.Servers.{AllClosed};
 ghost use Rattle.site_store.specs.Views.{names, held, work};
 ghost use Rattle.site_store.specs.Calls.{KeepsServers};
-ghost use Rattle.server_steps.specs.Calls.{Looks};
+ghost use Rattle.site_store.specs.one_server.Calls.{Looks};
 ghost use Rattle.world_store.specs.Stands.{Stands};
 ghost use Rattle.set_places.specs.Places.{IsPlaced, IsKnownAs};
 ghost use Rattle.run_commands.specs.parts.Causes.{PartHasCause, FoundByRead};
@@ -17,7 +17,6 @@ ghost use Rattle.run_commands.specs.apply.StepEvents.{apply_events};
 
 use crate::apply::steps::{Progress, make_step};
 use crate::parts::{RunError, error_of_fault, refuse_set, reply};
-use action_worlds::next_actions_come_to_rest;
 use apply_cycle::most_steps;
 use keep_core::{Keeper, Sink};
 use repl_types::{Area, DamageCause, SetId};
@@ -25,6 +24,7 @@ use reply_text::Reply;
 use set_places::{PlacedSet, find_set};
 use site_store::Sites;
 use std::alloc::Global;
+use world_commits::next_actions_come_to_rest;
 
 /// How many steps a set that was found makes at most. Nothing is changed.
 fn most_of<K: Keeper>(alloc: Global, sites: &mut Sites<K>, set: &PlacedSet) -> Result<u64, RunError>

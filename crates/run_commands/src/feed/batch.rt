@@ -17,9 +17,8 @@ ghost use Rattle.run_commands.specs.feed.FeedEvents.{batch_events, last_position
 
 use crate::feed::feed::Feed;
 use crate::parts::{RunError, error_of_fault, refuse};
-use faults::AppendError;
 use keep_core::{Keeper, Sink};
-use repl_types::Refusal;
+use repl_types::{AppendError, Refusal};
 use site_store::Sites;
 use source_log::append;
 use std::alloc::Global;

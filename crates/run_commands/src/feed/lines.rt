@@ -1,8 +1,7 @@
 //! The lines of a feed, one after another.
 
 ghost use Rattle.std.specs.Prelude.{◌≡◌, ◌<◌, ◌≤◌, ◌+◌, length};
-ghost use Rattle.std.specs.Prelude.{IfOk, IfErr, IfSome, OnOk, OnErr, true};
-ghost use Rattle.std.specs.Prelude.{is_none};
+ghost use Rattle.std.specs.Prelude.{IfOk, IfErr, IfSome, OnOk, OnErr, true, is_none};
 ghost use Rattle.line_input.specs.Limits.{input_limit};
 ghost use Rattle.repl_types.specs.declared.refusal.Refusal.TheVariants.{BadLog};
 ghost use Rattle.repl_model.specs.World.{World};
@@ -15,7 +14,8 @@ ghost use Rattle.world_store.specs.Stands.{Stands};
 ghost use Rattle.run_commands.specs.feed.Feeds.{IsFeed, ends_transaction as ends_transaction_lem};
 ghost use Rattle.run_commands.specs.feed.Feeds.{with_record as with_record_lem};
 ghost use Rattle.run_commands.specs.feed.Feeds.{committed as committed_lem};
-ghost use Rattle.run_commands.specs.feed.FeedEvents.{begin_events, begun, feed_line_events, feed_after};
+ghost use Rattle.run_commands.specs.feed.FeedEvents.{begin_events, begun};
+ghost use Rattle.run_commands.specs.feed.FeedEvents.{feed_line_events, feed_after};
 ghost use Rattle.run_commands.specs.feed.FeedEvents.{record_events, after_record, refused_events};
 ghost use Rattle.run_commands.specs.feed.FeedEvents.{feed_end_events};
 ghost use Rattle.source_log.specs.Storing.{MayAppend};

@@ -3,10 +3,9 @@
 ghost use Rattle.std.specs.Prelude.{◌≡◌, IsSome, Some};
 ghost use Rattle.run_commands.specs.parts.RunErrors.{error_of_fault as error_of_fault_lem, error_of_show};
 
-use faults::{Fault, ShowError};
 use keep_core::ReadError;
 use line_input::InputError;
-use repl_types::{Area, DamageCause};
+use repl_types::{Area, DamageCause, Fault, ShowError};
 use std::alloc::AllocError;
 use thiserror::Error;
 

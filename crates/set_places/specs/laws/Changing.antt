@@ -7,13 +7,13 @@ use Rattle.std.proofs.lemmas.Bool.{and_parts}
 use Rattle.std.proofs.lemmas.Option.{none-some, same_Some}
 use Rattle.keep_core.specs.Contents.{Contents}
 use Rattle.repl_model.specs.AfterActions.{with_server}
-use Rattle.repl_model.specs.Rules.{all_differ}
+use Rattle.lists.specs.Lists.{all_differ}
 use Rattle.repl_model.specs.Sound.{IsSound}
 use Rattle.repl_model.specs.World.{Server, World}
 use Rattle.world_store.specs.Stands.{Holds, Reveals, Stands}
-use Rattle.load_worlds.specs.laws.Entries.{at_place_in}
-use Rattle.load_worlds.specs.laws.Members.{In, first_alone}
-use Rattle.load_worlds.specs.laws.Servers.{same_name, name_itself}
+use Rattle.lists.specs.laws.Numbered.{at_place_in}
+use Rattle.lists.specs.laws.Members.{In, first_alone}
+use Rattle.repl_model.specs.laws.GrowingServers.{same_name, name_itself}
 
 -- names of servers that are alike
 abbrev same_names : Server → Server → Bool

@@ -6,8 +6,8 @@ use Rattle.std.proofs.lemmas.List.{length-map, get_or-set_same}
 use Rattle.std.proofs.Math.ListN.{set}
 use Rattle.repl_types.specs.declared.area.Area.{Area}
 use Rattle.repl_types.specs.declared.status.DamageCause.{DamageCause}
-use Rattle.faults.specs.declared.fault.Fault.{Fault}
-use Rattle.faults.specs.declared.fault.Fault.TheVariants as faults
+use Rattle.repl_types.specs.declared.fault.Fault.{Fault}
+use Rattle.repl_types.specs.declared.fault.Fault.TheVariants as faults
 use Rattle.keep_core.specs.Contents.{Contents}
 use Rattle.keep_core.specs.Kept.{Kept}
 use Rattle.repl_model.specs.AfterActions.{with_server}
@@ -22,10 +22,10 @@ use Rattle.site_store.specs.Damage.{Rules, Shows, Damages}
 use Rattle.site_store.specs.laws.Counts.{at_most_itself, passes_then}
 use Rattle.site_store.specs.laws.Damage.{blames_by}
 use Rattle.site_store.specs.laws.Transactions.{took, closed_again, begun_sees}
-use Rattle.server_steps.specs.Calls.{Looks, GoesOn, Stops, Breaks}
-use Rattle.server_steps.specs.laws.Faults.{blames_after, stops_as, stops_after, put_fails, write_fails_on}
+use Rattle.site_store.specs.one_server.Calls.{Looks, GoesOn, Stops, Breaks}
+use Rattle.site_store.specs.one_server.laws.Faults.{blames_after, stops_as, stops_after, put_fails, write_fails_on}
 use Rattle.world_store.specs.Stands.{Holds, Stands}
-use Rattle.load_worlds.specs.laws.Members.{In}
+use Rattle.lists.specs.laws.Members.{In}
 use Rattle.set_places.specs.Steps.{HasBecome, BlamesUnchanged, HasStepped, CommitsStep, MayCommitStep}
 use Rattle.set_places.specs.laws.Changing.{stands_with_server}
 use Rattle.set_places.specs.laws.Standing.{revealed_at_place}

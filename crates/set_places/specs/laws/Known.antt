@@ -6,8 +6,8 @@ use Rattle.repl_model.specs.Rules.{is_replica_set}
 use Rattle.repl_model.specs.Sound.{IsSound}
 use Rattle.repl_model.specs.SoundDefinitions.{KnownSetKeepsRules, ServerKeepsRules, SetKeepsLimits, UnknownTarget, read_only_sets, set_limit}
 use Rattle.repl_model.specs.World.{TargetSide, World, KnownSet, known_sets}
-use Rattle.load_worlds.specs.laws.KnownSets.{known_stands}
-use Rattle.load_worlds.specs.laws.Members.{In, at_one, kept_by}
+use Rattle.repl_model.specs.laws.KnownSets.{known_stands}
+use Rattle.lists.specs.laws.Members.{In, at_one, kept_by}
 use Rattle.set_places.specs.declared.placed_set.PlacedSet.{PlacedSet}
 use Rattle.set_places.specs.Places.{IsPlacedAs, IsReadOnly}
 

@@ -16,8 +16,8 @@ use Rattle.repl_model.specs.SoundReplicas.{SettlesFrom, IsReplicaTrail, ReplicaM
 use Rattle.repl_model.specs.Trails.{Trail, Entry, refresh, block, load, settle, point_after, base_after, replica_after, synchpoint, base_of, replica_point}
 use Rattle.repl_model.specs.Units.{unit_at, units, last_commit}
 use Rattle.repl_model.specs.World.{TargetSide, Server, World, KnownSet, known_from, known_sets}
-use Rattle.load_worlds.specs.laws.KnownSets.{StandsIn, known_in, known_side, known_stands, source_in}
-use Rattle.load_worlds.specs.laws.Members.{In, at_one, kept_by, some_passes}
+use Rattle.repl_model.specs.laws.KnownSets.{StandsIn, known_in, known_side, known_stands, source_in}
+use Rattle.lists.specs.laws.Members.{In, at_one, kept_by, some_passes}
 
 -- ---- units
 

@@ -33,21 +33,15 @@ use Rattle.rows_in_order.specs.laws.Rising.{no_row_at}
 use Rattle.site_store.specs.Damage.{Shows, IsUndamaged}
 use Rattle.world_store.specs.DefinitionRows.{numbered_tables, defined_registration, registration_rows}
 use Rattle.world_store.specs.Stands.{Holds}
-use Rattle.load_worlds.specs.laws.Entries.{entry_has_row, row_is_entry, in_numbered, numbered_place, at_place_in}
-use Rattle.load_worlds.specs.laws.Members.{In, at_one, passes_at, in_second, in_filter_map, given_in, found_in}
-use Rattle.load_worlds.specs.laws.Servers.{same_name, name_itself}
-use Rattle.stored_defs.specs.Reading.{RowFits}
-use Rattle.stored_defs.specs.laws.Rows.{registration_rows_are}
+use Rattle.repl_model.specs.laws.Entries.{entry_has_row, row_is_entry}
+use Rattle.lists.specs.laws.Numbered.{in_numbered, numbered_place, at_place_in}
+use Rattle.lists.specs.laws.Members.{In, at_one, passes_at, in_second, in_filter_map, given_in, found_in}
+use Rattle.repl_model.specs.laws.GrowingServers.{same_name, name_itself}
+use Rattle.world_store.specs.SpelledRows.{RowFits}
+use Rattle.world_store.specs.laws.DefinitionRows.{registration_rows_are, name_one}
 use Rattle.stored_defs.specs.laws.Standing.{holds_defs, holds_spelt}
 use Rattle.set_places.specs.Members.{may_be_registration, is_called_for, member_rules}
 use Rattle.set_places.specs.laws.SetRows.{found_alone, held_source_row}
-
--- names that are spelled alike are one
-same_spelled : (a b : List ℕ) → short_text a ≡ short_text b → a ≡ b
-same_spelled a b e = tail_is (length a) (length b) a b e
-  where
-    tail_is : (m n : ℕ) (x y : List ℕ) → ◌≡◌ {A = List ℕ} (m ∷ x) (n ∷ y) → x ≡ y
-    tail_is m n x y e = cc
 
 -- a table that is found is registered if its source is
 registered_found : (name : List ℕ) (server : Server) → is_some (source_named name server) ≡ true → (t : ServerTable) × (server_table name server ≡ Some t) × ((r : Registered) × (t.registered ≡ Some r))
@@ -73,7 +67,7 @@ module _ (w : World) (server : Server) (keeps : ServerKeepsRules w server) where
       let i : In row (registration_rows server) = subst (In row) (sym found.1.split) (in_second found.1.front (row ∷ found.1.back) row (inl refl)) in
       let p = in_filter_map defined_registration (numbered_tables server) row (row_is_entry name_cmp name_cmp_exact (filter_map defined_registration (numbered_tables server)) row i) in
       let same : row.1 ≡ d = one_whole IsDefinedRegistration defined_registration_spelling one_defined_registration row.1 d (fits_each (RowFits IsName IsDefinedRegistration) (registration_rows server) row (registration_rows_are w server keeps).fit found.1).1 fit found.3 in
-      by_registered p.0 row same (same_spelled row.0 name found.2) p.1 p.0.1.registered refl p.2
+      by_registered p.0 row same (name_one row.0 name found.2) p.1 p.0.1.registered refl p.2
     where
       by_registered : (t : ℕ × ServerTable) (row : List ℕ × DefinedRegistration) → row.1 ≡ d → row.0 ≡ name → In t (numbered_tables server) → (o : Option Registered) → t.1.registered ≡ o → option_map (λ (r : Registered). (t.1.def.name, record { number = t.0; registration = r.reg })) o ≡ Some row → (t : ServerTable) × (r : Registered) × (server_table name server ≡ Some t) × (slice_get server.tables d.number ≡ Some t) × (t.registered ≡ Some r) × (d.registration ≡ r.reg)
       by_registered t row same named i None e is = absurd (none-some row is)

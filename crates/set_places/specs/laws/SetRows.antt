@@ -20,7 +20,7 @@ use Rattle.repl_definitions.specs.Sets.{source_set_spelling, IsSourceSet, target
 use Rattle.repl_definitions.specs.declared.set.SourceSet.{SourceSet}
 use Rattle.repl_definitions.specs.declared.set.TargetSet.{TargetSet}
 use Rattle.repl_definitions.specs.laws.Sets.{one_source_set, one_target_set}
-use Rattle.repl_model.specs.Rules.{all_differ}
+use Rattle.lists.specs.Lists.{all_differ}
 use Rattle.repl_model.specs.SoundDefinitions.{ServerKeepsRules}
 use Rattle.repl_model.specs.Summaries.{by_key}
 use Rattle.repl_model.specs.World.{SourceSide, TargetSide, Server, World, same_set, source_side, target_side}
@@ -30,18 +30,15 @@ use Rattle.rows_in_order.specs.laws.Found.{row_of}
 use Rattle.rows_in_order.specs.laws.Rising.{same_itself, no_row_at}
 use Rattle.world_store.specs.DefinitionRows.{source_set_rows, target_set_rows}
 use Rattle.world_store.specs.Stands.{Holds}
-use Rattle.load_worlds.specs.laws.Entries.{entry_has_row, row_is_entry, in_numbered, numbered_place, at_place_in}
-use Rattle.load_worlds.specs.laws.Members.{In, at_one, first_alone, in_second, in_map, image_in, found_in}
-use Rattle.load_worlds.specs.laws.Servers.{same_id, id_itself}
-use Rattle.stored_defs.specs.Reading.{RowFits}
-use Rattle.stored_defs.specs.laws.Rows.{set_alike, source_rows_are, target_rows_are}
+use Rattle.repl_model.specs.laws.Entries.{entry_has_row, row_is_entry}
+use Rattle.lists.specs.laws.Numbered.{in_numbered, numbered_place, at_place_in}
+use Rattle.lists.specs.laws.Members.{In, at_one, first_alone, in_second, in_map, image_in, found_in}
+use Rattle.repl_model.specs.laws.GrowingServers.{same_id, id_itself}
+use Rattle.world_store.specs.SpelledRows.{RowFits}
+use Rattle.world_store.specs.laws.DefinitionRows.{set_alike, source_rows_are, target_rows_are, set_one}
 use Rattle.stored_defs.specs.laws.Standing.{holds_defs}
 
 -- ---- names of sets
-
--- names of sets that are spelled alike are one
-pub same_set_name : (a b : SetId) → set_spelling a ≡ set_spelling b → a ≡ b
-same_set_name a b e = same_id a b (sym (set_alike a b) ∙ subst (λ (s : List ℕ). is_eq (bytes_cmp (set_spelling a) s) ≡ true) e (same_itself (set_spelling a)))
 
 -- two orders that tie in turn
 both_tie : (a b : Ordering) → ordering_then a b ≡ Equal → (a ≡ Equal) × (b ≡ Equal)
@@ -100,7 +97,7 @@ module _ {S R : Type 0} (id_of : S → SetId) (row_with : ℕ → S → R) (fits
       let i : In row rows = subst (In row) (sym found.1.split) (in_second found.1.front (row ∷ found.1.back) row (inl refl)) in
       let s = in_map entry (enumerate_from 0 sides) row (row_is_entry set_cmp set_cmp_exact (map entry (enumerate_from 0 sides)) row i) in
       let same : row.1 ≡ r = one_whole fits spelling one row.1 r (fits_each (RowFits IsSet fits) rows row all found.1).1 fit found.3 in
-      (s.0.0, s.0.1, numbered_place sides s.0 s.1, ap (λ (q : SetId × R). q.0) (sym s.2) ∙ same_set_name row.0 id found.2, ap (λ (q : SetId × R). q.1) (sym s.2) ∙ same)
+      (s.0.0, s.0.1, numbered_place sides s.0 s.1, ap (λ (q : SetId × R). q.0) (sym s.2) ∙ set_one row.0 id found.2, ap (λ (q : SetId × R). q.1) (sym s.2) ∙ same)
 
   -- if nothing stands under a name, no set has it
   none_at : (id : SetId) → table_from_rows set_spelling spelling rows (set_spelling id) ≡ None → (side : S) → In side sides → id_of side ≡ id → ⊥

@@ -7,8 +7,8 @@ use Rattle.site_store.specs.declared.sites.Sites.{Sites}
 use Rattle.site_store.specs.Calls.{Begins}
 use Rattle.site_store.specs.Servers.{AllClosed}
 use Rattle.site_store.specs.Views.{names, work}
-use Rattle.server_steps.specs.Calls.{Looks}
-use Rattle.server_steps.specs.laws.Reads.{looks_sees, sees_on}
+use Rattle.site_store.specs.one_server.Calls.{Looks}
+use Rattle.site_store.specs.one_server.laws.Reads.{looks_sees, sees_on}
 use Rattle.set_places.specs.declared.placed_set.PlacedSet.{PlacedSet}
 use Rattle.set_places.specs.Places.{HasSourceRow, HasTargetRow, IsPlacedAtSource, IsPlacedAtTarget, IsPlaced}
 use Rattle.set_places.specs.laws.Commits.{begun_sees_all}

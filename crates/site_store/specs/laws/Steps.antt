@@ -6,7 +6,7 @@ use Rattle.repl_types.specs.declared.status.DamageCause.{DamageCause}
 use Rattle.keep_core.specs.Contents.{Contents, put_at}
 use Rattle.keep_core.specs.Kept.{Kept}
 use Rattle.rows_in_order.specs.laws.Written.{put_other_table, put_other_area}
-use Rattle.faults.specs.declared.fault.Fault.{Fault}
+use Rattle.repl_types.specs.declared.fault.Fault.{Fault}
 use Rattle.site_store.specs.declared.sites.Sites.{Sites}
 use Rattle.site_store.specs.Views.{held, work, sees, IsOpenAt}
 use Rattle.site_store.specs.Works.{Sets}

@@ -6,8 +6,8 @@ ghost use Rattle.keep_core.specs.Kept.{WasThere};
 
 use crate::records::{begin_at, commit_at, get_record, next_record, put_record, remove_record};
 use crate::sites::Sites;
-use faults::Fault;
 use keep_core::Keeper;
+use repl_types::Fault;
 use row_codec::Stored;
 use std::alloc::Global;
 

@@ -4,9 +4,8 @@ ghost use Rattle.std.specs.Prelude.{◌≡◌, ◌<◌, Some, length, OnOk, IfOk
 
 use crate::records::get_needed_record;
 use crate::sites::Sites;
-use faults::Fault;
 use keep_core::Keeper;
-use repl_types::{DamageCause, List};
+use repl_types::{DamageCause, Fault, List};
 use row_codec::Stored;
 use std::alloc::{AllocError, Global};
 
@@ -31,7 +30,7 @@ fn spell_row<R: Stored>(alloc: Global, row: &R) -> Result<List<u8>, AllocError>
 
 impl<K: Keeper> Sites<K> {
     ghost use Rattle.repl_types.specs.declared.status.DamageCause.TheVariants.{Absent, Unfit};
-    ghost use Rattle.faults.specs.declared.fault.Fault.TheVariants.{Damaged};
+    ghost use Rattle.repl_types.specs.declared.fault.Fault.TheVariants.{Damaged};
     ghost use Rattle.site_store.specs.Records.{RowIs, IsRecord, StateIs, Misread, Misspelt};
     ghost use Rattle.site_store.specs.Records.{MissesOrMisreads, IsMissing};
     ghost use Rattle.site_store.specs.Views.{names, sees};

@@ -8,8 +8,8 @@ ghost use Rattle.keep_core.specs.Kept.{WasThere, NextIs, GivesNext};
 
 use crate::records::{next_spill_at, put_spill_at, remove_spill_at};
 use crate::sites::Sites;
-use faults::Fault;
 use keep_core::Keeper;
+use repl_types::Fault;
 
 /// After a fault no transaction is open at any server, and each server holds what it held.
 impl<K: Keeper> Sites<K> {

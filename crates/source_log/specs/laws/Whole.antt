@@ -16,11 +16,11 @@ use Rattle.repl_model.specs.Sound.{IsSound}
 use Rattle.repl_model.specs.SoundDefinitions.{ServerKeepsRules}
 use Rattle.repl_model.specs.SoundLogs.{LogIsSound}
 use Rattle.repl_model.specs.World.{Server, World}
-use Rattle.load_worlds.specs.laws.Members.{In, at_one}
+use Rattle.lists.specs.laws.Members.{In, at_one}
 use Rattle.world_store.specs.LogRows.{head_of}
 use Rattle.world_store.specs.Stands.{shown, Holds}
 use Rattle.world_store.specs.Tables.{tables, first_table}
-use Rattle.log_rows.specs.LongerTables.{head_table}
+use Rattle.stored_commits.specs.records.LongerTables.{head_table}
 use Rattle.site_store.specs.Records.{or_first}
 use Rattle.source_log.specs.Rules.{EndIs}
 use Rattle.source_log.specs.Storing.{IsKept, StoresWhole}

@@ -4,7 +4,7 @@ use Rattle.std.specs.Prelude.{◌||◌, find, Option, Some, None, is_some, slice
 use Rattle.std.specs.List.{AllByRecursion, enumerate_from, list_all, list_any}
 use Rattle.std.specs.Ordering.{is_eq, eq_by_cmp}
 use Rattle.std.specs.Str.{bytes_eq}
-use Rattle.std.proofs.lemmas.Bool.{false≢true}
+use Rattle.std.proofs.lemmas.Bool.{false≢true, and_parts}
 use Rattle.repl_types.specs.Bytes.{bytes_cmp}
 use Rattle.repl_types.specs.Name.{is_name}
 use Rattle.repl_types.specs.declared.table.ColumnDef.{ColumnDef}
@@ -15,21 +15,22 @@ use Rattle.row_codec.specs.laws.Orders.{whole_order, order_name, name_cmp_exact}
 use Rattle.repl_definitions.specs.declared.defined.DefinedTable.{DefinedTable}
 use Rattle.repl_definitions.specs.Defined.{defined_table_spelling, IsDefinedTable}
 use Rattle.repl_definitions.specs.laws.Defined.{one_defined_table}
-use Rattle.repl_model.specs.Rules.{all_differ}
+use Rattle.lists.specs.Lists.{all_differ}
 use Rattle.repl_model.specs.SoundDefinitions.{KeepsTable, ServerKeepsRules, table_limit}
 use Rattle.repl_model.specs.World.{ServerTable, Server, World, server_table}
 use Rattle.rows_in_order.specs.Rows.{table_from_rows}
 use Rattle.rows_in_order.specs.laws.Found.{row_of}
 use Rattle.rows_in_order.specs.laws.Fitting.{fits_each}
 use Rattle.rows_in_order.specs.laws.Rising.{same_itself, same_is}
-use Rattle.load_worlds.specs.laws.Entries.{row_is_entry, numbered_place, at_place_in}
-use Rattle.load_worlds.specs.laws.Members.{In, in_map, in_second, found_in, only_one}
-use Rattle.load_worlds.specs.laws.Servers.{same_name, name_itself}
+use Rattle.repl_model.specs.laws.Entries.{row_is_entry}
+use Rattle.lists.specs.laws.Numbered.{numbered_place, at_place_in}
+use Rattle.lists.specs.laws.Members.{In, in_map, in_second, found_in, only_one, each_image}
+use Rattle.repl_model.specs.laws.GrowingServers.{same_name, name_itself}
 use Rattle.world_store.specs.DefinitionRows.{numbered_tables, table_rows}
-use Rattle.stored_defs.specs.Reading.{RowFits}
-use Rattle.stored_defs.specs.laws.ByKey.{spelled_cmp, by_key_has}
-use Rattle.stored_defs.specs.laws.Lists.{alike, all_map, all_numbered, both_true}
-use Rattle.stored_defs.specs.laws.Rows.{table_rows_are}
+use Rattle.world_store.specs.SpelledRows.{RowFits}
+use Rattle.world_store.specs.laws.ByKey.{spelled_cmp, by_key_has}
+use Rattle.lists.specs.laws.Places.{alike, all_numbered}
+use Rattle.world_store.specs.laws.DefinitionRows.{table_rows_are}
 
 -- the entry of a table
 abbrev entry : ℕ × ServerTable → List ℕ × DefinedTable
@@ -77,7 +78,7 @@ table_alone name tables t differ i named some = by_found (find (λ (a : ServerTa
 module _ (world : World) (server : Server) (keeps : ServerKeepsRules world server) where
   -- the names of the tables are names
   entries_named : AllByRecursion (RowFits IsName Any) (map entry (numbered_tables server))
-  entries_named = all_map (RowFits IsName Any) entry (numbered_tables server) (all_numbered KeepsTable (λ t. RowFits IsName Any (entry t)) table_limit 0 server.tables (omega (arith, keeps.count)) keeps.tables (λ m t lt k. ((both_true (is_name t.def.name) (list_all (λ (column : ColumnDef). is_name column.name) t.def.columns) k.0.names).0, tt)))
+  entries_named = each_image (RowFits IsName Any) entry (numbered_tables server) (all_numbered KeepsTable (λ t. RowFits IsName Any (entry t)) table_limit 0 server.tables (omega (arith, keeps.count)) keeps.tables (λ m t lt k. ((and_parts (is_name t.def.name) (list_all (λ (column : ColumnDef). is_name column.name) t.def.columns) k.0.names).0, tt)))
 
   -- a definition stands under a name if and only if a table has the name
   pub table_stands : (name : List ℕ) → is_some (table_from_rows short_text defined_table_spelling (table_rows server) (short_text name)) ≡ is_some (server_table name server)

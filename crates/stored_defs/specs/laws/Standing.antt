@@ -1,30 +1,25 @@
 -- What is seen at servers that stand for a world: proofs, and nothing to believe.
 use Rattle.std.proofs.Common.{◌≡◌, ℕ, zero, suc, ◌<◌, Bool, true, false, cond, List, [], ◌∷◌, length, map, get_or, refl, sym, ap, subst, ◌∙◌, arith}
-use Rattle.std.specs.Prelude.{Option, Some, None, IfSome, is_some}
+use Rattle.std.specs.Prelude.{Option, Some, None, IfSome}
 use Rattle.std.specs.List.{AllByRecursion, AllZip}
-use Rattle.std.specs.Option.{option_map, option_map_or}
+use Rattle.std.specs.Option.{option_map}
 use Rattle.std.specs.Str.{bytes_eq}
 use Rattle.std.proofs.lemmas.List.{length-map}
 use Rattle.repl_types.specs.declared.area.Area.TheVariants as areas
 use Rattle.repl_types.specs.declared.record.SetId.{SetId}
 use Rattle.repl_types.specs.laws.Lists.{all_weaker}
-use Rattle.faults.specs.declared.fault.Fault.{Fault}
+use Rattle.repl_types.specs.declared.fault.Fault.{Fault}
 use Rattle.keep_core.specs.Contents.{Contents, Table}
 use Rattle.keep_core.specs.Kept.{Kept, seen_of}
 use Rattle.row_codec.specs.Spelling.{short_text, IsName, set_spelling, IsSet}
 use Rattle.repl_definitions.specs.Defined.{defined_table_spelling, IsDefinedTable, defined_registration_spelling, IsDefinedRegistration}
 use Rattle.repl_definitions.specs.Sets.{source_set_spelling, IsSourceSet, target_set_spelling, IsTargetSet}
-use Rattle.repl_definitions.specs.declared.set.SetDef.{SetDef}
-use Rattle.repl_definitions.specs.declared.set.SourceSet.{SourceSet}
 use Rattle.repl_definitions.specs.declared.set.TargetSet.{TargetSet}
-use Rattle.repl_definitions.specs.declared.defined.DefinedTable.{DefinedTable}
-use Rattle.repl_definitions.specs.declared.defined.DefinedRegistration.{DefinedRegistration}
-use Rattle.repl_model.specs.Sound.{empty_server}
+use Rattle.repl_model.specs.World.{empty_server, Server, World, server_named, server_in}
 use Rattle.repl_model.specs.SoundDefinitions.{ServerKeepsRules}
-use Rattle.repl_model.specs.World.{Server, World, server_named, source_side}
+use Rattle.repl_model.specs.laws.GrowingServers.{name_itself, same_name}
 use Rattle.rows_in_order.specs.Rows.{table_from_rows}
 use Rattle.site_store.specs.declared.sites.Sites.{Sites}
-use Rattle.site_store.specs.Records.{RowIs}
 use Rattle.site_store.specs.Servers.{AllClosed, AreApart, HasNone, IsPlace}
 use Rattle.site_store.specs.Views.{names, held, work, sees}
 use Rattle.site_store.specs.Calls.{Bounds, Stays, Blames}
@@ -33,13 +28,10 @@ use Rattle.site_store.specs.laws.Damage.{rows_spelt, spelt_undamaged, no_damage}
 use Rattle.world_store.specs.DefinitionRows.{table_rows, registration_rows, source_set_rows, target_set_rows}
 use Rattle.world_store.specs.Tables.{tables, definition_table}
 use Rattle.world_store.specs.Stands.{Holds, Reveals, Stands}
-use Rattle.spelled_defs.specs.declared.defs.TableAt.{TableAt}
-use Rattle.spelled_defs.specs.declared.defs.RegistrationAt.{RegistrationAt}
-use Rattle.load_model.specs.Known.{tables_at, registrations_at, stands_at_source}
-use Rattle.stored_defs.specs.Reading.{RowFits, AreRows, HasRecords}
+use Rattle.stored_defs.specs.Reading.{HasRecords}
+use Rattle.world_store.specs.SpelledRows.{RowFits, AreRows}
 use Rattle.stored_defs.specs.Rules.{rules, ShowsDamage}
-use Rattle.stored_defs.specs.Known.{server_in}
-use Rattle.stored_defs.specs.laws.Rows.{text_is, text_itself, table_rows_are, registration_rows_are, source_rows_are, target_rows_are, source_row_stands}
+use Rattle.world_store.specs.laws.DefinitionRows.{table_rows_are, registration_rows_are, source_rows_are, target_rows_are}
 
 -- ---- lists
 
@@ -72,12 +64,12 @@ name_at_place (s ∷ ss) (suc n) = name_at_place ss n
 -- the server at the place of a name is the one of the name
 place_found : (w : World) (name : List ℕ) (n : ℕ) → n < length w → get_or (map (λ server. server.name) w) n [] ≡ name → AreApart (map (λ server. server.name) w) → server_named name w ≡ Some (server_in w n)
 place_found [] name n lt is apart = absurd (omega arith)
-place_found (s ∷ ss) name zero lt is apart = ap (λ (t : Bool). cond t (Some s) (server_named name ss)) (subst (λ (l : List ℕ). bytes_eq name l ≡ true) (sym is) (text_itself name))
+place_found (s ∷ ss) name zero lt is apart = ap (λ (t : Bool). cond t (Some s) (server_named name ss)) (subst (λ (l : List ℕ). bytes_eq name l ≡ true) (sym is) (name_itself name))
 place_found (s ∷ ss) name (suc n) lt is apart = pick (bytes_eq name s.name) refl (place_found ss name n (omega arith) is (λ i j before within. apart (suc i) (suc j) (omega arith) (omega arith)))
   where
     pick : (t : Bool) → bytes_eq name s.name ≡ t → server_named name ss ≡ Some (server_in ss n) → cond t (Some s) (server_named name ss) ≡ Some (server_in ss n)
     pick false other rest = rest
-    pick true same rest = absurd (apart 0 (suc n) (omega arith) (simp length-map (omega arith)) (sym (text_is name s.name same) ∙ sym is))
+    pick true same rest = absurd (apart 0 (suc n) (omega arith) (simp length-map (omega arith)) (sym (same_name name s.name same) ∙ sym is))
 
 -- if no server has a name, none is found by it
 none_named : (w : World) (name : List ℕ) → HasNone (map (λ server. server.name) w) name → server_named name w ≡ None
@@ -86,7 +78,7 @@ none_named (s ∷ ss) name none = pick (bytes_eq name s.name) refl (none_named s
   where
     pick : (t : Bool) → bytes_eq name s.name ≡ t → server_named name ss ≡ None → cond t (Some s) (server_named name ss) ≡ None
     pick false other rest = rest
-    pick true same rest = absurd (none 0 (omega arith) (sym (text_is name s.name same)))
+    pick true same rest = absurd (none 0 (omega arith) (sym (same_name name s.name same)))
 
 -- ---- what a server holds
 
@@ -127,29 +119,7 @@ module _ {K : Type 0} (kept : K → Kept) (s0 : Sites K) (closed : AllClosed (wo
       let has = subst (λ (o : Option Contents). IfSome o (HasRecords key_fits key fits spelling areas.Defs t records)) r.1 read in
       has rows are (holds_defs w (server_in w n) r.0 r.2 t ∙ is)
 
-  -- the tables that were read are those of the server
-  pub tables_read : (n : ℕ) (name : List ℕ) (records : List DefinedTable) → n < length (names s0) → name ≡ get_or (names s0) n [] → IfSome (sees kept s0 n) (HasRecords IsName short_text IsDefinedTable defined_table_spelling areas.Defs 0 records) → map (λ row. record { server = name; def = row.def }) records ≡ tables_at (server_in w n)
-  tables_read n name records lt is read =
-      let server = server_in w n in
-      let named : name ≡ server.name = is ∙ ap (λ (l : List (List ℕ)). get_or l n []) (sym stands.named) ∙ name_at_place w n in
-      let rows : records ≡ map (λ row. row.1) (table_rows server) = read_is IsName short_text IsDefinedTable defined_table_spelling 0 n (table_rows server) records lt (table_rows_are w server (keeps_at n lt)) refl read in
-      (λ i. map (λ (row : DefinedTable). table_of (named i) row) (rows i)) ∙ map_again (table_of server.name) (λ (row : List ℕ × DefinedTable). row.1) (table_rows server)
-    where
-      table_of : List ℕ → DefinedTable → TableAt
-      table_of name row = record { server = name; def = row.def }
-
-  -- so are the registrations
-  pub registrations_read : (n : ℕ) (name : List ℕ) (records : List DefinedRegistration) → n < length (names s0) → name ≡ get_or (names s0) n [] → IfSome (sees kept s0 n) (HasRecords IsName short_text IsDefinedRegistration defined_registration_spelling areas.Defs 1 records) → map (λ row. record { server = name; def = row.registration }) records ≡ registrations_at (server_in w n)
-  registrations_read n name records lt is read =
-      let server = server_in w n in
-      let named : name ≡ server.name = is ∙ ap (λ (l : List (List ℕ)). get_or l n []) (sym stands.named) ∙ name_at_place w n in
-      let rows : records ≡ map (λ row. row.1) (registration_rows server) = read_is IsName short_text IsDefinedRegistration defined_registration_spelling 1 n (registration_rows server) records lt (registration_rows_are w server (keeps_at n lt)) refl read in
-      (λ i. map (λ (row : DefinedRegistration). registration_of (named i) row) (rows i)) ∙ map_again (registration_of server.name) (λ (row : List ℕ × DefinedRegistration). row.1) (registration_rows server)
-    where
-      registration_of : List ℕ → DefinedRegistration → RegistrationAt
-      registration_of name row = record { server = name; def = row.registration }
-
-  -- and the sets whose target it is
+  -- the sets that were read are those whose target the server is
   pub targets_read : (n : ℕ) (records : List TargetSet) → n < length (names s0) → IfSome (sees kept s0 n) (HasRecords IsSet set_spelling IsTargetSet target_set_spelling areas.Defs 3 records) → map (λ row. row.def) records ≡ map (λ row. row.1.def) (target_set_rows (server_in w n))
   targets_read n records lt read =
       let server = server_in w n in
@@ -167,25 +137,6 @@ module _ {K : Type 0} (kept : K → Kept) (s0 : Sites K) (closed : AllClosed (wo
   -- if no server has a name, the world has none of that name
   pub no_server : (name : List ℕ) → HasNone (names s0) name → server_named name w ≡ None
   no_server name none = none_named w name (subst (λ (l : List (List ℕ)). HasNone l name) (sym stands.named) none)
-
-  -- a set of whose source there is no server doesn't stand there
-  pub no_source : (def : SetDef) → HasNone (names s0) def.source → stands_at_source w def ≡ false
-  no_source def none = ap (λ (o : Option Server). option_map_or (λ source. is_some (source_side def.id source)) o false) (no_server def.source none)
-
-  -- a set stands at its source if and only if a row is found there
-  pub at_source : (def : SetDef) (n : ℕ) (row : Option SourceSet) → AreApart (names s0) → IsPlace (names s0) def.source n → IfSome (sees kept s0 n) (RowIs source_set_spelling areas.Defs 2 (set_spelling def.id) row) → is_some row ≡ stands_at_source w def
-  at_source def n row apart place read =
-      let r = seen_at n place.within in
-      let has : r.0 areas.Defs 2 (set_spelling def.id) ≡ option_map source_set_spelling row = subst (λ (o : Option Contents). IfSome o (RowIs source_set_spelling areas.Defs 2 (set_spelling def.id) row)) r.1 read in
-      let found : server_named def.source w ≡ Some (server_in w n) = server_at_place def.source n apart place in
-      mapped row
-      ∙ ap is_some (sym has ∙ ap (λ (u : Table). u (set_spelling def.id)) (holds_defs w (server_in w n) r.0 r.2 2))
-      ∙ source_row_stands w (server_in w n) (keeps_at n place.within) def.id
-      ∙ ap (λ (o : Option Server). option_map_or (λ source. is_some (source_side def.id source)) o false) (sym found)
-    where
-      mapped : (o : Option SourceSet) → is_some o ≡ is_some (option_map source_set_spelling o)
-      mapped None = refl
-      mapped (Some x) = refl
 
 -- ---- calls that change nothing
 

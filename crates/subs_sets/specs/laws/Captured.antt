@@ -23,8 +23,8 @@ use Rattle.site_store.specs.Records.{or_first}
 use Rattle.world_store.specs.CaptureRows.{capture_state, capture_rows, registration_state_rows, uow_rows}
 use Rattle.world_store.specs.Stands.{Holds}
 use Rattle.world_store.specs.Tables.{tables, first_table}
-use Rattle.load_worlds.specs.laws.Members.{In, at_one, found_in}
-use Rattle.prune_control.specs.laws.Marks.{no_first}
+use Rattle.world_store.specs.laws.FirstStates.{no_first}
+use Rattle.lists.specs.laws.Members.{In, at_one, found_in}
 use Rattle.prune_control.specs.laws.Numbered.{entry_at}
 use Rattle.set_places.specs.laws.Points.{seq_or_zero_within}
 use Rattle.subs_sets.specs.laws.States.{first_or}

@@ -33,9 +33,9 @@ use Rattle.repl_model.specs.Tables.{same_values}
 use Rattle.repl_model.specs.Trails.{Entry, refresh, block, load, settle}
 use Rattle.repl_model.specs.World.{Registered, ServerTable, TargetSide, Server, World, server_named, server_table, as_source, source_named}
 use Rattle.world_store.specs.TargetRows.{source_of, rows_refreshed, set_rows_refreshed, member_changes, set_changes, count_op, is_insert, is_update, is_delete, trail_entry}
-use Rattle.load_worlds.specs.laws.Members.{In, at_one, found_in}
+use Rattle.lists.specs.laws.Members.{In, at_one, found_in}
 use Rattle.set_places.specs.laws.Points.{HasShortNumbers, target_entries_short}
-use Rattle.subs_sets.specs.laws.FewRows.{selected_few, between_few}
+use Rattle.world_store.specs.laws.FewRows.{selected_few, between_few}
 
 -- ---- groups
 

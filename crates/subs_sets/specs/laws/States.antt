@@ -29,8 +29,8 @@ use Rattle.site_store.specs.Records.{or_first}
 use Rattle.world_store.specs.TargetRows.{has_points, source_time, state_of, first_state_rows, set_state_rows}
 use Rattle.world_store.specs.Stands.{Holds}
 use Rattle.world_store.specs.Tables.{tables, first_table, with_first}
-use Rattle.load_worlds.specs.laws.Members.{In, at_one, found_in}
-use Rattle.capture_worlds.specs.laws.Units.{units_rise, all_after}
+use Rattle.lists.specs.laws.Members.{In, at_one, found_in}
+use Rattle.world_commits.specs.captures.laws.Units.{units_rise, all_after}
 use Rattle.prune_control.specs.laws.Numbered.{row_at}
 use Rattle.set_places.specs.laws.Points.{Reaches, target_numbers}
 use Rattle.subs_sets.specs.States.{first_state_of}

@@ -37,8 +37,8 @@ use Rattle.world_store.specs.DefinitionRows.{numbered_tables, registration_rows}
 use Rattle.world_store.specs.Stands.{Holds}
 use Rattle.world_store.specs.Tables.{no_rows, trail_table, tables, with_first}
 use Rattle.world_store.specs.TargetRows.{has_points, source_time, state_of, first_state_rows, set_state_rows, numbered_target_sets, trail_rows, trail_entry}
-use Rattle.load_worlds.specs.laws.Entries.{numbered_in, at_place_in}
-use Rattle.load_worlds.specs.laws.Members.{In, at_one, in_map, in_second, in_filter_map, given_in}
+use Rattle.lists.specs.laws.Numbered.{numbered_in, at_place_in}
+use Rattle.lists.specs.laws.Members.{In, at_one, in_map, in_second, in_filter_map, given_in}
 use Rattle.stored_defs.specs.laws.Standing.{holds_defs}
 use Rattle.set_places.specs.laws.Registrations.{registration_row_is, members_undamaged}
 use Rattle.set_places.specs.laws.SetRows.{held_target_row}
@@ -69,7 +69,7 @@ undamaged_both r q c first second a (causes.Unfit bytes) h = elim h.1.2 [
 undamaged_both r q c first second a (causes.NoRest steps) h = h
 
 -- what is there counts, whatever is first
-there_first : (first t : Table) (k v : List ℕ) → t k ≡ Some v → with_first first t k ≡ Some v
+pub there_first : (first t : Table) (k v : List ℕ) → t k ≡ Some v → with_first first t k ≡ Some v
 there_first first t k v has = ap (λ (o : Option (List ℕ)). option_or o (first k)) has
 
 -- a row of a table is in its list

@@ -1,9 +1,8 @@
 -- The rows of the units that a server of a sound world has captured.
 use Rattle.std.proofs.Common.{◌≡◌, ℕ, ◌+◌, ◌<◌, ◌≤◌, Bool, true, false, ◌&&◌, cond, List, [], ◌∷◌, length, map, filter, refl, arith}
-use Rattle.std.specs.Prelude.{nat_lt, nat_le, find, Option, Some, None}
+use Rattle.std.specs.Prelude.{nat_lt, nat_le, find, Option, Some, None, ◌==◌}
 use Rattle.std.specs.List.{AllByRecursion, enumerate_from, filter_map}
 use Rattle.std.specs.Option.{option_map_or}
-use Rattle.std.specs.Prelude.{◌==◌}
 use Rattle.std.proofs.lemmas.Bool.{and_parts, and_from, leb-true, le-leb}
 use Rattle.repl_types.specs.declared.record.LogRecord.{LogRecord}
 use Rattle.repl_types.specs.declared.record.LogRecord.TheVariants as records
@@ -18,8 +17,8 @@ use Rattle.repl_model.specs.SourceAt.{units_between}
 use Rattle.repl_model.specs.Units.{unit_at, units}
 use Rattle.repl_model.specs.World.{Server, World, code_in}
 use Rattle.rows_in_order.specs.Numbers.{AllAbove, NumbersRise}
-use Rattle.capture_worlds.specs.laws.Units.{Rise, units_rise}
-use Rattle.load_worlds.specs.laws.Members.{In, at_one, at_each, in_filter, found_in}
+use Rattle.world_commits.specs.captures.laws.Units.{Rise, units_rise}
+use Rattle.lists.specs.laws.Members.{In, at_one, at_each, in_filter, found_in}
 use Rattle.set_places.specs.laws.Points.{seqs_within}
 
 -- ---- units that a filter keeps

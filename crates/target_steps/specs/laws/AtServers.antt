@@ -2,7 +2,7 @@
 use Rattle.std.proofs.Common.{◌≡◌, ℕ, List, inl, get_or, sym, subst}
 use Rattle.std.specs.Prelude.{Option, Some, None}
 use Rattle.std.proofs.Math.ListN.{set as set_at}
-use Rattle.faults.specs.declared.fault.Fault.{Fault}
+use Rattle.repl_types.specs.declared.fault.Fault.{Fault}
 use Rattle.keep_core.specs.Contents.{Contents}
 use Rattle.keep_core.specs.Kept.{Kept}
 use Rattle.repl_model.specs.World.{World, KnownSet}
@@ -11,10 +11,10 @@ use Rattle.site_store.specs.Servers.{AllClosed}
 use Rattle.site_store.specs.Views.{names, held, work, sees}
 use Rattle.site_store.specs.Damage.{IsUndamaged, IsNoDamage}
 use Rattle.site_store.specs.laws.Damage.{no_damage}
-use Rattle.server_steps.specs.Calls.{Looks, Breaks}
-use Rattle.server_steps.specs.laws.Reads.{looks_sees}
+use Rattle.site_store.specs.one_server.Calls.{Looks, Breaks}
+use Rattle.site_store.specs.one_server.laws.Reads.{looks_sees}
 use Rattle.world_store.specs.Stands.{Reveals, Stands}
-use Rattle.load_worlds.specs.laws.Entries.{at_place_in}
+use Rattle.lists.specs.laws.Numbered.{at_place_in}
 use Rattle.subs_sets.specs.Rules.{source_rules, state_rules}
 use Rattle.subs_sets.specs.laws.Undamaged.{source_undamaged, states_undamaged}
 use Rattle.set_places.specs.declared.placed_set.PlacedSet.{PlacedSet}

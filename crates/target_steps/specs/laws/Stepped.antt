@@ -5,7 +5,7 @@ use Rattle.std.specs.List.{AllByRecursion}
 use Rattle.repl_types.specs.declared.area.Area.{Area}
 use Rattle.repl_types.specs.declared.area.Area.TheVariants as areas
 use Rattle.repl_types.specs.declared.status.DamageCause.{DamageCause}
-use Rattle.faults.specs.declared.fault.Counts.{Counts}
+use Rattle.repl_types.specs.declared.fault.Counts.{Counts}
 use Rattle.keep_core.specs.Contents.{Contents, Table, set_key}
 use Rattle.keep_core.specs.Kept.{Kept}
 use Rattle.row_codec.specs.Spelling.{b32, b64}
@@ -19,8 +19,8 @@ use Rattle.repl_records.specs.declared.trail.TrailEntry.{TrailEntry}
 use Rattle.repl_model.specs.Sound.{IsSound}
 use Rattle.repl_model.specs.World.{World, KnownSet}
 use Rattle.world_store.specs.Stands.{Holds, Reveals}
-use Rattle.action_store.specs.ActedServers.{is_of_step}
-use Rattle.action_store.specs.StoredSteps.{is_numbered, NoneNumbered, PutsStep, HasTargets}
+use Rattle.stored_commits.specs.actions.ActedServers.{is_of_step}
+use Rattle.stored_commits.specs.actions.StoredSteps.{is_numbered, NoneNumbered, PutsStep, HasTargets}
 use Rattle.site_store.specs.declared.sites.Sites.{Sites}
 use Rattle.site_store.specs.Views.{sees}
 use Rattle.subs_sets.specs.States.{state_in}

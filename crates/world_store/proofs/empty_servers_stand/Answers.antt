@@ -1,4 +1,4 @@
-use Rattle.repl_model.specs.Sound.{empty_world}
+use Rattle.repl_model.specs.World.{empty_world}
 use Rattle.world_store.proofs.EmptyServers.{all_reveal, named}
 use Rattle.world_store.proofs.empty_servers_stand.Goals as goal
 

@@ -2,7 +2,7 @@ use Rattle.std.specs.Prelude.{None}
 use Rattle.repl_types.specs.declared.area.Area.TheVariants as areas
 use Rattle.row_codec.specs.Spelling.{key_spelling}
 use Rattle.site_store.specs.Works.{Sets}
-use Rattle.server_steps.specs.laws.Steps.{goes_as, goes_put}
+use Rattle.site_store.specs.one_server.laws.Steps.{goes_as, goes_put}
 use Rattle.apply_copies.specs.Changing.{source_as, TakesRow}
 use Rattle.apply_copies.specs.Copying.{LoadsRow}
 use Rattle.apply_copies.proofs.TakenRows.{takes_insert, takes_delete}

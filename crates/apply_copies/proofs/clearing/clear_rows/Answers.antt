@@ -2,8 +2,8 @@ use Rattle.std.proofs.Common.{Some, None, ◌<◌, ℕ, List, length, sym, subst
 use Rattle.std.proofs.lemmas.Result.{err_from_is_err_and}
 use Rattle.row_codec.specs.Spelling.{key_spelling}
 use Rattle.site_store.specs.Records.{after_key}
-use Rattle.server_steps.specs.laws.Damage.{breaks_on}
-use Rattle.server_steps.specs.laws.Steps.{goes_none, goes_then, goes_open}
+use Rattle.site_store.specs.one_server.laws.Damage.{breaks_on}
+use Rattle.site_store.specs.one_server.laws.Steps.{goes_none, goes_then, goes_open}
 use Rattle.apply_copies.specs.Clearing.{ClearsNext, Clears}
 use Rattle.apply_copies.specs.Rules.{target_rules}
 use Rattle.apply_copies.proofs.KeyRanks.{rank_rises, rank_small}

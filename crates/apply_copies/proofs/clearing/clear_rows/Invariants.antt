@@ -2,7 +2,7 @@ use Rattle.std.specs.Prelude.{◌-◌, IfSome}
 use Rattle.repl_types.specs.Sizes.{key_limit}
 use Rattle.row_codec.specs.Spelling.{key_spelling}
 use Rattle.site_store.specs.Records.{after_key}
-use Rattle.server_steps.specs.Calls.{GoesOn}
+use Rattle.site_store.specs.one_server.Calls.{GoesOn}
 use Rattle.set_places.specs.Reading.{ReadsOnly}
 use Rattle.apply_copies.specs.Keys.{IsStoredKey}
 use Rattle.apply_copies.specs.Rules.{is_of_load}

@@ -1,6 +1,6 @@
 use Rattle.std.proofs.Common.{◌≡◌, ℕ, List, ◌++◌, ◌∷◌, [], sym, ap, ◌∙◌, arith}
 use Rattle.std.proofs.lemmas.List.FromFn.{map-range_with_len_more}
-use Rattle.copy_changes.specs.ChangedCopies.{image_of}
+use Rattle.stored_commits.specs.copies.ChangedCopies.{image_of}
 use Rattle.apply_copies.proofs.images.imaged_row.Goals as goal
 
 pub loop-column-preserved : goal.loop-column-preserved

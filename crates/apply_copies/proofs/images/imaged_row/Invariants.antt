@@ -1,6 +1,6 @@
 use Rattle.std.specs.Prelude.{◌≡◌, map}
 use Rattle.std.specs.List.{range_with_len}
-use Rattle.copy_changes.specs.ChangedCopies.{image_of}
+use Rattle.stored_commits.specs.copies.ChangedCopies.{image_of}
 use Rattle.apply_copies.proofs.images.imaged_row.Given as goal
 
 abbrev pub invariant-loop-column : goal.invariant-loop-column

@@ -1,5 +1,5 @@
 use Rattle.std.specs.Prelude.{◌≡◌, map, take}
-use Rattle.copy_changes.specs.ChangedCopies.{value_before}
+use Rattle.stored_commits.specs.copies.ChangedCopies.{value_before}
 use Rattle.apply_copies.specs.ChangeRules.{source_of}
 use Rattle.apply_copies.proofs.images.key_before.Given as goal
 

@@ -4,9 +4,9 @@ use Rattle.repl_types.specs.Sizes.{row_limit}
 use Rattle.repl_definitions.specs.declared.member.TargetColumn.{TargetColumn}
 use Rattle.repl_definitions.specs.laws.Sets.{again_source_set}
 use Rattle.site_store.specs.Views.{work, sees}
-use Rattle.server_steps.specs.laws.Damage.{breaks_after}
-use Rattle.server_steps.specs.laws.Reads.{looks_sees}
-use Rattle.server_steps.specs.laws.Steps.{goes_then, looks_open}
+use Rattle.site_store.specs.one_server.laws.Damage.{breaks_after}
+use Rattle.site_store.specs.one_server.laws.Reads.{looks_sees}
+use Rattle.site_store.specs.one_server.laws.Steps.{goes_then, looks_open}
 use Rattle.apply_copies.specs.Clearing.{Clears}
 use Rattle.apply_copies.specs.Copying.{LoadsAll}
 use Rattle.apply_copies.specs.Loading.{target_number, LoadsCopy}

@@ -7,7 +7,7 @@ use Rattle.repl_records.specs.SourceSide.{source_row_spelling, IsSourceRow}
 use Rattle.site_store.specs.Calls.{reads_of_one}
 use Rattle.site_store.specs.Records.{after_key}
 use Rattle.site_store.specs.Views.{sees}
-use Rattle.server_steps.specs.laws.Damage.{next_breaks, write_breaks_after}
+use Rattle.site_store.specs.one_server.laws.Damage.{next_breaks, write_breaks_after}
 use Rattle.apply_copies.specs.Copying.{LoadsNext, LoadsRow}
 use Rattle.apply_copies.specs.Rules.{source_rules}
 use Rattle.apply_copies.proofs.Elsewhere.{goes_looked, looked_then}

@@ -8,8 +8,8 @@ use Rattle.row_codec.specs.Spelling.{IsRow, key_spelling, row_spelling}
 use Rattle.repl_model.specs.Selection.{target_row}
 use Rattle.site_store.specs.Calls.{writes_of_one}
 use Rattle.site_store.specs.Works.{Sets}
-use Rattle.server_steps.specs.laws.Faults.{no_memory, put_fails}
-use Rattle.server_steps.specs.laws.Steps.{goes_none, goes_as, goes_put}
+use Rattle.site_store.specs.one_server.laws.Faults.{no_memory, put_fails}
+use Rattle.site_store.specs.one_server.laws.Steps.{goes_none, goes_as, goes_put}
 use Rattle.apply_copies.specs.Copying.{LoadsRow}
 use Rattle.apply_copies.specs.laws.Values.{target_row_fits, target_row_short}
 use Rattle.apply_copies.proofs.CopiedRows.{loads_nothing, loads_one}

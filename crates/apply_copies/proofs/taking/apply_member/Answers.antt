@@ -8,11 +8,11 @@ use Rattle.repl_definitions.specs.declared.member.TargetColumn.{TargetColumn}
 use Rattle.repl_definitions.specs.declared.defined.DefinedRegistration.{DefinedRegistration}
 use Rattle.repl_definitions.specs.laws.Sets.{again_source_set}
 use Rattle.site_store.specs.Views.{sees}
-use Rattle.server_steps.specs.laws.Damage.{breaks_after}
-use Rattle.server_steps.specs.laws.Reads.{looks_sees}
-use Rattle.server_steps.specs.laws.Steps.{looks_open}
-use Rattle.load_worlds.specs.laws.Entries.{at_place_in}
-use Rattle.load_worlds.specs.laws.Members.{at_one}
+use Rattle.site_store.specs.one_server.laws.Damage.{breaks_after}
+use Rattle.site_store.specs.one_server.laws.Reads.{looks_sees}
+use Rattle.site_store.specs.one_server.laws.Steps.{looks_open}
+use Rattle.lists.specs.laws.Numbered.{at_place_in}
+use Rattle.lists.specs.laws.Members.{at_one}
 use Rattle.set_places.specs.Members.{ForSource, IsRegistrationOf}
 use Rattle.apply_copies.specs.ChangeRules.{IsRegisteredIn, change_source_rules}
 use Rattle.apply_copies.specs.Changing.{source_as, TakesAll}

@@ -5,8 +5,8 @@ use Rattle.row_codec.specs.Spelling.{short_text}
 use Rattle.repl_definitions.specs.Defined.{defined_table_spelling, IsDefinedTable}
 use Rattle.site_store.specs.Calls.{reads_of_one}
 use Rattle.site_store.specs.Views.{sees}
-use Rattle.server_steps.specs.laws.Damage.{needed_breaks}
-use Rattle.stored_defs.specs.laws.Passing.{if_seen}
+use Rattle.site_store.specs.one_server.laws.Damage.{needed_breaks}
+use Rattle.site_store.specs.laws.Passing.{if_seen}
 use Rattle.set_places.specs.Members.{HasRegistration}
 use Rattle.apply_copies.specs.ChangeRules.{change_source_rules}
 use Rattle.apply_copies.proofs.taking.read_source.Goals as goal

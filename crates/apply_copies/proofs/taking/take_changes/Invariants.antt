@@ -1,7 +1,7 @@
 use Rattle.std.specs.Prelude.{◌-◌, ◌^◌}
 use Rattle.repl_records.specs.RecordKeys.{IsChangeKey}
 use Rattle.site_store.specs.Views.{sees}
-use Rattle.server_steps.specs.Calls.{GoesOn}
+use Rattle.site_store.specs.one_server.Calls.{GoesOn}
 use Rattle.set_places.specs.Reading.{ReadsOnly}
 use Rattle.target_steps.specs.Taking.{ReadsCounted}
 use Rattle.apply_copies.specs.Changing.{source_as}

@@ -10,10 +10,10 @@ use Rattle.repl_model.specs.Selection.{imaged_row}
 use Rattle.repl_model.specs.Tables.{key_of}
 use Rattle.site_store.specs.Calls.{reads_of_one}
 use Rattle.site_store.specs.Views.{sees}
-use Rattle.server_steps.specs.laws.Damage.{unfit_breaks, write_breaks_after}
-use Rattle.stored_defs.specs.laws.Passing.{if_seen}
-use Rattle.capture_rows.specs.StoredChanges.{stored_change}
-use Rattle.copy_changes.specs.ChangedCopies.{key_after}
+use Rattle.site_store.specs.one_server.laws.Damage.{unfit_breaks, write_breaks_after}
+use Rattle.site_store.specs.laws.Passing.{if_seen}
+use Rattle.stored_commits.specs.units.StoredChanges.{stored_change}
+use Rattle.stored_commits.specs.copies.ChangedCopies.{key_after}
 use Rattle.apply_copies.specs.ChangeRules.{IsRegisteredIn, change_source_rules}
 use Rattle.apply_copies.specs.Changing.{source_as, NextIs, TakesRow, TakesNext}
 use Rattle.apply_copies.proofs.Elsewhere.{goes_looked, looked_then}

@@ -3,7 +3,7 @@ use Rattle.std.proofs.lemmas.Result.{err_from_is_err_and}
 use Rattle.repl_types.specs.declared.area.Area.TheVariants as areas
 use Rattle.repl_model.specs.AfterActions.{after_action}
 use Rattle.repl_model.specs.NextActions.{blocks}
-use Rattle.server_steps.specs.laws.Reads.{looks_none, looks_then}
+use Rattle.site_store.specs.one_server.laws.Reads.{looks_none, looks_then}
 use Rattle.subs_sets.specs.Cuts.{time_from}
 use Rattle.subs_sets.specs.States.{state_in}
 use Rattle.subs_sets.specs.declared.states.ReadOnlyState.{ReadOnlyState}

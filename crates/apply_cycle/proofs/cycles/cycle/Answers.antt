@@ -7,7 +7,7 @@ use Rattle.site_store.specs.Damage.{Damages}
 use Rattle.site_store.specs.Views.{names, sees}
 use Rattle.site_store.specs.laws.Counts.{keeps_then}
 use Rattle.world_store.specs.Stands.{Stands}
-use Rattle.server_steps.specs.laws.Reads.{looks_none}
+use Rattle.site_store.specs.one_server.laws.Reads.{looks_none}
 use Rattle.set_places.specs.laws.Staying.{placed_before}
 use Rattle.subs_sets.specs.Rules.{source_rules}
 use Rattle.target_steps.specs.laws.AtServers.{captured_undamaged}

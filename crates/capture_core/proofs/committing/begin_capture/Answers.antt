@@ -6,7 +6,7 @@ use Rattle.repl_records.specs.Capture.{IsCapture, capture_spelling}
 use Rattle.repl_records.specs.declared.capture.CaptureState.{CaptureState}
 use Rattle.site_store.specs.Calls.{no_access, reads_of_one, both}
 use Rattle.site_store.specs.laws.Counts.{at_most_itself, passes_then}
-use Rattle.server_steps.specs.laws.Damage.{get_breaks}
+use Rattle.site_store.specs.one_server.laws.Damage.{get_breaks}
 use Rattle.capture_core.specs.Committing.{Opens, ReadsState, StateIn}
 use Rattle.capture_core.specs.Rules.{rules}
 use Rattle.capture_core.proofs.Calls.{breaks_begun}

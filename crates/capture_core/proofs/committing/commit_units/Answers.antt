@@ -5,8 +5,8 @@ use Rattle.repl_records.specs.RecordKeys.{single_spelling}
 use Rattle.repl_records.specs.Capture.{capture_spelling}
 use Rattle.site_store.specs.Calls.{no_access, both}
 use Rattle.site_store.specs.laws.Counts.{at_most_itself, passes_then}
-use Rattle.server_steps.specs.laws.Faults.{blames_after}
-use Rattle.server_steps.specs.laws.Steps.{goes_put}
+use Rattle.site_store.specs.one_server.laws.Faults.{blames_after}
+use Rattle.site_store.specs.one_server.laws.Steps.{goes_put}
 use Rattle.capture_core.proofs.committing.commit_units.Goals as goal
 
 pub returns-in_err-commit-clause-fault : goal.returns-in_err-commit-clause-fault

@@ -9,5 +9,5 @@ returns c = record {
   next = c.the_others_are_next.ensures;
   has = c.a_server_holds_what_it_captured.ensures;
   holds = c.a_server_that_captured_holds.ensures;
-  others = c.the_others_hold.ensures;
+  others = c.others_hold_a_capture.ensures;
 }

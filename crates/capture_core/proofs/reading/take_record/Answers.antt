@@ -1,8 +1,8 @@
 use Rattle.std.proofs.Common.{◌≡◌, arith}
 use Rattle.std.proofs.lemmas.Result.{err_from_is_err_and}
 use Rattle.site_store.specs.Damage.{Damages}
-use Rattle.server_steps.specs.laws.Faults.{no_memory}
-use Rattle.server_steps.specs.laws.Steps.{goes_none, goes_as}
+use Rattle.site_store.specs.one_server.laws.Faults.{no_memory}
+use Rattle.site_store.specs.one_server.laws.Steps.{goes_none, goes_as}
 use Rattle.capture_core.specs.Reading.{TakesCommit, TakesNone, TakesOne}
 use Rattle.capture_core.specs.Rules.{rules}
 use Rattle.capture_core.proofs.ReadLogs.{read_to, change_taken, abort_taken, commit_taken, unit_was_taken}

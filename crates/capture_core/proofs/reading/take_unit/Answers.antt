@@ -1,8 +1,8 @@
 use Rattle.std.proofs.Common.{refl, ◌∙◌, arith}
 use Rattle.std.specs.Prelude.{Some, None}
 use Rattle.std.proofs.lemmas.Result.{err_from_is_err_and}
-use Rattle.server_steps.specs.laws.Damage.{breaks_on}
-use Rattle.server_steps.specs.laws.Steps.{goes_none, goes_as, goes_then}
+use Rattle.site_store.specs.one_server.laws.Damage.{breaks_on}
+use Rattle.site_store.specs.one_server.laws.Steps.{goes_none, goes_as, goes_then}
 use Rattle.capture_core.specs.Reading.{IsNextRecord, ReadsOn, ReadsAll, ReadsUnit, TakesNone, TakesOne}
 use Rattle.capture_core.specs.Rules.{rules}
 use Rattle.capture_core.proofs.Calls.{goes_read, same_shown}

@@ -12,9 +12,9 @@ use Rattle.repl_records.specs.declared.record_keys.CdKey.{CdKey}
 use Rattle.site_store.specs.Calls.{writes_of_one}
 use Rattle.site_store.specs.Works.{Sets}
 use Rattle.stored_defs.specs.laws.Standing.{all_at_place}
-use Rattle.capture_rows.specs.StoredChanges.{with_change_rows}
-use Rattle.server_steps.specs.laws.Faults.{put_fails, write_fails_on}
-use Rattle.server_steps.specs.laws.Steps.{goes_none, goes_as, goes_put, goes_then, goes_open}
+use Rattle.stored_commits.specs.units.StoredChanges.{with_change_rows}
+use Rattle.site_store.specs.one_server.laws.Faults.{put_fails, write_fails_on}
+use Rattle.site_store.specs.one_server.laws.Steps.{goes_none, goes_as, goes_put, goes_then, goes_open}
 use Rattle.cd_tables.specs.Appending.{CanBeStored, Becomes}
 use Rattle.cd_tables.proofs.PutRows.{rows_next}
 use Rattle.cd_tables.proofs.Shown.{becomes_itself}

@@ -3,8 +3,8 @@ use Rattle.repl_types.specs.declared.area.Area.TheVariants as areas
 use Rattle.row_codec.specs.Spelling.{b32}
 use Rattle.repl_records.specs.Capture.{registration_state_spelling}
 use Rattle.site_store.specs.Works.{Sets}
-use Rattle.capture_rows.specs.StoredChanges.{started}
-use Rattle.server_steps.specs.laws.Steps.{goes_none, goes_as, goes_put}
+use Rattle.stored_commits.specs.units.StoredChanges.{started}
+use Rattle.site_store.specs.one_server.laws.Steps.{goes_none, goes_as, goes_put}
 use Rattle.cd_tables.specs.Appending.{Becomes}
 use Rattle.cd_tables.proofs.Signals.{start_nothing, start_made}
 use Rattle.cd_tables.proofs.changes.start.Goals as goal

@@ -4,10 +4,10 @@ use Rattle.repl_types.specs.declared.area.Area.TheVariants as areas
 use Rattle.row_codec.specs.Spelling.{b32}
 use Rattle.repl_records.specs.Capture.{registration_state_spelling}
 use Rattle.site_store.specs.Works.{Sets}
-use Rattle.capture_rows.specs.StoredChanges.{with_cleared, with_state, stopped}
-use Rattle.server_steps.specs.Calls.{GoesOn}
-use Rattle.server_steps.specs.laws.Damage.{breaks_on}
-use Rattle.server_steps.specs.laws.Steps.{goes_none, goes_as, goes_put, goes_then}
+use Rattle.stored_commits.specs.units.StoredChanges.{with_cleared, with_state, stopped}
+use Rattle.site_store.specs.one_server.Calls.{GoesOn}
+use Rattle.site_store.specs.one_server.laws.Damage.{breaks_on}
+use Rattle.site_store.specs.one_server.laws.Steps.{goes_none, goes_as, goes_put, goes_then}
 use Rattle.cd_tables.specs.Appending.{Becomes}
 use Rattle.cd_tables.specs.Rules.{rules}
 use Rattle.cd_tables.proofs.Shown.{becomes_state}

@@ -8,9 +8,9 @@ use Rattle.repl_records.specs.RecordKeys.{IsChangeKey, change_key_spelling}
 use Rattle.site_store.specs.Calls.{reads_of_one, writes_of_one}
 use Rattle.site_store.specs.Records.{after_key}
 use Rattle.site_store.specs.Works.{Sets}
-use Rattle.server_steps.specs.laws.Damage.{next_breaks, write_breaks_after}
-use Rattle.server_steps.specs.laws.Faults.{put_fails}
-use Rattle.server_steps.specs.laws.Steps.{goes_saw, goes_put, saw_then}
+use Rattle.site_store.specs.one_server.laws.Damage.{next_breaks, write_breaks_after}
+use Rattle.site_store.specs.one_server.laws.Faults.{put_fails}
+use Rattle.site_store.specs.one_server.laws.Steps.{goes_saw, goes_put, saw_then}
 use Rattle.cd_tables.specs.Clearing.{ClearsNext}
 use Rattle.cd_tables.specs.Rules.{rules}
 use Rattle.cd_tables.proofs.clearing.clear_next.Goals as goal

@@ -2,8 +2,8 @@ use Rattle.std.proofs.Common.{Some, None, ◌<◌, ℕ, List, length, sym, subst
 use Rattle.std.proofs.lemmas.Result.{err_from_is_err_and}
 use Rattle.repl_records.specs.RecordKeys.{change_key_spelling}
 use Rattle.site_store.specs.Records.{after_key}
-use Rattle.server_steps.specs.laws.Damage.{breaks_on}
-use Rattle.server_steps.specs.laws.Steps.{goes_none, goes_then, goes_open}
+use Rattle.site_store.specs.one_server.laws.Damage.{breaks_on}
+use Rattle.site_store.specs.one_server.laws.Steps.{goes_none, goes_then, goes_open}
 use Rattle.cd_tables.specs.Dropping.{DropsNext, DropsUpto}
 use Rattle.cd_tables.specs.StoredRows.{row_rules}
 use Rattle.cd_tables.proofs.KeyRanks.{rank_rises, rank_small}

@@ -2,7 +2,7 @@ use Rattle.std.specs.Prelude.{◌-◌, ◌^◌, IfSome}
 use Rattle.repl_types.specs.declared.area.Area.TheVariants as areas
 use Rattle.repl_records.specs.RecordKeys.{IsChangeKey, change_key_spelling}
 use Rattle.site_store.specs.Records.{after_key}
-use Rattle.server_steps.specs.Calls.{GoesOn}
+use Rattle.site_store.specs.one_server.Calls.{GoesOn}
 use Rattle.cd_tables.specs.Reading.{ReadsOnlyIn}
 use Rattle.cd_tables.proofs.DroppedRows.{HasDropped}
 use Rattle.cd_tables.proofs.KeyRanks.{rank_of}

@@ -6,9 +6,9 @@ use Rattle.row_codec.specs.Spelling.{b64}
 use Rattle.repl_records.specs.Capture.{uow_spelling}
 use Rattle.site_store.specs.Calls.{reads_of_one, writes_of_one}
 use Rattle.site_store.specs.Works.{Sets}
-use Rattle.server_steps.specs.laws.Damage.{write_breaks_after}
-use Rattle.server_steps.specs.laws.Faults.{put_fails}
-use Rattle.server_steps.specs.laws.Steps.{goes_put, saw_then}
+use Rattle.site_store.specs.one_server.laws.Damage.{write_breaks_after}
+use Rattle.site_store.specs.one_server.laws.Faults.{put_fails}
+use Rattle.site_store.specs.one_server.laws.Steps.{goes_put, saw_then}
 use Rattle.cd_tables.specs.Dropping.{with_code, SetsCode}
 use Rattle.cd_tables.specs.StoredRows.{row_rules}
 use Rattle.cd_tables.proofs.ShownCodes.{sets_code, unit_breaks}

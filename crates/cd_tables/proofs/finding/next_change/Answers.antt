@@ -6,8 +6,8 @@ use Rattle.repl_records.specs.Capture.{IsChangeRow, change_row_spelling}
 use Rattle.repl_records.specs.RecordKeys.{IsChangeKey, change_key_spelling}
 use Rattle.site_store.specs.Calls.{reads_of_one}
 use Rattle.site_store.specs.Views.{sees}
-use Rattle.stored_defs.specs.laws.Passing.{if_seen}
-use Rattle.server_steps.specs.laws.Damage.{next_breaks}
+use Rattle.site_store.specs.laws.Passing.{if_seen}
+use Rattle.site_store.specs.one_server.laws.Damage.{next_breaks}
 use Rattle.cd_tables.specs.Finding.{FindsChange}
 use Rattle.cd_tables.specs.StoredRows.{row_rules}
 use Rattle.cd_tables.proofs.FoundRows.{finds_change, finds_no_change, finds_last_change, change_from}

@@ -7,8 +7,8 @@ use Rattle.repl_definitions.specs.Defined.{defined_registration_spelling, IsDefi
 use Rattle.site_store.specs.Calls.{reads_of_one}
 use Rattle.site_store.specs.Records.{RowIs, IsRecord}
 use Rattle.site_store.specs.Views.{sees}
-use Rattle.stored_defs.specs.laws.Passing.{if_seen}
-use Rattle.server_steps.specs.laws.Damage.{get_breaks, unfit_breaks}
+use Rattle.site_store.specs.laws.Passing.{if_seen}
+use Rattle.site_store.specs.one_server.laws.Damage.{get_breaks, unfit_breaks}
 use Rattle.cd_tables.specs.Rules.{rules}
 use Rattle.cd_tables.proofs.registrations.read_registration.Goals as goal
 

@@ -5,8 +5,8 @@ use Rattle.row_codec.specs.Spelling.{b32}
 use Rattle.repl_records.specs.Capture.{IsRegistrationState, registration_state_spelling}
 use Rattle.site_store.specs.Calls.{reads_of_one}
 use Rattle.site_store.specs.Views.{sees}
-use Rattle.stored_defs.specs.laws.Passing.{if_seen}
-use Rattle.server_steps.specs.laws.Damage.{needed_breaks}
+use Rattle.site_store.specs.laws.Passing.{if_seen}
+use Rattle.site_store.specs.one_server.laws.Damage.{needed_breaks}
 use Rattle.cd_tables.specs.Rules.{rules, IsRegistrationIn}
 use Rattle.cd_tables.proofs.registrations.read_state.Goals as goal
 

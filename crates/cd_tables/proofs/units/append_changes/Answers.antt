@@ -3,9 +3,9 @@ use Rattle.std.specs.List.{AllByRecursion}
 use Rattle.std.proofs.lemmas.Result.{err_from_is_err_and}
 use Rattle.site_store.specs.Damage.{ShownBefore}
 use Rattle.stored_defs.specs.laws.Standing.{all_at_place}
-use Rattle.capture_rows.specs.StoredChanges.{with_uow_row}
-use Rattle.server_steps.specs.laws.Damage.{write_breaks, breaks_on}
-use Rattle.server_steps.specs.laws.Steps.{goes_as, goes_then, goes_open}
+use Rattle.stored_commits.specs.units.StoredChanges.{with_uow_row}
+use Rattle.site_store.specs.one_server.laws.Damage.{write_breaks, breaks_on}
+use Rattle.site_store.specs.one_server.laws.Steps.{goes_as, goes_then, goes_open}
 use Rattle.cd_tables.specs.Appending.{Becomes, CapturesUnit, IsTyped}
 use Rattle.cd_tables.specs.Known.{AppendsKnowing}
 use Rattle.cd_tables.specs.Rules.{rules}

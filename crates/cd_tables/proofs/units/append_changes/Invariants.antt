@@ -1,6 +1,6 @@
 use Rattle.std.proofs.Common.{◌*◌, ◌≤◌, take}
 use Rattle.std.specs.Prelude.{IfSome}
-use Rattle.server_steps.specs.Calls.{GoesOn}
+use Rattle.site_store.specs.one_server.Calls.{GoesOn}
 use Rattle.cd_tables.specs.Known.{IsStated}
 use Rattle.cd_tables.specs.Reading.{ReadsNoLog}
 use Rattle.cd_tables.proofs.Parts.{CapturesKnowing}

@@ -4,9 +4,9 @@ use Rattle.repl_types.specs.declared.area.Area.TheVariants as areas
 use Rattle.row_codec.specs.Spelling.{b64}
 use Rattle.repl_records.specs.Capture.{uow_spelling}
 use Rattle.site_store.specs.Works.{Sets}
-use Rattle.capture_rows.specs.StoredChanges.{with_uow_row}
-use Rattle.server_steps.specs.laws.Faults.{no_memory}
-use Rattle.server_steps.specs.laws.Steps.{goes_as, goes_put}
+use Rattle.stored_commits.specs.units.StoredChanges.{with_uow_row}
+use Rattle.site_store.specs.one_server.laws.Faults.{no_memory}
+use Rattle.site_store.specs.one_server.laws.Steps.{goes_as, goes_put}
 use Rattle.cd_tables.specs.Appending.{Becomes}
 use Rattle.cd_tables.proofs.Shown.{becomes_unit}
 use Rattle.cd_tables.proofs.units.put_unit.Goals as goal

@@ -2,7 +2,7 @@ use Rattle.std.proofs.Common.{◌≡◌, ◌∙◌, inl, inr, ap}
 use Rattle.std.proofs.lemmas.Result.{err_from_is_err_and}
 use Rattle.repl_model.specs.AfterActions.{after_action}
 use Rattle.repl_model.specs.NextActions.{refreshes}
-use Rattle.server_steps.specs.laws.Reads.{looks_none, looks_then}
+use Rattle.site_store.specs.one_server.laws.Reads.{looks_none, looks_then}
 use Rattle.subs_sets.specs.States.{state_in}
 use Rattle.repl_records.specs.declared.source_side.Head.{Head}
 use Rattle.world_store.specs.LogRows.{head_of}

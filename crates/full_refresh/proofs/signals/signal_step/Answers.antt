@@ -5,7 +5,7 @@ use Rattle.repl_types.specs.declared.unit.Unit.{Unit as LogUnit}
 use Rattle.repl_records.specs.declared.source_side.Head.{Head}
 use Rattle.repl_model.specs.AfterActions.{after_action, source_tables, signal_records}
 use Rattle.repl_model.specs.NextActions.{signals}
-use Rattle.server_steps.specs.laws.Reads.{looks_then}
+use Rattle.site_store.specs.one_server.laws.Reads.{looks_then}
 use Rattle.source_log.specs.Units.{unit_records}
 use Rattle.world_store.specs.LogRows.{head_of}
 use Rattle.full_refresh.specs.Signals.{HasSignalled}

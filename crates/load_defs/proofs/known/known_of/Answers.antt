@@ -2,7 +2,7 @@ use Rattle.std.proofs.Common.{rules, ◌≡◌, ◌+◌, ◌<◌, ℕ, List, ◌
 use Rattle.std.proofs.lemmas.List.{append_assoc, drop_more}
 use Rattle.std.specs.Prelude.{filter}
 use Rattle.std.specs.List.{flat_map}
-use Rattle.planned_loads.specs.Planned.{stands_stored}
+use Rattle.load_laws.specs.planned.Planned.{stands_stored}
 use Rattle.load_defs.proofs.known.known_of.Goals as goal
 
 -- what the elements so far gave, followed by what this one and the rest give, is what all give

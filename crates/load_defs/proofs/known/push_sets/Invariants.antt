@@ -1,6 +1,6 @@
 use Rattle.std.proofs.Common.{◌≡◌, ◌++◌, drop, map}
 use Rattle.std.specs.Prelude.{filter}
-use Rattle.planned_loads.specs.Planned.{stands_stored}
+use Rattle.load_laws.specs.planned.Planned.{stands_stored}
 use Rattle.load_defs.proofs.known.push_sets.Given as goal
 
 abbrev pub invariant-rows : goal.invariant-rows

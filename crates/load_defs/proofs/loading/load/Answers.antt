@@ -3,10 +3,10 @@ use Rattle.std.specs.List.{AllByRecursion}
 use Rattle.std.proofs.lemmas.Result.{err_from_is_err_and}
 use Rattle.spelled_defs.specs.declared.defs.Defs.{Defs}
 use Rattle.site_store.specs.laws.Counts.{passes_keeps}
-use Rattle.stored_defs.specs.Known.{in_defs, known_reads}
+use Rattle.stored_defs.specs.DefinitionReads.{in_defs, known_reads}
 use Rattle.stored_defs.specs.Rules.{ShowsDamage}
-use Rattle.accepted_texts.specs.Texts.{defs_beside}
-use Rattle.planned_loads.specs.Planned.{known_stored}
+use Rattle.load_laws.specs.texts.Texts.{defs_beside}
+use Rattle.load_laws.specs.planned.Planned.{known_stored}
 use Rattle.load_defs.specs.Counts.{loaded_counts, NoneIsNew}
 use Rattle.load_defs.specs.Putting.{CanBeLoaded}
 use Rattle.load_defs.proofs.NoneNew.{none_left}

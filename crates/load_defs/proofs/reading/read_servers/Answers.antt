@@ -2,16 +2,16 @@ use Rattle.std.proofs.Common.{◌≡◌, ◌*◌, ◌<◌, ◌≤◌, ◌+◌, �
 use Rattle.std.proofs.lemmas.List.{map_more, take_more, map-append}
 use Rattle.std.proofs.lemmas.Result.{err_from_is_err_and}
 use Rattle.repl_types.specs.laws.Lists.{all_append}
-use Rattle.repl_model.specs.Sound.{empty_server}
+use Rattle.repl_model.specs.World.{empty_server, server_in}
 use Rattle.site_store.specs.Views.{names}
 use Rattle.site_store.specs.laws.Counts.{stays_then}
-use Rattle.stored_defs.specs.Known.{in_defs, server_reads, known_reads, server_in}
+use Rattle.stored_defs.specs.DefinitionReads.{in_defs, server_reads, known_reads}
 use Rattle.stored_defs.specs.laws.Blaming.{fails_later}
-use Rattle.stored_defs.specs.laws.Passing.{defs_more}
+use Rattle.stored_defs.specs.laws.DefinitionReads.{defs_more}
 use Rattle.stored_defs.specs.laws.Standing.{same_count, stands_on}
 use Rattle.load_plan.specs.Differences.{IsSpelledServer}
 use Rattle.load_plan.specs.declared.stored.StoredServer.{StoredServer}
-use Rattle.planned_loads.specs.Planned.{stored_server, stored_servers}
+use Rattle.load_laws.specs.planned.Planned.{stored_server, stored_servers}
 use Rattle.load_defs.proofs.reading.read_servers.Goals as goal
 
 pub returns-in_err-read_server-clause-fault : goal.returns-in_err-read_server-clause-fault

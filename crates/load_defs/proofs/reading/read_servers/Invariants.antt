@@ -4,9 +4,9 @@ use Rattle.repl_model.specs.World.{World}
 use Rattle.site_store.specs.Views.{names, held}
 use Rattle.site_store.specs.Calls.{Stays}
 use Rattle.world_store.specs.Stands.{Stands}
-use Rattle.stored_defs.specs.Known.{in_defs, server_reads}
+use Rattle.stored_defs.specs.DefinitionReads.{in_defs, server_reads}
 use Rattle.load_plan.specs.Differences.{IsSpelledServer}
-use Rattle.planned_loads.specs.Planned.{stored_servers}
+use Rattle.load_laws.specs.planned.Planned.{stored_servers}
 use Rattle.load_defs.proofs.reading.read_servers.Given as goal
 
 abbrev pub invariant-loop-server : goal.invariant-loop-server

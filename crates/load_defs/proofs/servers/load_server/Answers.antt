@@ -7,8 +7,8 @@ use Rattle.site_store.specs.Views.{names, held, work, sees}
 use Rattle.site_store.specs.laws.Counts.{keeps_passed, passes_keeps}
 use Rattle.site_store.specs.laws.Transactions.{closed_again}
 use Rattle.load_plan.specs.Additions.{additions_at}
-use Rattle.load_worlds.specs.Loads.{load_first}
-use Rattle.planned_loads.specs.PlannedLoads.{adds_nothing}
+use Rattle.load_laws.specs.worlds.Loads.{load_first}
+use Rattle.load_laws.specs.planned.PlannedLoads.{adds_nothing}
 use Rattle.load_defs.specs.Putting.{MayBePutAll, added_rows, with_added, added_written}
 use Rattle.load_defs.proofs.Faults.{blames_after}
 use Rattle.load_defs.proofs.OneServer.{added_may, stands_idle, stands_committed}

@@ -9,8 +9,8 @@ use Rattle.repl_types.specs.declared.refusal.Refusal.TheVariants as refusals
 use Rattle.run_commands.specs.parts.Refusing.{refused}
 use Rattle.run_commands.specs.parts.laws.Exits.{err_also, ok_also}
 use Rattle.run_commands.specs.parts.laws.Parts.{happened_as, stopped_as, refusal_written, refusal_begun}
-use Rattle.show_source.specs.Replies.{registered_named, change_lines}
-use Rattle.show_source.specs.Rules.{change_reads}
+use Rattle.shows.specs.tables.Replies.{registered_named, change_lines}
+use Rattle.shows.specs.tables.Rules.{change_reads}
 use Rattle.run_commands.specs.show.ShowEvents.{registered_events, changes_events}
 use Rattle.run_commands.proofs.ShowEvents.{at_none, table_written, table_begun, table_refused, refusal_started, fails_holds, show_cause}
 use Rattle.run_commands.proofs.show.show_change_rows.Goals as goal

@@ -4,8 +4,8 @@ use Rattle.run_core.specs.Runs.{writes}
 use Rattle.run_commands.specs.parts.Refusing.{refused}
 use Rattle.run_commands.specs.parts.laws.Exits.{err_also, ok_also}
 use Rattle.run_commands.specs.parts.laws.Parts.{happened_as, stopped_as, refusal_written, refusal_begun}
-use Rattle.show_source.specs.Replies.{log_lines}
-use Rattle.show_source.specs.Rules.{log_reads}
+use Rattle.shows.specs.tables.Replies.{log_lines}
+use Rattle.shows.specs.tables.Rules.{log_reads}
 use Rattle.run_commands.specs.show.ShowEvents.{log_events}
 use Rattle.run_commands.proofs.ShowEvents.{at_none, all_written, all_begun, fails_holds, show_cause}
 use Rattle.run_commands.proofs.show.show_log_records.Goals as goal

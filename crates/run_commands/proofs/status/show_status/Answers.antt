@@ -1,5 +1,5 @@
 use Rattle.repl_types.specs.declared.refusal.Refusal.TheVariants as refusals
-use Rattle.show_rows.specs.Rules.{reads_at, status_reads}
+use Rattle.shows.specs.servers.Rules.{reads_at, status_reads}
 use Rattle.run_commands.specs.parts.laws.Exits.{err_also, ok_also}
 use Rattle.run_commands.specs.parts.laws.Parts.{refusal_written, refusal_begun}
 use Rattle.run_commands.proofs.StatusEvents.{status_written, status_begun, name_refused, name_begun, fails_holds, status_cause}

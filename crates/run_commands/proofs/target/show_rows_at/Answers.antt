@@ -1,13 +1,12 @@
 use Rattle.std.proofs.Common.{ℕ, ◌<◌, length, sym, subst, arith}
 use Rattle.std.specs.Prelude.{Option, IfSome}
 use Rattle.repl_types.specs.declared.refusal.Refusal.TheVariants as refusals
-use Rattle.repl_model.specs.World.{World}
+use Rattle.repl_model.specs.World.{World, server_in}
 use Rattle.site_store.specs.Views.{names, held}
 use Rattle.world_store.specs.Stands.{Stands}
-use Rattle.stored_defs.specs.Known.{server_in}
-use Rattle.show_sets.specs.Rules.{rules}
-use Rattle.show_sets.specs.Targets.{IsTargetAt, IsNamedAs}
-use Rattle.show_sets.specs.declared.targets.PlacedTarget.{PlacedTarget}
+use Rattle.shows.specs.sets.Rules.{rules}
+use Rattle.shows.specs.sets.Targets.{IsTargetAt, IsNamedAs}
+use Rattle.shows.specs.declared.targets.PlacedTarget.{PlacedTarget}
 use Rattle.run_commands.specs.parts.laws.Damage.{sets_shown}
 use Rattle.run_commands.specs.parts.laws.Exits.{err_also, ok_also, if_err_also}
 use Rattle.run_commands.specs.parts.laws.Looking.{looked_keeps, cause_looked, stops_keeps, stops_before, stops_run, stops_cause, stood_before, refused_after, begun_after, closed_after, keeps_after}

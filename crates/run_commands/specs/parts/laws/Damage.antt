@@ -5,8 +5,8 @@ use Rattle.std.proofs.lemmas.Option.{same_Some}
 use Rattle.repl_types.specs.declared.area.Area.{Area}
 use Rattle.repl_types.specs.declared.status.DamageCause.{DamageCause}
 use Rattle.repl_types.specs.declared.status.DamageCause.TheVariants as causes
-use Rattle.faults.specs.declared.fault.Fault.{Fault}
-use Rattle.faults.specs.declared.fault.Fault.TheVariants as faults
+use Rattle.repl_types.specs.declared.fault.Fault.{Fault}
+use Rattle.repl_types.specs.declared.fault.Fault.TheVariants as faults
 use Rattle.keep_core.specs.Contents.{Contents}
 use Rattle.keep_core.specs.Kept.{Kept, seen_of}
 use Rattle.repl_model.specs.World.{World}
@@ -19,13 +19,13 @@ use Rattle.site_store.specs.laws.Damage.{shown_first, shown_second}
 use Rattle.site_store.specs.declared.sites.Sites.{Sites}
 use Rattle.world_store.specs.Stands.{Stands}
 use Rattle.stored_defs.specs.Rules.{rules as stored_rules}
-use Rattle.show_rows.specs.Rules.{rules as status_rules}
-use Rattle.show_source.specs.Rules.{rules as source_rules}
+use Rattle.shows.specs.servers.Rules.{rules as status_rules}
+use Rattle.shows.specs.tables.Rules.{rules as source_rules}
 use Rattle.source_log.specs.Rules.{all_rules as append_rules}
 use Rattle.source_log.specs.Units.{table_rules}
 use Rattle.capture_core.specs.Rules.{rules as capture_rules}
 use Rattle.subs_sets.specs.Rules.{rules as set_rules}
-use Rattle.show_sets.specs.Rules.{rules as shown_rules}
+use Rattle.shows.specs.sets.Rules.{rules as shown_rules}
 use Rattle.run_commands.specs.parts.Causes.{PartHasCause, FoundByRead}
 use Rattle.run_commands.specs.parts.Damage.{rules, ShowsDamage}
 use Rattle.run_commands.specs.parts.RunErrors.{error_of_fault}

@@ -2,8 +2,8 @@
 use Rattle.std.proofs.Common.{◌≡◌, inl, ℕ, ◌<◌, List, length, Bool, true, refl, sym, subst, arith}
 use Rattle.std.specs.Prelude.{Option, Some, IsSome}
 use Rattle.repl_types.specs.declared.refusal.Refusal.{Refusal}
-use Rattle.faults.specs.declared.fault.Fault.{Fault}
-use Rattle.faults.specs.declared.fault.Fault.TheVariants as faults
+use Rattle.repl_types.specs.declared.fault.Fault.{Fault}
+use Rattle.repl_types.specs.declared.fault.Fault.TheVariants as faults
 use Rattle.keep_core.specs.Contents.{Contents}
 use Rattle.keep_core.specs.Kept.{Kept}
 use Rattle.keep_core.specs.Revealed.{Takes, TakesPrefix}
@@ -16,7 +16,7 @@ use Rattle.site_store.specs.Calls.{KeepsServers, Blames}
 use Rattle.site_store.specs.Damage.{Rules, Damages, IsNoDamage}
 use Rattle.site_store.specs.declared.sites.Sites.{Sites}
 use Rattle.site_store.specs.laws.Counts.{keeps_passed, keeps_then}
-use Rattle.server_steps.specs.Calls.{Looks, Stops}
+use Rattle.site_store.specs.one_server.Calls.{Looks, Stops}
 use Rattle.world_store.specs.Stands.{Stands}
 use Rattle.run_commands.specs.parts.Causes.{PartHasCause, FoundByRead}
 use Rattle.run_commands.specs.parts.Parts.{Happened, StoppedIn}

@@ -1,8 +1,8 @@
 use Rattle.std.proofs.Common.{◌≡◌, rules, sym, subst}
 use Rattle.std.specs.Prelude.{OnErr}
-use Rattle.script_lines.specs.Script.{line_of}
-use Rattle.script_lines.specs.declared.kind.LineKind.{LineKind}
-use Rattle.script_lines.specs.declared.kind.LineKind.TheVariants as kinds
+use Rattle.line_input.specs.Script.{line_of}
+use Rattle.line_input.specs.declared.kind.LineKind.{LineKind}
+use Rattle.line_input.specs.declared.kind.LineKind.TheVariants as kinds
 use Rattle.run_commands.specs.parts.Parts.{StoppedIn}
 use Rattle.session_core.specs.Talk.{line_events}
 use Rattle.session_core.proofs.script.answer_line.Goals as goal

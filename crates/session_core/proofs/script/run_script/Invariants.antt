@@ -2,7 +2,7 @@ use Rattle.std.proofs.Common.{◌≡◌, ◌≤◌, ◌+◌, length}
 use Rattle.std.specs.Prelude.{None}
 use Rattle.std.specs.Option.{option_map}
 use Rattle.repl_model.specs.World.{World}
-use Rattle.script_lines.specs.Script.{lines_left, total_left, pending, next_kind, line_number, HasOneSource}
+use Rattle.line_input.specs.Script.{lines_left, total_left, pending, next_kind, line_number, HasOneSource}
 use Rattle.site_store.specs.Calls.{KeepsServers}
 use Rattle.site_store.specs.Views.{names, held}
 use Rattle.world_store.specs.Stands.{Stands}

@@ -5,8 +5,8 @@ use Rattle.repl_records.specs.RecordKeys.{single_spelling}
 use Rattle.repl_records.specs.SourceSide.{head_spelling}
 use Rattle.site_store.specs.Calls.{no_access, writes_of_one, both}
 use Rattle.site_store.specs.laws.Counts.{at_most_itself, passes_then}
-use Rattle.server_steps.specs.laws.Faults.{put_fails, blames_after}
-use Rattle.server_steps.specs.laws.Steps.{goes_put}
+use Rattle.site_store.specs.one_server.laws.Faults.{put_fails, blames_after}
+use Rattle.site_store.specs.one_server.laws.Steps.{goes_put}
 use Rattle.source_log.proofs.appending.commit_taken.Goals as goal
 
 pub returns-in_err-put-clause-fault : goal.returns-in_err-put-clause-fault

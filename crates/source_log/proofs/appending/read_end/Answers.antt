@@ -6,8 +6,8 @@ use Rattle.row_codec.specs.Spelling.{Is64, b64}
 use Rattle.repl_records.specs.RecordKeys.{single_spelling}
 use Rattle.repl_records.specs.SourceSide.{head_spelling, IsHead}
 use Rattle.site_store.specs.Calls.{reads_of_one}
-use Rattle.server_steps.specs.laws.Damage.{get_breaks, next_breaks, breaks_after}
-use Rattle.server_steps.specs.laws.Reads.{looks_then}
+use Rattle.site_store.specs.one_server.laws.Damage.{get_breaks, next_breaks, breaks_after}
+use Rattle.site_store.specs.one_server.laws.Reads.{looks_then}
 use Rattle.source_log.specs.Rules.{rules}
 use Rattle.source_log.proofs.Ends.{first_breaks, end_breaks}
 use Rattle.source_log.proofs.appending.read_end.Goals as goal

@@ -5,10 +5,10 @@ use Rattle.keep_core.specs.Contents.{Contents, IsLastKey}
 use Rattle.row_codec.specs.LogRecords.{IsLogRecord}
 use Rattle.row_codec.specs.Spelling.{b64}
 use Rattle.repl_records.specs.declared.source_side.Head.{Head}
-use Rattle.server_steps.specs.Calls.{GoesOn}
-use Rattle.server_steps.specs.laws.Damage.{breaks_on}
-use Rattle.server_steps.specs.laws.Reads.{looks_none}
-use Rattle.server_steps.specs.laws.Steps.{goes_saw, goes_as, goes_then, goes_open}
+use Rattle.site_store.specs.one_server.Calls.{GoesOn}
+use Rattle.site_store.specs.one_server.laws.Damage.{breaks_on}
+use Rattle.site_store.specs.one_server.laws.Reads.{looks_none}
+use Rattle.site_store.specs.one_server.laws.Steps.{goes_saw, goes_as, goes_then, goes_open}
 use Rattle.stored_defs.specs.laws.Standing.{all_at_place}
 use Rattle.source_log.specs.Appending.{TakesFirst}
 use Rattle.source_log.specs.Rules.{rules, IsKnown}

@@ -1,5 +1,5 @@
 use Rattle.std.proofs.Common.{◌≡◌, take}
-use Rattle.server_steps.specs.Calls.{GoesOn}
+use Rattle.site_store.specs.one_server.Calls.{GoesOn}
 use Rattle.source_log.specs.Reading.{with_dropped}
 use Rattle.source_log.proofs.in_flight.drop_changes.Given as goal
 

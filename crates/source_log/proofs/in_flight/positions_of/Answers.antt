@@ -2,9 +2,9 @@ use Rattle.std.proofs.Common.{ℕ, List, sym, subst, arith}
 use Rattle.std.specs.Prelude.{Some, None}
 use Rattle.std.proofs.lemmas.Result.{err_from_is_err_and}
 use Rattle.site_store.specs.Views.{sees}
-use Rattle.server_steps.specs.laws.Damage.{breaks_after, memory_after}
-use Rattle.server_steps.specs.laws.Reads.{looks_none, looks_then, sees_back}
-use Rattle.stored_defs.specs.laws.Passing.{if_seen, if_both_seen, any_seen}
+use Rattle.site_store.specs.one_server.laws.Damage.{breaks_after, memory_after}
+use Rattle.site_store.specs.one_server.laws.Reads.{looks_none, looks_then, sees_back}
+use Rattle.site_store.specs.laws.Passing.{if_seen, if_both_seen, any_seen}
 use Rattle.source_log.specs.Reading.{IsNextPosition, ArePositions}
 use Rattle.source_log.specs.Rules.{rules}
 use Rattle.source_log.proofs.Flights.{SoFar, none_yet, one_more, all_found}

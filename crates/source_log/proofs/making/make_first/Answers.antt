@@ -1,7 +1,7 @@
 use Rattle.std.proofs.Common.{◌+◌, Bool, length, sym, subst}
 use Rattle.std.proofs.lemmas.Result.{err_from_is_err_and}
-use Rattle.server_steps.specs.laws.Damage.{breaks_on}
-use Rattle.server_steps.specs.laws.Steps.{goes_none, goes_as, goes_then}
+use Rattle.site_store.specs.one_server.laws.Damage.{breaks_on}
+use Rattle.site_store.specs.one_server.laws.Steps.{goes_none, goes_as, goes_then}
 use Rattle.stored_defs.specs.laws.Standing.{all_at_place}
 use Rattle.source_log.specs.Making.{StepCanBeMade, MakesOne, MakesFirst}
 use Rattle.source_log.specs.Rules.{rules}

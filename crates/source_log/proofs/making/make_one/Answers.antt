@@ -3,9 +3,9 @@ use Rattle.std.specs.Prelude.{IfSome}
 use Rattle.std.proofs.lemmas.Result.{err_from_is_err_and}
 use Rattle.repl_definitions.specs.declared.defined.DefinedTable.{DefinedTable}
 use Rattle.site_store.specs.Views.{sees}
-use Rattle.server_steps.specs.Calls.{GoesOn}
-use Rattle.server_steps.specs.laws.Damage.{write_breaks_after}
-use Rattle.server_steps.specs.laws.Steps.{goes_saw, saw_then}
+use Rattle.site_store.specs.one_server.Calls.{GoesOn}
+use Rattle.site_store.specs.one_server.laws.Damage.{write_breaks_after}
+use Rattle.site_store.specs.one_server.laws.Steps.{goes_saw, saw_then}
 use Rattle.source_log.specs.Making.{Tells, MakesOne, with_made}
 use Rattle.source_log.specs.Rules.{rules}
 use Rattle.source_log.proofs.making.make_one.Goals as goal

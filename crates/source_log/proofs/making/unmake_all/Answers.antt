@@ -2,9 +2,9 @@ use Rattle.std.proofs.Common.{◌≡◌, ◌<◌, ◌-◌, ◌+◌, ℕ, List, l
 use Rattle.std.proofs.lemmas.Result.{err_from_is_err_and}
 use Rattle.repl_definitions.specs.declared.defined.DefinedTable.{DefinedTable}
 use Rattle.repl_model.specs.Tables.{inverse}
-use Rattle.server_steps.specs.Calls.{GoesOn}
-use Rattle.server_steps.specs.laws.Faults.{write_fails_on}
-use Rattle.server_steps.specs.laws.Steps.{goes_none, goes_as, goes_then}
+use Rattle.site_store.specs.one_server.Calls.{GoesOn}
+use Rattle.site_store.specs.one_server.laws.Faults.{write_fails_on}
+use Rattle.site_store.specs.one_server.laws.Steps.{goes_none, goes_as, goes_then}
 use Rattle.stored_defs.specs.laws.Standing.{all_at_place}
 use Rattle.source_log.specs.Fitting.{CanBeMade}
 use Rattle.source_log.specs.Making.{StepCanBeMade, all_unmade, with_made}

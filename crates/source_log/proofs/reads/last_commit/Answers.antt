@@ -2,7 +2,7 @@ use Rattle.repl_types.specs.declared.area.Area.TheVariants as areas
 use Rattle.keep_core.specs.Contents.{IsLastKey}
 use Rattle.row_codec.specs.Spelling.{b64}
 use Rattle.site_store.specs.Views.{sees}
-use Rattle.stored_defs.specs.laws.Passing.{if_seen}
+use Rattle.site_store.specs.laws.Passing.{if_seen}
 use Rattle.source_log.specs.Rules.{EndIs}
 use Rattle.source_log.proofs.Seen.{end_seen, none_seen}
 use Rattle.source_log.proofs.reads.last_commit.Goals as goal

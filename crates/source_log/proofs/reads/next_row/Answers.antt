@@ -7,8 +7,8 @@ use Rattle.repl_records.specs.SourceSide.{source_row_spelling}
 use Rattle.repl_records.specs.declared.source_side.SourceRow.{SourceRow}
 use Rattle.site_store.specs.Records.{after_key, NextRowIs}
 use Rattle.site_store.specs.Views.{sees}
-use Rattle.server_steps.specs.laws.Faults.{no_memory}
-use Rattle.stored_defs.specs.laws.Passing.{if_seen}
+use Rattle.site_store.specs.one_server.laws.Faults.{no_memory}
+use Rattle.site_store.specs.laws.Passing.{if_seen}
 use Rattle.source_log.specs.Scanning.{ShowsBadRow, IsNextCommitted}
 use Rattle.source_log.proofs.Scanned.{scan_fails, none_next, some_next}
 use Rattle.source_log.proofs.reads.next_row.Goals as goal

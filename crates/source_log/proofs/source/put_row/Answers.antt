@@ -3,7 +3,7 @@ use Rattle.std.proofs.lemmas.Result.{err_from_is_err_and}
 use Rattle.repl_types.specs.Sizes.{IsKeySize}
 use Rattle.repl_types.specs.Value.{Values}
 use Rattle.row_codec.specs.Spelling.{key_spelling}
-use Rattle.server_steps.specs.laws.Faults.{no_memory}
+use Rattle.site_store.specs.one_server.laws.Faults.{no_memory}
 use Rattle.source_log.proofs.MayStand.{row_key_size}
 use Rattle.source_log.proofs.source.put_row.Goals as goal
 

@@ -4,8 +4,8 @@ use Rattle.repl_types.specs.declared.area.Area.TheVariants as areas
 use Rattle.keep_core.specs.Contents.{Contents, put_at}
 use Rattle.row_codec.specs.Spelling.{key_spelling, row_spelling}
 use Rattle.repl_model.specs.Tables.{key_of}
-use Rattle.server_steps.specs.laws.Faults.{write_fails_on}
-use Rattle.server_steps.specs.laws.Steps.{goes_then}
+use Rattle.site_store.specs.one_server.laws.Faults.{write_fails_on}
+use Rattle.site_store.specs.one_server.laws.Steps.{goes_then}
 use Rattle.source_log.proofs.source.replace_row.Goals as goal
 
 pub returns-in_err-put_row-clause-fault : goal.returns-in_err-put_row-clause-fault

@@ -4,7 +4,7 @@ use Rattle.repl_types.specs.declared.area.Area.TheVariants as areas
 use Rattle.keep_core.specs.Contents.{put_at}
 use Rattle.row_codec.specs.Spelling.{key_spelling, row_spelling}
 use Rattle.repl_model.specs.Tables.{key_of, inverse}
-use Rattle.server_steps.specs.laws.Steps.{goes_as}
+use Rattle.site_store.specs.one_server.laws.Steps.{goes_as}
 use Rattle.source_log.specs.Fitting.{CanBeMade}
 use Rattle.source_log.specs.Making.{with_made}
 use Rattle.source_log.proofs.Makes.{made_insert, made_delete, made_update}

@@ -3,10 +3,10 @@ use Rattle.std.proofs.lemmas.Result.{err_from_is_err_and}
 use Rattle.repl_types.specs.declared.record.Change.TheVariants.{Update}
 use Rattle.site_store.specs.Damage.{Damages}
 use Rattle.site_store.specs.Views.{sees}
-use Rattle.server_steps.specs.laws.Damage.{breaks_after}
-use Rattle.server_steps.specs.laws.Faults.{no_memory}
-use Rattle.server_steps.specs.laws.Reads.{looks_then, sees_back}
-use Rattle.stored_defs.specs.laws.Passing.{if_seen, if_both_seen}
+use Rattle.site_store.specs.one_server.laws.Damage.{breaks_after}
+use Rattle.site_store.specs.one_server.laws.Faults.{no_memory}
+use Rattle.site_store.specs.one_server.laws.Reads.{looks_then, sees_back}
+use Rattle.site_store.specs.laws.Passing.{if_seen, if_both_seen}
 use Rattle.source_log.specs.Making.{Tells}
 use Rattle.source_log.specs.Reading.{FindsRow, HasFreeKey}
 use Rattle.source_log.specs.Rules.{rules}

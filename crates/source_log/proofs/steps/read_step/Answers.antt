@@ -11,9 +11,9 @@ use Rattle.row_codec.specs.Spelling.{b64}
 use Rattle.site_store.specs.Calls.{reads_of_one}
 use Rattle.site_store.specs.Records.{RowIs}
 use Rattle.site_store.specs.Views.{sees}
-use Rattle.server_steps.specs.laws.Damage.{needed_breaks, breaks_after}
-use Rattle.server_steps.specs.laws.Reads.{sees_on, sees_back, looks_then}
-use Rattle.stored_defs.specs.laws.Passing.{if_seen, if_both_seen}
+use Rattle.site_store.specs.one_server.laws.Damage.{needed_breaks, breaks_after}
+use Rattle.site_store.specs.one_server.laws.Reads.{sees_on, sees_back, looks_then}
+use Rattle.site_store.specs.laws.Passing.{if_seen, if_both_seen}
 use Rattle.source_log.specs.Making.{IsStepAt}
 use Rattle.source_log.specs.Rules.{rules, IsInFlight, IsLogged, IsKnown, HasTable}
 use Rattle.source_log.proofs.Strays.{other_record, IsStray}

@@ -5,12 +5,12 @@ use Rattle.std.proofs.lemmas.List.{take_more}
 use Rattle.std.proofs.lemmas.Result.{err_from_is_err_and}
 use Rattle.repl_types.specs.laws.Lists.{all_append}
 use Rattle.keep_core.specs.Contents.{Contents}
-use Rattle.load_worlds.specs.laws.Members.{beside_more}
+use Rattle.lists.specs.laws.Members.{beside_more}
 use Rattle.repl_definitions.specs.declared.defined.DefinedTable.{DefinedTable}
 use Rattle.site_store.specs.Views.{sees}
-use Rattle.server_steps.specs.laws.Damage.{breaks_after, memory_after}
-use Rattle.server_steps.specs.laws.Reads.{looks_none, looks_then, sees_on, sees_back}
-use Rattle.stored_defs.specs.laws.Passing.{if_seen, if_both_seen, any_seen}
+use Rattle.site_store.specs.one_server.laws.Damage.{breaks_after, memory_after}
+use Rattle.site_store.specs.one_server.laws.Reads.{looks_none, looks_then, sees_on, sees_back}
+use Rattle.site_store.specs.laws.Passing.{if_seen, if_both_seen, any_seen}
 use Rattle.stored_defs.specs.laws.Standing.{all_at_place}
 use Rattle.source_log.specs.Making.{StepCanBeMade, AreSteps, IsStepAt}
 use Rattle.source_log.specs.Rules.{rules, IsInFlight, IsKnown}

@@ -2,7 +2,7 @@ use Rattle.std.proofs.Common.{take}
 use Rattle.std.specs.Prelude.{IfSome}
 use Rattle.std.specs.List.{AllByRecursion}
 use Rattle.site_store.specs.Views.{sees}
-use Rattle.server_steps.specs.Calls.{Looks}
+use Rattle.site_store.specs.one_server.Calls.{Looks}
 use Rattle.source_log.specs.Making.{StepCanBeMade, AreSteps}
 use Rattle.source_log.specs.Rules.{IsKnown}
 use Rattle.source_log.proofs.steps.read_steps.Given as goal

@@ -6,9 +6,9 @@ use Rattle.repl_definitions.specs.Defined.{defined_table_spelling, IsDefinedTabl
 use Rattle.site_store.specs.Calls.{reads_of_one}
 use Rattle.site_store.specs.Records.{RowIs}
 use Rattle.site_store.specs.Views.{sees}
-use Rattle.server_steps.specs.laws.Damage.{needed_breaks, breaks_after, memory_after}
-use Rattle.server_steps.specs.laws.Reads.{looks_none, sees_on}
-use Rattle.stored_defs.specs.laws.Passing.{if_seen, if_both_seen}
+use Rattle.site_store.specs.one_server.laws.Damage.{needed_breaks, breaks_after, memory_after}
+use Rattle.site_store.specs.one_server.laws.Reads.{looks_none, sees_on}
+use Rattle.site_store.specs.laws.Passing.{if_seen, if_both_seen}
 use Rattle.source_log.specs.Rules.{rules, IsInFlight, IsLogged}
 use Rattle.source_log.proofs.Strays.{other_table, IsStray}
 use Rattle.source_log.proofs.steps.read_table.Goals as goal

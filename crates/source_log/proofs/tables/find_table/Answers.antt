@@ -3,8 +3,8 @@ use Rattle.repl_types.specs.declared.area.Area.TheVariants as areas
 use Rattle.row_codec.specs.Spelling.{short_text}
 use Rattle.repl_definitions.specs.Defined.{defined_table_spelling, IsDefinedTable}
 use Rattle.site_store.specs.Calls.{reads_of_one}
-use Rattle.server_steps.specs.laws.Damage.{get_breaks, memory_after}
-use Rattle.server_steps.specs.laws.Reads.{looks_none}
+use Rattle.site_store.specs.one_server.laws.Damage.{get_breaks, memory_after}
+use Rattle.site_store.specs.one_server.laws.Reads.{looks_none}
 use Rattle.source_log.specs.Rules.{rules}
 use Rattle.source_log.proofs.tables.find_table.Goals as goal
 

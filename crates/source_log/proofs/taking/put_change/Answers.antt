@@ -7,8 +7,8 @@ use Rattle.row_codec.specs.Spelling.{b64}
 use Rattle.repl_records.specs.SourceSide.{in_flight_spelling}
 use Rattle.site_store.specs.Works.{Sets}
 use Rattle.site_store.specs.Calls.{writes_of_one}
-use Rattle.server_steps.specs.laws.Faults.{put_fails, write_fails_on}
-use Rattle.server_steps.specs.laws.Steps.{goes_put, goes_then}
+use Rattle.site_store.specs.one_server.laws.Faults.{put_fails, write_fails_on}
+use Rattle.site_store.specs.one_server.laws.Steps.{goes_put, goes_then}
 use Rattle.source_log.specs.Rules.{flight_key}
 use Rattle.source_log.proofs.taking.put_change.Goals as goal
 

@@ -8,9 +8,9 @@ use Rattle.keep_core.specs.Contents.{put_at}
 use Rattle.row_codec.specs.LogRecords.{IsLogRecord, log_spelling}
 use Rattle.row_codec.specs.Spelling.{b64}
 use Rattle.repl_model.specs.SoundLogs.{log_limit}
-use Rattle.server_steps.specs.Calls.{GoesOn}
-use Rattle.server_steps.specs.laws.Damage.{write_breaks_after}
-use Rattle.server_steps.specs.laws.Steps.{goes_none, saw_then}
+use Rattle.site_store.specs.one_server.Calls.{GoesOn}
+use Rattle.site_store.specs.one_server.laws.Damage.{write_breaks_after}
+use Rattle.site_store.specs.one_server.laws.Steps.{goes_none, saw_then}
 use Rattle.source_log.specs.Reading.{ArePositions, with_dropped}
 use Rattle.source_log.specs.Rules.{rules}
 use Rattle.source_log.specs.Storing.{TakesRecord}

@@ -10,9 +10,9 @@ use Rattle.row_codec.specs.Spelling.{b64, short_text}
 use Rattle.repl_definitions.specs.declared.defined.DefinedTable.{DefinedTable}
 use Rattle.repl_records.specs.SourceSide.{in_flight_spelling}
 use Rattle.repl_model.specs.SoundLogs.{log_limit}
-use Rattle.server_steps.specs.Calls.{GoesOn}
-use Rattle.server_steps.specs.laws.Damage.{write_breaks_after}
-use Rattle.server_steps.specs.laws.Steps.{goes_saw, saw_then}
+use Rattle.site_store.specs.one_server.Calls.{GoesOn}
+use Rattle.site_store.specs.one_server.laws.Damage.{write_breaks_after}
+use Rattle.site_store.specs.one_server.laws.Steps.{goes_saw, saw_then}
 use Rattle.source_log.specs.Fitting.{may_stand}
 use Rattle.source_log.specs.Rules.{rules, flight_key, HasTable, IsKnown, IsTableAt}
 use Rattle.source_log.specs.Storing.{TakesRecord, TakesKnowing}

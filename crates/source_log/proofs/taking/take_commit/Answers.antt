@@ -8,12 +8,12 @@ use Rattle.row_codec.specs.LogRecords.{log_spelling}
 use Rattle.row_codec.specs.Spelling.{b64}
 use Rattle.repl_model.specs.SoundLogs.{log_limit}
 use Rattle.site_store.specs.Views.{sees}
-use Rattle.server_steps.specs.Calls.{GoesOn}
-use Rattle.server_steps.specs.laws.Damage.{breaks_after, write_breaks_after}
-use Rattle.server_steps.specs.laws.Faults.{write_fails_on}
-use Rattle.server_steps.specs.laws.Reads.{looks_then, sees_back}
-use Rattle.server_steps.specs.laws.Steps.{goes_none, goes_then, saw_then}
-use Rattle.stored_defs.specs.laws.Passing.{if_both_seen}
+use Rattle.site_store.specs.one_server.Calls.{GoesOn}
+use Rattle.site_store.specs.one_server.laws.Damage.{breaks_after, write_breaks_after}
+use Rattle.site_store.specs.one_server.laws.Faults.{write_fails_on}
+use Rattle.site_store.specs.one_server.laws.Reads.{looks_then, sees_back}
+use Rattle.site_store.specs.one_server.laws.Steps.{goes_none, goes_then, saw_then}
+use Rattle.site_store.specs.laws.Passing.{if_both_seen}
 use Rattle.source_log.specs.Making.{MakesAll, AreSteps}
 use Rattle.source_log.specs.Reading.{ArePositions, with_dropped}
 use Rattle.source_log.specs.Rules.{rules, IsKnown}

@@ -5,8 +5,8 @@ use Rattle.row_codec.specs.Spelling.{short_text}
 use Rattle.repl_definitions.specs.Defined.{defined_table_spelling}
 use Rattle.site_store.specs.Calls.{reads_of_one}
 use Rattle.site_store.specs.Records.{RowIs}
-use Rattle.server_steps.specs.laws.Damage.{write_breaks_after}
-use Rattle.server_steps.specs.laws.Steps.{goes_none, saw_then}
+use Rattle.site_store.specs.one_server.laws.Damage.{write_breaks_after}
+use Rattle.site_store.specs.one_server.laws.Steps.{goes_none, saw_then}
 use Rattle.source_log.specs.Making.{with_made}
 use Rattle.source_log.specs.Units.{MakesOwn, table_rules}
 use Rattle.source_log.proofs.UnitTables.{table_fails, table_is_bad}

@@ -9,8 +9,8 @@ use Rattle.repl_records.specs.RecordKeys.{single_spelling}
 use Rattle.repl_records.specs.SourceSide.{head_spelling}
 use Rattle.site_store.specs.Works.{Sets}
 use Rattle.site_store.specs.Calls.{writes_of_one}
-use Rattle.server_steps.specs.laws.Faults.{no_memory, put_fails, write_fails_on}
-use Rattle.server_steps.specs.laws.Steps.{goes_put, goes_then}
+use Rattle.site_store.specs.one_server.laws.Faults.{no_memory, put_fails, write_fails_on}
+use Rattle.site_store.specs.one_server.laws.Steps.{goes_put, goes_then}
 use Rattle.source_log.specs.Units.{PutsCommit}
 use Rattle.source_log.proofs.units.put_commit.Goals as goal
 

@@ -6,9 +6,9 @@ use Rattle.keep_core.specs.Contents.{Contents, put_at}
 use Rattle.row_codec.specs.LogRecords.{log_spelling}
 use Rattle.row_codec.specs.Spelling.{b64}
 use Rattle.site_store.specs.Works.{Sets}
-use Rattle.server_steps.specs.laws.Damage.{breaks_on}
-use Rattle.server_steps.specs.laws.Faults.{no_memory}
-use Rattle.server_steps.specs.laws.Steps.{goes_put, goes_then}
+use Rattle.site_store.specs.one_server.laws.Damage.{breaks_on}
+use Rattle.site_store.specs.one_server.laws.Faults.{no_memory}
+use Rattle.site_store.specs.one_server.laws.Steps.{goes_put, goes_then}
 use Rattle.source_log.specs.Units.{MakesOwn, PutsOwn, ShowsBadTable, table_rules}
 use Rattle.source_log.proofs.UnitTables.{tables_shown}
 use Rattle.source_log.proofs.units.put_own.Goals as goal

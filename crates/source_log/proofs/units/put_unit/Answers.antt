@@ -8,8 +8,8 @@ use Rattle.repl_types.specs.declared.unit.Placed.{Placed}
 use Rattle.keep_core.specs.Contents.{Contents, IsLastKey}
 use Rattle.row_codec.specs.Spelling.{b64}
 use Rattle.repl_model.specs.SoundLogs.{log_limit}
-use Rattle.server_steps.specs.Calls.{Stops}
-use Rattle.server_steps.specs.laws.Steps.{goes_saw, goes_then, saw_then, looks_open}
+use Rattle.site_store.specs.one_server.Calls.{Stops}
+use Rattle.site_store.specs.one_server.laws.Steps.{goes_saw, goes_then, saw_then, looks_open}
 use Rattle.source_log.specs.Rules.{EndIs}
 use Rattle.source_log.specs.Units.{own_change, MayBePut, PutsChanges, PutsCommit, AppendsIfRoom, AppendsUnit, ShowsBadTable}
 use Rattle.source_log.proofs.UnitTables.{unit_end_fails, unit_tables_fail, unit_commit_fails}

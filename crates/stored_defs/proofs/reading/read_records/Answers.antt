@@ -8,8 +8,9 @@ use Rattle.site_store.specs.Records.{after_key}
 use Rattle.site_store.specs.Calls.{reads_of_one}
 use Rattle.site_store.specs.Damage.{Damages}
 use Rattle.site_store.specs.laws.Counts.{stays_then}
-use Rattle.stored_defs.specs.Reading.{row_limit, HasRecords, AllStand, table_rules}
-use Rattle.stored_defs.specs.laws.Passing.{reads_more, reads_within, any_seen, if_seen, if_both_seen, stays_none, stays_sees, stays_within, no_memory}
+use Rattle.stored_defs.specs.Reading.{HasRecords, AllStand, table_rules}
+use Rattle.world_store.specs.SpelledRows.{definition_limit}
+use Rattle.site_store.specs.laws.Passing.{reads_more, reads_within, any_seen, if_seen, if_both_seen, stays_none, stays_sees, stays_within, no_memory}
 use Rattle.stored_defs.proofs.ReadingRows.{HasReadTo, reads_start, reads_on, reads_last, reads_full, reads_fail, stands_on_key}
 use Rattle.stored_defs.proofs.reading.read_records.Goals as goal
 
@@ -31,7 +32,7 @@ returns-in_err-row-clause-fault g c =
     rw (p.1, p.2) (reads_fail g.R.Key.Key.fits g.R.Key.Key.spelling g.R.Part.fits g.R.Part.spelling g.R.Stored.AREA (g.R.Table.TableNumber.number c.args.table) g.K.Keeper.kept c.args.sites.now c.loop-read.sites c.next.new.self c.args.server c.loop-read._read (after_key g.R.Key.Key.spelling c.loop-read.last) c.in_err-row.field-0.0 c.loop-read-test.true c.loop-read.invariant.stays (rw c.as_ref.ensures.value at c.in_err-row.ensures.fault))
 
 pub returns-in_default-clause-ok : goal.returns-in_default-clause-ok
-returns-in_default-clause-ok g c = stays_then g.K.Keeper.kept c.args.sites.now c.loop-read.sites c.next.new.self (reads_of_one c.loop-read._read c.args.server g.R.Stored.AREA) (reads_of_one 1 c.args.server g.R.Stored.AREA) (reads_of_one row_limit c.args.server g.R.Stored.AREA) c.loop-read.invariant.stays c.in_ok-row.ensures.ok.stays (reads_more c.loop-read._read 1 row_limit c.args.server g.R.Stored.AREA (omega (arith, c.loop-read-test.true)))
+returns-in_default-clause-ok g c = stays_then g.K.Keeper.kept c.args.sites.now c.loop-read.sites c.next.new.self (reads_of_one c.loop-read._read c.args.server g.R.Stored.AREA) (reads_of_one 1 c.args.server g.R.Stored.AREA) (reads_of_one definition_limit c.args.server g.R.Stored.AREA) c.loop-read.invariant.stays c.in_ok-row.ensures.ok.stays (reads_more c.loop-read._read 1 definition_limit c.args.server g.R.Stored.AREA (omega (arith, c.loop-read-test.true)))
 
 pub returns-in_default-clause-records : goal.returns-in_default-clause-records
 returns-in_default-clause-records g c =
@@ -49,9 +50,9 @@ returns-in_default-clause-few g c = omega (arith, c.loop-read.invariant.count)
 pub returns-in_err-push-clause-fault : goal.returns-in_err-push-clause-fault
 returns-in_err-push-clause-fault g c =
     let kept = g.K.Keeper.kept in
-    let stays = stays_then kept c.args.sites.now c.loop-read.sites c.next.new.self (reads_of_one c.loop-read._read c.args.server g.R.Stored.AREA) (reads_of_one 1 c.args.server g.R.Stored.AREA) (reads_of_one row_limit c.args.server g.R.Stored.AREA) c.loop-read.invariant.stays c.in_ok-row.ensures.ok.stays (reads_more c.loop-read._read 1 row_limit c.args.server g.R.Stored.AREA (omega (arith, c.loop-read-test.true))) in
+    let stays = stays_then kept c.args.sites.now c.loop-read.sites c.next.new.self (reads_of_one c.loop-read._read c.args.server g.R.Stored.AREA) (reads_of_one 1 c.args.server g.R.Stored.AREA) (reads_of_one definition_limit c.args.server g.R.Stored.AREA) c.loop-read.invariant.stays c.in_ok-row.ensures.ok.stays (reads_more c.loop-read._read 1 definition_limit c.args.server g.R.Stored.AREA (omega (arith, c.loop-read-test.true))) in
     let p = err_from_is_err_and c.from_residual-in_err-push.result c.from_residual-in_err-push.ensures.1 in
-    rw (p.1, p.2) (no_memory kept c.args.sites.now c.next.new.self (reads_of_one row_limit c.args.server g.R.Stored.AREA) (Damages (λ s. s ≡ c.args.server) (table_rules g.R.Key.Key.fits g.R.Key.Key.spelling g.R.Part.fits g.R.Part.spelling g.R.Stored.AREA (g.R.Table.TableNumber.number c.args.table)) kept c.args.sites.now) c.requires.closed stays)
+    rw (p.1, p.2) (no_memory kept c.args.sites.now c.next.new.self (reads_of_one definition_limit c.args.server g.R.Stored.AREA) (Damages (λ s. s ≡ c.args.server) (table_rules g.R.Key.Key.fits g.R.Key.Key.spelling g.R.Part.fits g.R.Part.spelling g.R.Stored.AREA (g.R.Table.TableNumber.number c.args.table)) kept c.args.sites.now) c.requires.closed stays)
 
 pub loop-read-preserved : goal.loop-read-preserved
 loop-read-preserved g c = record {
@@ -80,7 +81,7 @@ loop-read-preserved g c = record {
 }
 
 pub returns-clause-ok : goal.returns-clause-ok
-returns-clause-ok g c = stays_within g.K.Keeper.kept c.args.sites.now c.loop-read.sites (reads_of_one c.loop-read._read c.args.server g.R.Stored.AREA) (reads_of_one row_limit c.args.server g.R.Stored.AREA) c.loop-read.invariant.stays (reads_within c.loop-read._read row_limit c.args.server g.R.Stored.AREA c.loop-read.auto._read-end)
+returns-clause-ok g c = stays_within g.K.Keeper.kept c.args.sites.now c.loop-read.sites (reads_of_one c.loop-read._read c.args.server g.R.Stored.AREA) (reads_of_one definition_limit c.args.server g.R.Stored.AREA) c.loop-read.invariant.stays (reads_within c.loop-read._read definition_limit c.args.server g.R.Stored.AREA c.loop-read.auto._read-end)
 
 pub returns-clause-records : goal.returns-clause-records
 returns-clause-records g c =

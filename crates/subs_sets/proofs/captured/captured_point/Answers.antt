@@ -6,7 +6,7 @@ use Rattle.repl_records.specs.declared.capture.CaptureState.{CaptureState}
 use Rattle.site_store.specs.Calls.{reads_of_one}
 use Rattle.site_store.specs.Damage.{Damages}
 use Rattle.site_store.specs.Views.{sees}
-use Rattle.server_steps.specs.laws.Damage.{get_breaks}
+use Rattle.site_store.specs.one_server.laws.Damage.{get_breaks}
 use Rattle.subs_sets.specs.Rules.{captured_rules, source_rules}
 use Rattle.subs_sets.proofs.JoinedRules.{captured_breaks}
 use Rattle.subs_sets.proofs.Looking.{looked}

@@ -1,6 +1,6 @@
 use Rattle.std.proofs.Common.{◌≡◌, ◌-◌, ◌≤◌, ◌^◌}
 use Rattle.repl_model.specs.Trails.{synchpoint}
-use Rattle.server_steps.specs.Calls.{Looks}
+use Rattle.site_store.specs.one_server.Calls.{Looks}
 use Rattle.set_places.specs.Members.{ForSource}
 use Rattle.set_places.specs.Reading.{ReadsOnly}
 use Rattle.subs_sets.specs.Rules.{is_read}

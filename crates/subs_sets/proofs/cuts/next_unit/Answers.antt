@@ -7,7 +7,7 @@ use Rattle.rows_in_order.specs.laws.ByNumber.{key_less}
 use Rattle.site_store.specs.Calls.{reads_of_one}
 use Rattle.site_store.specs.Views.{sees}
 use Rattle.site_store.specs.laws.Numbers.{numbers_in_order}
-use Rattle.server_steps.specs.laws.Damage.{next_breaks}
+use Rattle.site_store.specs.one_server.laws.Damage.{next_breaks}
 use Rattle.subs_sets.specs.Rules.{captured_rules}
 use Rattle.subs_sets.proofs.JoinedRules.{captured_breaks}
 use Rattle.subs_sets.proofs.NextUnits.{unit_read, none_read}

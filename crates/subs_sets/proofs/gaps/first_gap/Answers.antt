@@ -2,8 +2,8 @@ use Rattle.std.proofs.Common.{◌≡◌, take_all, refl, sym, ap, ◌∙◌, ari
 use Rattle.std.specs.List.{filter_map}
 use Rattle.std.proofs.lemmas.Result.{err_from_is_err_and}
 use Rattle.repl_model.specs.NextActions.{member_gap}
-use Rattle.server_steps.specs.laws.Damage.{breaks_after}
-use Rattle.server_steps.specs.laws.Reads.{looks_none, looks_then}
+use Rattle.site_store.specs.one_server.laws.Damage.{breaks_after}
+use Rattle.site_store.specs.one_server.laws.Reads.{looks_none, looks_then}
 use Rattle.subs_sets.specs.Gaps.{gap_of_found, first_of, AtMember}
 use Rattle.subs_sets.specs.Rules.{source_rules}
 use Rattle.subs_sets.proofs.Looking.{for_source_back, reads_then}

@@ -6,9 +6,9 @@ use Rattle.repl_records.specs.Capture.{registration_state_spelling, IsRegistrati
 use Rattle.site_store.specs.Calls.{reads_of_one}
 use Rattle.site_store.specs.Records.{RowIs}
 use Rattle.site_store.specs.Views.{sees}
-use Rattle.server_steps.specs.laws.Damage.{needed_breaks, breaks_after, memory_after}
-use Rattle.server_steps.specs.laws.Reads.{looks_then, sees_back, sees_on}
-use Rattle.stored_defs.specs.laws.Passing.{if_seen}
+use Rattle.site_store.specs.one_server.laws.Damage.{needed_breaks, breaks_after, memory_after}
+use Rattle.site_store.specs.one_server.laws.Reads.{looks_then, sees_back, sees_on}
+use Rattle.site_store.specs.laws.Passing.{if_seen}
 use Rattle.set_places.specs.Members.{HasRegistration}
 use Rattle.subs_sets.specs.Rules.{captured_rules, source_rules}
 use Rattle.subs_sets.proofs.JoinedRules.{member_breaks, captured_breaks}

@@ -1,5 +1,5 @@
 use Rattle.std.proofs.Common.{◌≡◌, ◌∙◌, rules}
-use Rattle.server_steps.specs.laws.Reads.{looks_none}
+use Rattle.site_store.specs.one_server.laws.Reads.{looks_none}
 use Rattle.subs_sets.proofs.FirstGaps.{pruned_gap}
 use Rattle.subs_sets.proofs.MemberGaps.{source_name}
 use Rattle.subs_sets.proofs.gaps.uow_gap.Goals as goal

@@ -9,8 +9,8 @@ use Rattle.repl_model.specs.NextActions.{reports, idles, by_gap, gap_of}
 use Rattle.repl_model.specs.Trails.{synchpoint, base_of}
 use Rattle.site_store.specs.Calls.{reads_of_one}
 use Rattle.site_store.specs.Views.{sees}
-use Rattle.server_steps.specs.laws.Damage.{get_breaks, breaks_after}
-use Rattle.server_steps.specs.laws.Reads.{looks_then}
+use Rattle.site_store.specs.one_server.laws.Damage.{get_breaks, breaks_after}
+use Rattle.site_store.specs.one_server.laws.Reads.{looks_then}
 use Rattle.subs_sets.specs.Actions.{action_of}
 use Rattle.subs_sets.specs.Rules.{captured_rules, source_rules}
 use Rattle.subs_sets.proofs.ActionCases.{reports_or_idles, as_gap_says}

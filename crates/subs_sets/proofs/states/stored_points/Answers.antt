@@ -3,14 +3,13 @@ use Rattle.std.specs.Prelude.{IfSome}
 use Rattle.repl_types.specs.declared.area.Area.TheVariants as areas
 use Rattle.row_codec.specs.Spelling.{b32}
 use Rattle.repl_definitions.specs.declared.set.SetDef.{SetDef}
-use Rattle.repl_records.specs.SetState.{state_spelling}
+use Rattle.repl_records.specs.SetState.{state_spelling, IsState}
 use Rattle.repl_records.specs.declared.set_state.SetState.{SetState}
 use Rattle.repl_records.specs.declared.set_state.SetState.TheVariants as states
-use Rattle.repl_records.specs.SetState.{IsState}
 use Rattle.repl_model.specs.Rules.{is_replica_set}
 use Rattle.site_store.specs.Views.{sees}
-use Rattle.server_steps.specs.laws.Damage.{unfit_breaks}
-use Rattle.stored_defs.specs.laws.Passing.{if_both_seen}
+use Rattle.site_store.specs.one_server.laws.Damage.{unfit_breaks}
+use Rattle.site_store.specs.laws.Passing.{if_both_seen}
 use Rattle.set_places.specs.Places.{HasTargetRow}
 use Rattle.subs_sets.specs.Rules.{state_rules}
 use Rattle.subs_sets.specs.States.{HasState}

@@ -3,7 +3,7 @@ use Rattle.repl_types.specs.declared.area.Area.TheVariants as areas
 use Rattle.row_codec.specs.Spelling.{b32}
 use Rattle.repl_records.specs.SetState.{state_spelling, IsState}
 use Rattle.site_store.specs.Calls.{reads_of_one}
-use Rattle.server_steps.specs.laws.Damage.{get_breaks}
+use Rattle.site_store.specs.one_server.laws.Damage.{get_breaks}
 use Rattle.subs_sets.specs.Rules.{state_rules}
 use Rattle.subs_sets.proofs.states.stored_state.Goals as goal
 

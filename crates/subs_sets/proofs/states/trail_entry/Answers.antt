@@ -4,7 +4,7 @@ use Rattle.row_codec.specs.Spelling.{b64}
 use Rattle.repl_records.specs.Trail.{entry_spelling, IsEntry}
 use Rattle.site_store.specs.Calls.{reads_of_one}
 use Rattle.site_store.specs.Views.{sees}
-use Rattle.server_steps.specs.laws.Damage.{get_breaks}
+use Rattle.site_store.specs.one_server.laws.Damage.{get_breaks}
 use Rattle.subs_sets.specs.Rules.{state_rules}
 use Rattle.subs_sets.proofs.StoredEntries.{entry_is, fits_alone}
 use Rattle.subs_sets.proofs.states.trail_entry.Goals as goal

@@ -1,8 +1,8 @@
 use Rattle.std.proofs.Common.{◌≡◌, ℕ, ◌<◌, length, sym, subst}
 use Rattle.site_store.specs.Views.{names}
-use Rattle.server_steps.specs.laws.Reads.{looks_none}
+use Rattle.site_store.specs.one_server.laws.Reads.{looks_none}
 use Rattle.subs_sets.specs.Rules.{source_rules}
-use Rattle.target_steps.specs.laws.AtServers.{captured_undamaged}
+use Rattle.apply_cycle.specs.AtServers.{captured_undamaged}
 use Rattle.run_commands.specs.parts.laws.Looking.{looked_keeps, stops_keeps, stops_run, stops_reads, stops_cause}
 use Rattle.run_commands.proofs.StepDamage.{source_shown}
 use Rattle.run_commands.proofs.apply.applies.most_of.Goals as goal

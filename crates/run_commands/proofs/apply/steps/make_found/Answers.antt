@@ -1,9 +1,9 @@
 use Rattle.std.proofs.Common.{ℕ, List, sym, subst, arith}
-use Rattle.faults.specs.declared.fault.Fault.{Fault}
+use Rattle.repl_types.specs.declared.fault.Fault.{Fault}
 use Rattle.keep_core.specs.Revealed.{Takes, TakesPrefix}
 use Rattle.repl_model.specs.NextActions.{next_action}
 use Rattle.repl_model.specs.World.{World, KnownSet}
-use Rattle.load_worlds.specs.laws.Entries.{at_place_in}
+use Rattle.lists.specs.laws.Numbered.{at_place_in}
 use Rattle.site_store.specs.Views.{names, held}
 use Rattle.world_store.specs.Stands.{Stands}
 use Rattle.set_places.specs.Places.{IsPlacedAs, IsReadOnly}

@@ -1,6 +1,6 @@
 use Rattle.std.proofs.Common.{◌∙◌, [], sym, arith}
 use Rattle.std.proofs.lemmas.Result.{err_from_is_err_and}
-use Rattle.faults.specs.declared.fault.Stepped.TheVariants as steps
+use Rattle.repl_types.specs.declared.fault.Stepped.TheVariants as steps
 use Rattle.reply_text.specs.Steps.{step_line}
 use Rattle.repl_model.specs.World.{World}
 use Rattle.run_core.specs.Runs.{last_world}

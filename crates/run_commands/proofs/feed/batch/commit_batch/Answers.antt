@@ -2,8 +2,8 @@ use Rattle.std.proofs.Common.{rules, ◌≡◌, ◌∙◌, ℕ, List, true, refl
 use Rattle.std.specs.Prelude.{slice_index_or}
 use Rattle.std.proofs.lemmas.Result.{err_from_is_err_and}
 use Rattle.repl_types.specs.declared.refusal.Refusal.TheVariants as refusals
-use Rattle.faults.specs.declared.call_errors.AppendError.{AppendError}
-use Rattle.faults.specs.declared.call_errors.AppendError.TheVariants as errors
+use Rattle.repl_types.specs.declared.call_errors.AppendError.{AppendError}
+use Rattle.repl_types.specs.declared.call_errors.AppendError.TheVariants as errors
 use Rattle.keep_core.specs.Revealed.{Takes, TakesPrefix}
 use Rattle.repl_model.specs.World.{World}
 use Rattle.site_store.specs.Views.{names, held}
@@ -16,8 +16,9 @@ use Rattle.run_commands.specs.parts.Refusing.{refused}
 use Rattle.run_commands.specs.parts.laws.Exits.{on_err}
 use Rattle.run_commands.specs.parts.laws.Parts.{nothing_done, output_cause}
 use Rattle.run_commands.specs.feed.FeedEvents.{batch_events}
-use Rattle.run_commands.proofs.Batches.{none_taken, server_refused, server_refusal_begun, all_appended, last_is, record_refused, record_refusal_begun, append_stopped, ends_run, append_cause}
+use Rattle.run_commands.proofs.Batches.{server_refused, server_refusal_begun, all_appended, last_is, record_refused, record_refusal_begun, append_stopped, ends_run, append_cause}
 use Rattle.run_commands.proofs.feed.batch.commit_batch.Goals as goal
+use Rattle.run_commands.specs.parts.laws.Lines.{none_begun}
 
 pub append-requires : goal.append-requires
 append-requires g c = record { server = c.in-Some.ensures.within; closed = c.requires.closed; records = rw c.as_slice.ensures c.requires.feed.users }
@@ -164,7 +165,7 @@ returns-in_err-clone-in-Err-LogFull g c =
       ok = rw p.1 tt;
       last = rw p.1 tt;
       stopped = on_err c.from_residual-in_err-clone-in-Err-LogFull.result (record_refusal_begun kept s0 c.requires.closed feed n c.in-Some.ensures s1 t c.append.ensures.servers.names
-          (errors.LogFull c.in-Err-LogFull.field-0-0) refusal refl has t (none_taken t (lines_of (refused refusal))));
+          (errors.LogFull c.in-Err-LogFull.field-0-0) refusal refl has t (none_begun t (lines_of (refused refusal))));
       servers = c.append.ensures.servers;
       cause = rw (p.1, p.2) (record { streams = tt; servers = tt });
       counts = omega arith;

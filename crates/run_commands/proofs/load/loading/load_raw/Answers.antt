@@ -1,5 +1,5 @@
 use Rattle.std.proofs.Common.{◌≡◌, ◌∙◌, true, false, sym, subst, arith}
-use Rattle.faults.specs.declared.fault.Fault.{Fault}
+use Rattle.repl_types.specs.declared.fault.Fault.{Fault}
 use Rattle.repl_model.specs.World.{World}
 use Rattle.site_store.specs.Views.{names, held}
 use Rattle.site_store.specs.laws.Counts.{keeps_itself}

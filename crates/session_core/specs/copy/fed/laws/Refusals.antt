@@ -3,8 +3,8 @@ use Rattle.std.proofs.Common.{◌≡◌, ◌∙◌, ℕ, ◌+◌, List, [], ◌�
 use Rattle.std.specs.Prelude.{Option, Some, None, is_some, nat_lt, if◌then◌else◌}
 use Rattle.std.specs.Option.{option_map, option_map_or}
 use Rattle.std.specs.Str.Lines.{lines}
-use Rattle.faults.specs.declared.call_errors.AppendError.{AppendError}
-use Rattle.faults.specs.declared.call_errors.AppendError.TheVariants as errors
+use Rattle.repl_types.specs.declared.call_errors.AppendError.{AppendError}
+use Rattle.repl_types.specs.declared.call_errors.AppendError.TheVariants as errors
 use Rattle.line_input.specs.Limits.{line_limit}
 use Rattle.log_text.specs.Records.{record_of}
 use Rattle.repl_types.specs.declared.record.LogRecord.{LogRecord}
@@ -16,7 +16,7 @@ use Rattle.repl_model.specs.World.{Server, World, server_named}
 use Rattle.run_core.specs.Runs.{Event, writes, last_world, is_refused}
 use Rattle.run_core.specs.laws.Runs.{refused_append}
 use Rattle.run_commands.specs.parts.Refusing.{refused}
-use Rattle.source_log.specs.Appending.{taken, append_error}
+use Rattle.run_commands.specs.Appending.{taken, append_error}
 use Rattle.run_commands.specs.feed.Feeds.{new_feed, with_record, is_full}
 use Rattle.run_commands.specs.feed.FeedEvents.{commit_events, error_events, server_events, batch_events, record_events, refused_events, feed_line_events, feed_end_events, after_record, feed_after, last_position}
 use Rattle.run_commands.specs.declared.feed.feed.Feed.{Feed}

@@ -1,6 +1,0 @@
-mod Read
-mod Counts
-mod Trees
-mod Typed
-mod Spelled
-mod Storable

@@ -1,9 +1,0 @@
-mod OneRow
-mod Worlds
-mod Marks
-mod Reports
-mod Signals
-mod Steps
-mod Targets
-mod Numbers
-mod StepTables

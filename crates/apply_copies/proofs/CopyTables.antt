@@ -1,0 +1,113 @@
+-- The target of a user copy: its number, its rows, and that none has the empty key: proofs.
+use Rattle.std.proofs.Common.{◌≡◌, ℕ, ◌+◌, ◌*◌, ◌<◌, ◌≤◌, true, List, [], ◌∷◌, ◌++◌, length, refl, sym, ap, subst, ◌∙◌, arith}
+use Rattle.std.specs.Prelude.{min, Option, Some, None}
+use Rattle.std.specs.FinMap.{entries}
+use Rattle.std.specs.declared.cmp.Ordering.TheVariants.{Less}
+use Rattle.std.proofs.Math.Nat.{min-eq_left}
+use Rattle.std.proofs.lemmas.List.Sums.{fold-append}
+use Rattle.repl_types.specs.Bytes.{bytes_cmp}
+use Rattle.repl_types.specs.Value.{Values}
+use Rattle.repl_types.specs.laws.Lists.{all_filter}
+use Rattle.row_codec.specs.Spelling.{key_spelling}
+use Rattle.repl_definitions.specs.declared.member.Member.{Member}
+use Rattle.repl_definitions.specs.declared.member.TargetKind.{TargetKind}
+use Rattle.repl_definitions.specs.declared.member.TargetKind.TheVariants.{UserCopy, PointInTime, BaseAggregate, ChangeAggregate, Ccd, Replica}
+use Rattle.repl_definitions.specs.declared.set.SetDef.{SetDef}
+use Rattle.repl_records.specs.TargetSide.{copy_spelling}
+use Rattle.repl_records.specs.declared.target_side.CopyRow.{CopyRow}
+use Rattle.rows_in_order.specs.Rows.{table_from_rows, AllAfter}
+use Rattle.rows_in_order.specs.laws.Rising.{found_after}
+use Rattle.repl_model.specs.Selection.{SourceTable, is_selected, selected_rows, target_row}
+use Rattle.repl_model.specs.Sound.{IsSound}
+use Rattle.repl_model.specs.SoundDefinitions.{KeepsTable, ServerKeepsRules}
+use Rattle.repl_model.specs.SoundLogs.{LogIsSound}
+use Rattle.repl_model.specs.SourceAt.{source_at}
+use Rattle.repl_model.specs.Trails.{Entry, Trail, point_after, synchpoint}
+use Rattle.repl_model.specs.World.{Server, World, KnownSet, source_named}
+use Rattle.world_store.specs.Tables.{member_table}
+use Rattle.world_store.specs.TargetRows.{copy_rows, rows_refreshed}
+use Rattle.lists.specs.laws.Members.{In, at_one, each_image}
+use Rattle.stored_commits.specs.records.SourceTables.{KeysOfRowsFit, TypedChangesHaveRows, RowsStayStanding}
+use Rattle.stored_commits.specs.records.laws.StandingRows.{standing_some}
+use Rattle.stored_commits.specs.copies.ChangedCopies.{copy_table}
+use Rattle.set_places.specs.declared.placed_set.PlacedSet.{PlacedSet}
+use Rattle.set_places.specs.Places.{IsPlacedAs}
+use Rattle.set_places.specs.laws.Known.{placed_def, members_few, number_few}
+use Rattle.set_places.specs.laws.Sources.{source_is_of, table_keyed}
+use Rattle.target_steps.specs.Taking.{number_of}
+use Rattle.apply_copies.specs.Copying.{selected, copied}
+use Rattle.apply_copies.specs.Loading.{greatest_number, target_number}
+use Rattle.apply_copies.specs.laws.CopyRows.{copied_are, rows_stand_at}
+use Rattle.apply_copies.specs.Copies.{is_user_copy}
+
+-- ---- its number
+
+-- the number of a target that the code computes doesn't pass the greatest number
+pub number_is : (w : World) (k : KnownSet) (set : PlacedSet) (place : ℕ) → IsSound w → IsPlacedAs w k set → place < length set.at_source.def.members → target_number set.at_target.number place ≡ number_of set place
+number_is w k set place sound placed within =
+    let number = set.at_target.number in
+    let low : number < 256 = number_few w k set sound placed in
+    let few : length set.at_source.def.members ≤ 64 = subst (λ (def : SetDef). length def.members ≤ 64) (sym (placed_def w k set sound placed ∙ placed.target_def)) (members_few w k sound placed.known) in
+    let inner : min (number * 64) greatest_number ≡ number * 64 = min-eq_left (omega (arith, low)) in
+    let outer : min (number * 64 + place) greatest_number ≡ number * 64 + place = min-eq_left (omega (arith, low, few, within)) in
+    ap (λ (n : ℕ). min (n + place) greatest_number) inner ∙ outer ∙ omega arith
+
+-- ---- what the kind says
+
+-- the kind that is taken is that of user copies
+kind_is : (kind : TargetKind) → is_user_copy kind ≡ true → UserCopy ≡ kind
+kind_is UserCopy is = refl
+kind_is PointInTime is = absurd cc
+kind_is BaseAggregate is = absurd cc
+kind_is ChangeAggregate is = absurd cc
+kind_is (Ccd complete condensed) is = absurd cc
+kind_is Replica is = absurd cc
+
+module _ (source : SourceTable) (member : Member) (copy : is_user_copy member.kind ≡ true) where
+  -- the member with its kind
+  as_copy : record member { kind = UserCopy } ≡ member
+  as_copy = λ i. record member { kind = kind_is member.kind copy i }
+
+  -- its target has the rows of a user copy
+  pub table_is : (trail : Trail) → member_table source member trail ≡ table_from_rows key_spelling copy_spelling (copy_rows source member trail)
+  table_is trail = subst (λ (m : Member). member_table source m trail ≡ table_from_rows key_spelling copy_spelling (copy_rows source m trail)) as_copy refl
+
+  -- and gets those that are selected at a refresh
+  pub rows_are : (p : ℕ) (q : Option ℕ) → rows_refreshed source p q member ≡ length (selected_rows source member p)
+  rows_are p q = subst (λ (m : Member). rows_refreshed source p q m ≡ length (selected_rows source m p)) as_copy refl
+
+  -- after one more entry of the trail it has the copy at the entry's point
+  pub table_after : (trail : Trail) (e : Entry) → member_table source member (trail ++ e ∷ []) ≡ copy_table source member (point_after e)
+  table_after trail e = table_is (trail ++ e ∷ []) ∙ ap (copy_table source member) (fold-append (λ point e. point_after e) 0 trail (e ∷ []))
+
+-- ---- its keys
+
+-- a table of rows whose keys aren't empty has none at the empty key
+none_empty : (rows : List (Values × CopyRow)) → AllAfter key_spelling [] rows → table_from_rows key_spelling copy_spelling rows [] ≡ None
+none_empty rows after = pick (table_from_rows key_spelling copy_spelling rows []) refl
+  where
+    pick : (o : Option (List ℕ)) → table_from_rows key_spelling copy_spelling rows [] ≡ o → o ≡ None
+    pick None has = refl
+    pick (Some value) has = absurd (none_less (found_after key_spelling copy_spelling [] [] rows after value has))
+      where
+        none_less : bytes_cmp [] [] ≡ Less → ⊥
+        none_less e = cc
+
+module _ (keys : KeysOfRowsFit) (typed : TypedChangesHaveRows) (stay : RowsStayStanding) (w : World) (server : Server) (sound : IsSound w) (i : In server w) where
+  -- no row of a user copy of a registered table stands at the empty key
+  pub copies_keyed : (name : List ℕ) (source : SourceTable) (member : Member) (trail : Trail) → source_named name server ≡ Some source → table_from_rows key_spelling copy_spelling (copy_rows source member trail) [] ≡ None
+  copies_keyed name source member trail named = none_empty (copy_rows source member trail) (subst (AllAfter key_spelling []) (sym (copied_are source member (synchpoint trail))) after)
+    where
+      rows : List (Values × Values)
+      rows = entries (source_at source.def source.log (synchpoint trail))
+
+      keyed : 0 < length source.def.key
+      keyed =
+          let is = source_is_of name server source named in
+          rw is.def (table_keyed is.table (at_one KeepsTable server.tables is.table (at_one (ServerKeepsRules w) w server sound.definitions.servers i).tables is.among))
+
+      all : AllAfter key_spelling [] rows
+      all = standing_some keys source.def (source_at source.def source.log (synchpoint trail)) (rw (source_is_of name server source named).log (rows_stand_at typed stay server source.def (synchpoint trail) (at_one LogIsSound w server sound.logs i))) keyed
+
+      after : AllAfter key_spelling [] (copied member rows)
+      after = each_image (λ (r : Values × CopyRow). bytes_cmp [] (key_spelling r.0) ≡ Less) (λ (r : Values × Values). (r.0, record { row = target_row member r.1 })) (selected member rows) (all_filter (λ (r : Values × Values). bytes_cmp [] (key_spelling r.0) ≡ Less) (λ (r : Values × Values). is_selected member r.1) rows all)

@@ -1,0 +1,36 @@
+-- What is known of user copies as targets: which damage is shown of them, and that their rows aren't numbered.
+use Rattle.std.proofs.Common.{◌≡◌, ℕ, true, false, inl, inr}
+use Rattle.std.specs.Prelude.{Option, None}
+use Rattle.repl_types.specs.declared.area.Area.{Area}
+use Rattle.repl_types.specs.declared.status.DamageCause.{DamageCause}
+use Rattle.repl_types.specs.declared.status.DamageCause.TheVariants as causes
+use Rattle.keep_core.specs.Contents.{Contents}
+use Rattle.repl_definitions.specs.declared.member.TargetKind.{TargetKind}
+use Rattle.repl_definitions.specs.declared.member.TargetKind.TheVariants.{UserCopy, PointInTime, BaseAggregate, ChangeAggregate, Ccd, Replica}
+use Rattle.stored_commits.specs.actions.StoredSteps.{is_numbered}
+use Rattle.site_store.specs.Damage.{Rules, Shows}
+use Rattle.site_store.specs.laws.Damage.{shown_unseen}
+use Rattle.apply_copies.specs.ChangeRules.{change_source_rules}
+use Rattle.apply_copies.specs.Rules.{source_rules, target_rules}
+use Rattle.apply_copies.specs.Copies.{is_user_copy, ShowsCopyDamage}
+
+-- so is damage of copies
+pub copy_damage_unseen : (a : Area) (cause : DamageCause) (saw : Option Contents) → ShowsCopyDamage a cause saw → ShowsCopyDamage a cause None
+copy_damage_unseen a cause saw (inl (inl h)) = inl (inl (shown_unseen source_rules a cause saw h))
+copy_damage_unseen a cause saw (inl (inr h)) = inl (inr (shown_unseen change_source_rules a cause saw h))
+copy_damage_unseen a cause saw (inr h) = inr (h.0, shown_unseen (target_rules h.0) a cause saw h.1)
+
+-- that a set doesn't come to rest is no damage of copies
+pub no_rest_of_copies : (a : Area) (steps : ℕ) (saw : Option Contents) → ShowsCopyDamage a (causes.NoRest steps) saw → ⊥
+no_rest_of_copies a steps saw (inl (inl h)) = h
+no_rest_of_copies a steps saw (inl (inr h)) = h
+no_rest_of_copies a steps saw (inr h) = h.1
+
+-- the rows of a user copy aren't numbered
+pub copies_unnumbered : (kind : TargetKind) → is_user_copy kind ≡ true → is_numbered kind ≡ false
+copies_unnumbered UserCopy is = λ i. false
+copies_unnumbered PointInTime is = absurd cc
+copies_unnumbered BaseAggregate is = absurd cc
+copies_unnumbered ChangeAggregate is = absurd cc
+copies_unnumbered (Ccd complete condensed) is = absurd cc
+copies_unnumbered Replica is = absurd cc

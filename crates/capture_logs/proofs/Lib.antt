@@ -1,4 +1,0 @@
-mod Fronts
-mod InFlight
-mod Restarts
-mod NextUnits

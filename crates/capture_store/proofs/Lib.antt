@@ -1,3 +1,0 @@
-mod Stays
-mod Worlds
-mod Captured

@@ -1,6 +1,0 @@
-use Rattle.capture_store.proofs.Captured.{has_captured}
-use Rattle.capture_store.proofs.a_server_holds_what_it_captured.Goals as goal
-
--- what a server holds has what it has captured
-pub returns : goal.returns
-returns c = has_captured

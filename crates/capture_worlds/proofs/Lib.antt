@@ -1,5 +1,0 @@
-mod NextUnits
-mod OneServer
-mod OneSet
-mod Definitions
-mod StaysSound

@@ -1,6 +1,0 @@
-use Rattle.capture_worlds.proofs.NextUnits.{others_are_next}
-use Rattle.capture_worlds.proofs.the_others_are_next.Goals as goal
-
--- the units after the first that isn't captured are those that aren't captured after it is
-pub returns : goal.returns
-returns c = others_are_next

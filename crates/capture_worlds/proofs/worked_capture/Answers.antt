@@ -1,9 +1,0 @@
-use Rattle.std.proofs.Common.{refl}
-use Rattle.repl_model.specs.Units.{units}
-use Rattle.capture_worlds.specs.Captures.{uncaptured}
-use Rattle.capture_worlds.proofs.worked_capture.Goals as goal
-
--- what the captures make of the server, and how many rows they capture
-pub returns : goal.returns
-unfolding uncaptured units
-returns c = record { one = refl; all = refl; rest = refl; rows = refl }

@@ -1,7 +1,0 @@
-mod Agreeing
-mod Images
-mod StoredCopies
-mod OneChange
-mod FirstUnits
-mod Units
-mod KnownMembers

@@ -1,4 +1,0 @@
-mod CopyDamage
-mod CopySteps
-mod CopyTables
-mod StepFaults

@@ -1,0 +1,5 @@
+pub mod Members
+pub mod Embedded
+pub mod Numbered
+pub mod Images
+pub mod Places

@@ -1,0 +1,6 @@
+pub mod worlds
+pub mod known
+pub mod rules
+pub mod stored
+pub mod planned
+pub mod texts

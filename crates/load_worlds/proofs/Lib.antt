@@ -1,5 +1,0 @@
-mod Logs
-mod Definitions
-mod Between
-mod Replicas
-mod StaysSound

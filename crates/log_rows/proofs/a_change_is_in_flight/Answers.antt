@@ -1,8 +1,0 @@
-use Rattle.log_rows.proofs.InFlightRows.{rows_stand, change_in_flight}
-use Rattle.log_rows.proofs.a_change_is_in_flight.Goals as goal
-
-pub returns-clause-stand : goal.returns-clause-stand
-returns-clause-stand c = rows_stand
-
-pub returns-clause-put : goal.returns-clause-put
-returns-clause-put c = change_in_flight

@@ -1,9 +1,0 @@
-mod Laws
-mod Lists
-mod Trails
-mod Sides
-mod Targets
-mod States
-mod Stays
-mod Captured
-mod Logged

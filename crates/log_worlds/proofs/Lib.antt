@@ -1,8 +1,0 @@
-mod Lists
-mod Units
-mod LongerServers
-mod SoundUnits
-mod OneLog
-mod LongerWorlds
-mod Definitions
-mod StaysSound

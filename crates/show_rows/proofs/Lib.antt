@@ -1,6 +1,0 @@
-pub mod Digits
-pub mod Numbered
-pub mod Standing
-pub mod Contents
-pub mod ReadingOne
-mod Written

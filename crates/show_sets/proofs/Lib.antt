@@ -1,7 +1,0 @@
-mod AfterReads
-mod Blame
-mod KnownStatus
-mod CopiedRows
-mod NamedMembers
-mod TargetsDiffer
-mod FoundTargets

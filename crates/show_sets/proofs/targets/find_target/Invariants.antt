@@ -1,9 +1,0 @@
-use Rattle.server_steps.specs.Calls.{Looks}
-use Rattle.show_sets.proofs.FoundTargets.{NoneBefore}
-use Rattle.show_sets.proofs.targets.find_target.Given as goal
-
-abbrev pub invariant-loop-row : goal.invariant-loop-row
-invariant-loop-row g l = record {
-  looks : Looks g.K.Keeper.kept l.fn.sites l.sites;
-  none : NoneBefore g.K.Keeper.kept l.fn.sites l.server l.name l.row-items l.row-index;
-}

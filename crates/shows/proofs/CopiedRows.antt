@@ -1,0 +1,254 @@
+-- The rows of a user copy as they stand at its target, and their text.
+use Rattle.std.proofs.Common.{◌≡◌, ℕ, ◌+◌, ◌*◌, ◌<◌, ◌≤◌, List, [], ◌∷◌, ◌++◌, length, map, refl, sym, ap, subst, ◌∙◌, arith, inl, inr}
+use Rattle.std.specs.Prelude.{min, Option, Some, IfSome, slice_get}
+use Rattle.std.specs.FinMap.{entries}
+use Rattle.std.specs.List.{AllByRecursion, flat_map}
+use Rattle.std.specs.Option.{option_map_or, option_and_then}
+use Rattle.std.specs.declared.cmp.Ordering.TheVariants.{Less}
+use Rattle.std.proofs.Math.Nat.{min-eq_left}
+use Rattle.std.proofs.lemmas.List.{length-map}
+use Rattle.std.proofs.lemmas.Option.{same_Some, slice_get_within}
+use Rattle.repl_types.specs.Bytes.{bytes_cmp}
+use Rattle.repl_types.specs.Value.{Values}
+use Rattle.repl_types.specs.declared.area.Area.TheVariants as areas
+use Rattle.repl_types.specs.declared.table.TableDef.{TableDef}
+use Rattle.repl_types.specs.declared.record.LogRecord.{LogRecord}
+use Rattle.repl_types.specs.laws.Lists.{all_filter, all_weaker}
+use Rattle.repl_types.specs.declared.call_errors.ShowError.{ShowError}
+use Rattle.repl_types.specs.declared.call_errors.ShowError.TheVariants as errors
+use Rattle.keep_core.specs.Contents.{Contents}
+use Rattle.keep_core.specs.Kept.{Kept}
+use Rattle.keep_core.specs.Revealed.{Takes, TakesPrefix}
+use Rattle.row_codec.specs.Spelling.{IsKey, key_spelling}
+use Rattle.repl_definitions.specs.Members.{IsMember}
+use Rattle.repl_definitions.specs.declared.member.Member.{Member}
+use Rattle.repl_definitions.specs.declared.member.TargetKind.TheVariants.{UserCopy}
+use Rattle.repl_definitions.specs.declared.set.SetDef.{SetDef}
+use Rattle.repl_records.specs.TargetSide.{IsCopy, copy_spelling}
+use Rattle.repl_records.specs.declared.target_side.CopyRow.{CopyRow}
+use Rattle.reply_text.specs.Rows.{row_line}
+use Rattle.rows_in_order.specs.Rows.{table_from_rows, IsRising}
+use Rattle.rows_in_order.specs.laws.Rising.{filter_rises}
+use Rattle.repl_model.specs.MemberCopies.{user_copy}
+use Rattle.repl_model.specs.Selection.{SourceTable, is_selected, target_row}
+use Rattle.repl_model.specs.Sound.{IsSound}
+use Rattle.repl_model.specs.SoundDefinitions.{KeepsTable, MemberIsSound, ReplicaMemberIsSound, ServerKeepsRules}
+use Rattle.repl_model.specs.SoundLogs.{LogIsSound}
+use Rattle.repl_model.specs.SourceAt.{source_at}
+use Rattle.repl_model.specs.Trails.{Trail, synchpoint}
+use Rattle.repl_model.specs.World.{World, KnownSet, known_sets, source_named}
+use Rattle.site_store.specs.declared.sites.Sites.{Sites}
+use Rattle.site_store.specs.Calls.{Bounds}
+use Rattle.site_store.specs.Damage.{Damages, IsUndamaged}
+use Rattle.site_store.specs.Servers.{AllClosed}
+use Rattle.site_store.specs.Views.{names, held, work, sees}
+use Rattle.site_store.specs.laws.Damage.{no_damage}
+use Rattle.world_store.specs.Stands.{Reveals, Stands}
+use Rattle.world_store.specs.Tables.{member_table}
+use Rattle.world_store.specs.TargetRows.{source_of, copy_rows}
+use Rattle.lists.specs.laws.Numbered.{at_place_in}
+use Rattle.repl_model.specs.laws.KnownSets.{known_stands, source_in}
+use Rattle.lists.specs.laws.Members.{In, at_one, each_image}
+use Rattle.stored_commits.specs.records.SourceTables.{StandsUnderKey, RowsStand, KeysOfRowsFit, TypedChangesHaveRows, RowsStayStanding}
+use Rattle.stored_commits.specs.records.laws.StandingRows.{some_byte, standing_rise}
+use Rattle.set_places.specs.declared.placed_set.PlacedSet.{PlacedSet}
+use Rattle.set_places.specs.Places.{IsPlaced, IsPlacedAs, IsReadOnly}
+use Rattle.set_places.specs.laws.Known.{is_among, set_keeps_rules, members_few, number_few}
+use Rattle.set_places.specs.laws.Sources.{IsSourceOf, source_is_of, table_keyed}
+use Rattle.set_places.specs.laws.Standing.{target_revealed}
+use Rattle.stored_commits.specs.actions.StoredSteps.{TargetsStand}
+use Rattle.world_store.specs.laws.FewRows.{selected_few}
+use Rattle.world_store.specs.SpelledRows.{RowFits}
+use Rattle.apply_copies.specs.Copying.{selected, copied}
+use Rattle.apply_copies.specs.Loading.{greatest_number, target_number}
+use Rattle.apply_copies.specs.Rules.{target_rules}
+use Rattle.apply_copies.specs.laws.CopyRows.{copied_are, copy_rows_fit, rows_stand_at, target_undamaged}
+use Rattle.shows.specs.servers.Showing.{IsUndamagedShow}
+use Rattle.shows.specs.tables.Replies.{count_line}
+use Rattle.shows.specs.tables.Records.{AreShown, rows_text, TakesRows, TakesSomeRows}
+use Rattle.shows.specs.tables.Showing.{FailsShowing as FailsWithin}
+use Rattle.shows.specs.tables.laws.Texts.{text_shown}
+use Rattle.shows.specs.sets.Replies.{copy_text}
+use Rattle.shows.specs.sets.Targets.{IsCopyAt}
+
+-- ---- the rows
+
+-- rows rise if those from which their values were made do
+images_rise : {X Y : Type 0} (f : X → Y) (rows : List (Values × X)) → IsRising key_spelling rows → IsRising key_spelling (map (λ (r : Values × X). (r.0, f r.1)) rows)
+images_rise f [] rise = tt
+images_rise {X} {Y} f (r ∷ rs) rise = (each_image (λ (q : Values × Y). bytes_cmp (key_spelling r.0) (key_spelling q.0) ≡ Less) (λ (q : Values × X). (q.0, f q.1)) rs rise.0, images_rise f rs rise.1)
+
+-- the row of a copy under its key, as it is stored
+abbrev pub stored_copy : Values × Values → Values × CopyRow
+stored_copy r = (r.0, record { row = r.1 })
+
+module _ (keys : KeysOfRowsFit) (typed : TypedChangesHaveRows) (stay : RowsStayStanding) (w : World) (k : KnownSet) (sound : IsSound w) (known : In k (known_sets w)) (member : Member) (fits : IsMember member) (source : SourceTable) (named : source_named member.source k.source ≡ Some source) where
+  -- the point that the set has reached
+  abbrev point : ℕ
+  point = synchpoint k.at_target.trail
+
+  -- the rows of the source as of that point
+  abbrev whole : List (Values × Values)
+  whole = entries (source_at source.def source.log point)
+
+  -- the source is one of the servers
+  among : In k.source w
+  among = source_in w k (known_stands w k known)
+
+  -- its log is sound
+  log : LogIsSound k.source
+  log = at_one LogIsSound w k.source sound.logs among
+
+  -- the source table is made of one of its tables
+  of : IsSourceOf k.source source
+  of = source_is_of member.source k.source source named
+
+  -- its rows stand under their keys
+  stand : RowsStand source.def (source_at source.def source.log point)
+  stand = subst (λ (l : List LogRecord). RowsStand source.def (source_at source.def l point)) (sym of.log) (rows_stand_at typed stay k.source source.def point log)
+
+  -- it has a key
+  keyed : 0 < length source.def.key
+  keyed = subst (λ (def : TableDef). 0 < length def.key) (sym of.def) (table_keyed of.table (at_one KeepsTable k.source.tables of.table (at_one (ServerKeepsRules w) w k.source sound.definitions.servers among).tables of.among))
+
+  -- the rows can be stored
+  pub rows_fit : AllByRecursion (RowFits IsKey IsCopy) (copy_rows source member k.at_target.trail)
+  rows_fit = copy_rows_fit typed stay keys k.source source member point log of.log fits
+
+  -- they are as they are shown
+  pub rows_are : AreShown IsKey key_spelling IsCopy (copy_rows source member k.at_target.trail)
+  rows_are =
+      let made : copy_rows source member k.at_target.trail ≡ copied member whole = copied_are source member point in
+      let keyed_all : AllByRecursion (λ (e : Values × Values). 0 < length (key_spelling e.0)) whole = all_weaker (StandsUnderKey source.def) (λ (e : Values × Values). 0 < length (key_spelling e.0)) whole (λ e s. subst (λ (key : Values). 0 < length (key_spelling key)) (sym s.own) (some_byte source.def.key e.1 keyed)) stand in
+      record {
+        rise = subst (IsRising key_spelling) (sym made) (images_rise (λ (row : Values). record { row = target_row member row }) (selected member whole) (filter_rises key_spelling (λ (r : Values × Values). is_selected member r.1) whole (standing_rise keys source.def (source_at source.def source.log point) stand)));
+        fit = rows_fit;
+        some = subst (AllByRecursion (λ (r : Values × CopyRow). 0 < length (key_spelling r.0))) (sym made) (each_image (λ (r : Values × CopyRow). 0 < length (key_spelling r.0)) (λ (r : Values × Values). (r.0, record { row = target_row member r.1 })) (selected member whole) (all_filter (λ (e : Values × Values). 0 < length (key_spelling e.0)) (λ (e : Values × Values). is_selected member e.1) whole keyed_all));
+        few = omega (arith, ap length made, length-map {B = Values × CopyRow} (selected member whole) (λ (r : Values × Values). (r.0, record { row = target_row member r.1 })), selected_few source member point, ap length of.log, log.short);
+      }
+
+  -- the source is that of the set's source
+  source_is : source_of w k.at_target.def member ≡ Some source
+  source_is = ap (option_and_then (source_named member.source)) (known_stands w k known).source ∙ named
+
+  -- their text is the reply
+  pub text_is : rows_text {A = Values} (λ _ (r : CopyRow). row_line r.row) (copy_rows source member k.at_target.trail) ≡ copy_text w k member
+  text_is =
+      text_shown {A = Values} (λ _ (r : CopyRow). row_line r.row) stored_copy (user_copy source member point)
+      ∙ ap (λ (o : Option SourceTable). flat_map (λ line. line) (lines_of (option_map_or (λ (s : SourceTable). user_copy s member point) o []))) (sym source_is)
+    where
+      lines_of : List (Values × Values) → List (List ℕ)
+      lines_of rows = map (λ (r : Values × Values). row_line r.1) rows ++ count_line (length rows) ∷ []
+
+-- ---- where they stand
+
+-- the number of a target that the code computes doesn't pass the greatest number
+number_is : (w : World) (k : KnownSet) (set : PlacedSet) (place : ℕ) (member : Member) → IsSound w → IsPlacedAs w k set → slice_get k.at_target.def.members place ≡ Some member → target_number set.at_target.number place ≡ 64 * set.at_target.number + place
+number_is w k set place member sound placed at =
+    let number = set.at_target.number in
+    let low : number < 256 = number_few w k set sound placed in
+    let few : length k.at_target.def.members ≤ 64 = members_few w k sound placed.known in
+    let within : place < length k.at_target.def.members = slice_get_within k.at_target.def.members place member at in
+    let inner : min (number * 64) greatest_number ≡ number * 64 = min-eq_left (omega (arith, low)) in
+    let outer : min (number * 64 + place) greatest_number ≡ number * 64 + place = min-eq_left (omega (arith, low, few, within)) in
+    ap (λ (n : ℕ). min (n + place) greatest_number) inner ∙ outer ∙ omega arith
+
+-- a member of a set of a sound world has a source
+source_there : (w : World) (k : KnownSet) (member : Member) → IsSound w → In k (known_sets w) → In member k.at_target.def.members → (source : SourceTable) × (source_named member.source k.source ≡ Some source)
+source_there w k member sound known i = elim (set_keeps_rules w k sound known).members [
+  | inl all ↦ let own = at_one (MemberIsSound k) k.at_target.def.members member all.0 i in (own.2.0, own.2.1)
+  | inr all ↦ let own = at_one (ReplicaMemberIsSound k) k.at_target.def.members member all.0 i in (own.1.0, own.1.2)
+]
+
+-- the target of a user copy has the rows of one
+table_is : (source : SourceTable) (member : Member) (trail : Trail) → member.kind ≡ UserCopy → member_table source member trail ≡ table_from_rows key_spelling copy_spelling (copy_rows source member trail)
+table_is source member trail copy = subst (λ (m : Member). member_table source m trail ≡ table_from_rows key_spelling copy_spelling (copy_rows source m trail)) as_copy refl
+  where
+    as_copy : record member { kind = UserCopy } ≡ member
+    as_copy = λ i. record member { kind = sym copy i }
+
+-- ---- at servers that stand for a world
+
+module _ {K : Type 0} (kept : K → Kept) (s0 : Sites K) (set : PlacedSet) (place : ℕ) (closed : AllClosed (work kept s0)) (placed_at : IsPlaced kept s0 set) (is_copy : IsCopyAt set.at_target.def place) (keys : KeysOfRowsFit) (typed : TypedChangesHaveRows) (stay : RowsStayStanding) (targets : TargetsStand) (w : World) (k : KnownSet) (stands : Stands (names s0) (held kept s0) w) (placed : IsPlacedAs w k set) (read_only : IsReadOnly k) where
+  -- the member
+  abbrev member : Member
+  member = is_copy.member
+
+  -- it is one of the set
+  there : slice_get k.at_target.def.members place ≡ Some member
+  there = ap (λ (def : SetDef). slice_get def.members place) (sym placed.target_def) ∙ is_copy.there
+
+  -- it can be stored
+  fits : IsMember member
+  fits = at_one IsMember set.at_target.def.members member placed_at.target.fits.1.5.1 (at_place_in set.at_target.def.members place member is_copy.there)
+
+  -- its source
+  source : (source : SourceTable) × (source_named member.source k.source ≡ Some source)
+  source = source_there w k member stands.sound placed.known (at_place_in k.at_target.def.members place member there)
+
+  -- the number of its target
+  abbrev number : ℕ
+  number = target_number set.at_target.number place
+
+  -- the rows of the copy
+  abbrev rows : List (Values × CopyRow)
+  rows = copy_rows source.0 member k.at_target.trail
+
+  -- what the set's target is seen to hold
+  seen : Reveals w k.target (sees kept s0 set.target)
+  seen = target_revealed kept s0 w k set stands (closed set.target) placed
+
+  -- it has these rows
+  has_rows : seen.0 areas.Target number ≡ table_from_rows key_spelling copy_spelling rows
+  has_rows =
+      ap (seen.0 areas.Target) (number_is w k set place member stands.sound placed there)
+      ∙ (targets w k set.at_target.number seen.0 stands.sound (is_among w k set placed read_only) placed.at_target seen.2).0 place member source.0 there source.1
+      ∙ table_is source.0 member k.at_target.trail is_copy.copy
+
+  -- their text is the reply
+  text : rows_text {A = Values} (λ _ (r : CopyRow). row_line r.row) rows ≡ copy_text w k member
+  text = text_is keys typed stay w k stands.sound placed.known member fits source.0 source.1
+
+  -- the member at the place is this one
+  one_member : (m : Member) → slice_get k.at_target.def.members place ≡ Some m → member ≡ m
+  one_member m at = same_Some member m (sym there ∙ at)
+
+  -- ---- what was shown, if this is the number of its target
+
+  module _ (n : ℕ) (same : n ≡ number) where
+    module _ (before now : Option (List ℕ)) (m : Member) (at : slice_get k.at_target.def.members place ≡ Some m) where
+      -- a sink took the text of the rows
+      abbrev Whole : Contents → Type 0
+      Whole c = TakesRows IsKey key_spelling IsCopy copy_spelling (λ _ r. row_line r.row) areas.Target n before now c
+
+      -- or a part of it
+      abbrev Part : Contents → Type 0
+      Part c = TakesSomeRows IsKey key_spelling IsCopy copy_spelling (λ _ r. row_line r.row) areas.Target n before now c
+
+      -- the target's rows are as they are shown
+      shown : AreShown IsKey key_spelling IsCopy rows
+      shown = rows_are keys typed stay w k stands.sound placed.known member fits source.0 source.1
+
+      -- they stand in the table with the number
+      stand_there : seen.0 areas.Target n ≡ table_from_rows key_spelling copy_spelling rows
+      stand_there = ap (seen.0 areas.Target) same ∙ has_rows
+
+      -- what was shown of them was shown of the member's copy
+      reply : rows_text {A = Values} (λ _ (r : CopyRow). row_line r.row) rows ≡ copy_text w k m
+      reply = text ∙ ap (copy_text w k) (one_member m at)
+
+      -- the copy was shown
+      pub copy_shown : IfSome (sees kept s0 set.target) Whole → Takes before now (copy_text w k m)
+      copy_shown took = subst (Takes before now) reply ((subst (λ (o : Option Contents). IfSome o Whole) seen.1 took) rows shown stand_there)
+
+      -- a part of it was
+      pub copy_part : IfSome (sees kept s0 set.target) Part → TakesPrefix before now (copy_text w k m)
+      copy_part took = subst (TakesPrefix before now) reply ((subst (λ (o : Option Contents). IfSome o Part) seen.1 took) rows shown stand_there)
+
+    -- no damage is reported of them
+    pub copy_undamaged : (s1 : Sites K) (most : Bounds) (before now : ℕ) (e : ShowError) → FailsWithin kept s0 s1 most (Damages (λ s. s ≡ set.target) (target_rules n) kept s0) before now e → IsUndamagedShow e
+    copy_undamaged s1 most before now errors.Output f = tt
+    copy_undamaged s1 most before now (errors.Fault e) f = no_damage kept s0 s1 (λ s. s ≡ set.target) (target_rules n) e each f.blames
+      where
+        each : (s : ℕ) → s ≡ set.target → (c : Contents) × (sees kept s0 s ≡ Some c) × IsUndamaged (target_rules n) c
+        each s at = (seen.0, ap (sees kept s0) at ∙ seen.1, target_undamaged n seen.0 rows (ap (seen.0 areas.Target) same ∙ has_rows) (rows_fit keys typed stay w k stands.sound placed.known member fits source.0 source.1))

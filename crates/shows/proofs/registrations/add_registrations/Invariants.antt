@@ -1,0 +1,16 @@
+use Rattle.std.proofs.Common.{◌≡◌, ◌+◌, ◌++◌, take}
+use Rattle.std.specs.List.{flat_map}
+use Rattle.repl_model.specs.World.{World, server_in}
+use Rattle.site_store.specs.Views.{names, held}
+use Rattle.site_store.specs.Calls.{Stays}
+use Rattle.world_store.specs.Stands.{Stands}
+use Rattle.world_store.specs.SpelledRows.{definition_limit}
+use Rattle.shows.specs.servers.Status.{registration_text}
+use Rattle.shows.specs.servers.Rules.{reads_at}
+use Rattle.shows.proofs.registrations.add_registrations.Given as goal
+
+abbrev pub invariant-loop-number : goal.invariant-loop-number
+invariant-loop-number g l = record {
+  stays : Stays g.K.Keeper.kept l.fn.sites l.sites (reads_at (definition_limit + l.number) l.server);
+  text : (w : World) → Stands (names l.fn.sites) (held g.K.Keeper.kept l.fn.sites) w → l.text.items ≡ l.fn.text.items ++ flat_map registration_text (take l.number (server_in w l.server).tables);
+}

@@ -1,0 +1,3 @@
+pub mod servers
+pub mod tables
+pub mod sets

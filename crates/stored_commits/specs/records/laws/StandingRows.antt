@@ -1,0 +1,88 @@
+-- Rows of a table of the source that stand under their keys: they can be spelled, and are in the order of the keys.
+use Rattle.std.proofs.Common.{◌≡◌, ℕ, ◌<◌, Bool, true, false, cond, List, [], ◌∷◌, ◌++◌, length, map, get_or, refl, sym, subst, ◌∙◌, arith}
+use Rattle.std.specs.Prelude.{T, ◌&&◌, Some}
+use Rattle.std.specs.FinMap.{entries, entries_sorted}
+use Rattle.std.specs.FinMap.Entries.{below_all, is_sorted}
+use Rattle.std.specs.List.{AllByRecursion}
+use Rattle.std.specs.Ordering.{is_lt}
+use Rattle.std.specs.declared.cmp.Ordering.{Ordering}
+use Rattle.std.specs.declared.cmp.Ordering.TheVariants.{Less, Equal, Greater}
+use Rattle.repl_types.specs.Value.{Values, key_cmp, images}
+use Rattle.repl_types.specs.declared.table.TableDef.{TableDef}
+use Rattle.repl_types.specs.declared.value.Value.{Value}
+use Rattle.repl_types.specs.declared.value.Value.TheVariants.{Null, Int, Text}
+use Rattle.repl_types.specs.laws.Lists.{all_weaker}
+use Rattle.keep_core.specs.Contents.{same_key}
+use Rattle.row_codec.specs.Spelling.{IsKey, IsRow, key_spelling, row_spelling, value_spelling}
+use Rattle.row_codec.specs.laws.Ones.{one_whole}
+use Rattle.row_codec.specs.laws.Values.{order_key, one_key, one_row}
+use Rattle.repl_records.specs.SourceSide.{source_row_spelling}
+use Rattle.rows_in_order.specs.Rows.{table_from_rows, AllAfter, IsRising, SpellsApart}
+use Rattle.rows_in_order.specs.laws.Found.{all_some}
+use Rattle.repl_model.specs.Tables.{Rows}
+use Rattle.stored_commits.specs.records.SourceTables.{stored_row, StandsUnderKey, RowsStand, KeysOfRowsFit}
+
+-- a row under its key
+abbrev Entry : Type 0
+Entry = Values × Values
+
+-- ---- keys in order
+
+-- a test of two that both pass
+both_pass : (a b : Bool) → T (a && b) → T a × T b
+both_pass true b e = (tt, e)
+both_pass false b e = absurd e
+
+-- a test for less
+is_less : (o : Ordering) → T (is_lt o) → o ≡ Less
+is_less Less e = refl
+is_less Equal e = absurd e
+is_less Greater e = absurd e
+
+-- entries whose keys are above one are after it
+above_after : (key : Values) (es : List Entry) → IsKey key → AllByRecursion (λ (e : Entry). IsKey e.0) es → T (below_all key_cmp key es) → AllAfter key_spelling (key_spelling key) es
+above_after key [] fit all below = tt
+above_after key (e ∷ es) fit all below =
+    let parts = both_pass (is_lt (key_cmp key e.0)) (below_all key_cmp key es) below in
+    (order_key key e.0 fit all.0 ∙ is_less (key_cmp key e.0) parts.0, above_after key es fit all.1 parts.1)
+
+-- sorted entries rise
+entries_rise : (es : List Entry) → AllByRecursion (λ (e : Entry). IsKey e.0) es → T (is_sorted key_cmp es) → IsRising key_spelling es
+entries_rise [] all sorted = tt
+entries_rise (e ∷ es) all sorted =
+    let parts = both_pass (below_all key_cmp e.0 es) (is_sorted key_cmp es) sorted in
+    (above_after e.0 es all.0 all.1 parts.0, entries_rise es all.1 parts.1)
+
+-- a key of at least one value takes a byte
+pub some_byte : (places : List ℕ) (row : Values) → 0 < length places → 0 < length (key_spelling (images places row))
+some_byte [] row some = absurd (omega arith)
+some_byte (place ∷ places) row some = by_value (get_or row place Null) (key_spelling (images places row))
+  where
+    by_value : (v : Value) (rest : List ℕ) → 0 < length (value_spelling v ++ rest)
+    by_value Null rest = omega arith
+    by_value (Int n) rest = omega arith
+    by_value (Text t) rest = omega arith
+
+-- ---- tables
+
+-- the stored table of entries is made of them
+pub table_of_entries : (es : List Entry) → table_from_rows key_spelling source_row_spelling (map stored_row es) ≡ table_from_rows key_spelling row_spelling es
+table_of_entries [] = refl
+table_of_entries (e ∷ es) = λ i k. cond (same_key (key_spelling e.0) k) (Some (row_spelling e.1)) (table_of_entries es i k)
+
+-- rows under their keys are told apart by their spellings
+pub rows_apart : SpellsApart (λ (e : Entry). IsKey e.0 × IsRow e.1) key_spelling row_spelling
+rows_apart r s fr fs keys values = λ i. (one_key r.0 s.0 fr.0 fs.0 keys i, one_whole IsRow row_spelling one_row r.1 s.1 fr.1 fs.1 values i)
+
+module _ (keys : KeysOfRowsFit) (def : TableDef) (rows : Rows) (stand : RowsStand def rows) where
+  -- rows that stand under their keys can be spelled
+  pub standing_fit : AllByRecursion (λ e. IsKey e.0 × IsRow e.1) (entries rows)
+  standing_fit = all_weaker (StandsUnderKey def) (λ (e : Entry). IsKey e.0 × IsRow e.1) (entries rows) (λ e s. (subst IsKey (sym s.own) (keys def e.1 s.row), s.row)) stand
+
+  -- their keys rise
+  pub standing_rise : IsRising key_spelling (entries rows)
+  standing_rise = entries_rise (entries rows) (all_weaker (λ (e : Entry). IsKey e.0 × IsRow e.1) (λ (e : Entry). IsKey e.0) (entries rows) (λ e fit. fit.0) standing_fit) (entries_sorted rows)
+
+  -- and have bytes, if the table has a key
+  pub standing_some : 0 < length def.key → AllAfter key_spelling [] (entries rows)
+  standing_some keyed = all_some key_spelling (entries rows) (all_weaker (StandsUnderKey def) (λ (e : Entry). 0 < length (key_spelling e.0)) (entries rows) (λ e s. subst (λ (k : Values). 0 < length (key_spelling k)) (sym s.own) (some_byte def.key e.1 keyed)) stand)

@@ -1,4 +1,0 @@
-pub mod Copying
-pub mod Evidence
-pub mod Stepping
-pub mod Talking

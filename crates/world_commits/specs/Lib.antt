@@ -1,0 +1,4 @@
+pub mod logs
+pub mod captures
+pub mod actions
+pub mod readings
