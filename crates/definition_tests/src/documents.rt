@@ -1,182 +1,275 @@
 //! Small documents, with the definitions that they state or the refusal, worked out by hand.
 
+use crate::texts::join;
 use raw_defs::read_defs;
-use repl_commands::DefsError;
+use repl_commands::{DefsError, RawDefs, RawMember, RawRegistration, RawSet, RawTable};
 use repl_types::{Bytes, DefPlace};
-use std::alloc::Global;
+use std::alloc::{AllocError, Global};
 use std::test::Fail;
+
+/// A set without its members.
+const SET: &str = "[[set]]\nqual = 'Q'\nname = 'S'\nsource = 'hq'\ntarget = 'shop'\n";
+
+/// A member of it up to its type.
+const MEMBER: &str = "[[set.member]]\nsource = 'pens'\ntarget = 'pens'\ntype = ";
+
+/// A list of members.
+const REPLICA: &str = "member = [{ source = 'a', target = 'b', type = 'replica' }]\n";
+
+/// Texts that make a document, and whether it is refused.
+type Row<'a> = (&'a [&'a str], bool);
+
+/// Whether the document breaks rule 1.
+pub fn is_refused(alloc: Global, bytes: &[u8]) -> bool {
+    matches!(
+        read_defs(alloc, bytes),
+        Err(DefsError::Broken {
+            rule: 1,
+            place: DefPlace::Whole
+        })
+    )
+}
+
+/// Whether the document that the texts make is refused.
+fn are_refused(alloc: Global, texts: &[&str]) -> Result<bool, AllocError> {
+    let document = join(alloc, texts)?;
+    Ok(is_refused(alloc, document.as_bytes()))
+}
+
+/// Fails unless each document is refused, or isn't, as it is wanted.
+fn expect_rows(alloc: Global, rows: &[Row]) -> Result<(), Fail> {
+    for (texts, wanted) in rows {
+        if are_refused(alloc, *texts)? != *wanted {
+            return Err(Fail::new(format_args!("{texts:?}")));
+        }
+    }
+    Ok(())
+}
 
 /// Whether the bytes are the text.
 fn is_text(bytes: &Bytes, text: &str) -> bool {
     bytes.as_slice() == text.as_bytes()
 }
 
-/// Whether the document breaks rule 1.
-fn is_refused(alloc: Global, bytes: &[u8]) -> bool {
-    match read_defs(alloc, bytes) {
-        Ok(_) => false,
-        Err(error) => {
-            error
-                == DefsError::Broken {
-                    rule: 1,
-                    place: DefPlace::Whole,
-                }
+/// Whether the document states nothing.
+fn states_nothing(alloc: Global, text: &str) -> bool {
+    match read_defs(alloc, text.as_bytes()) {
+        Ok(defs) => {
+            defs.tables.is_empty() && defs.registrations.is_empty() && defs.sets.is_empty()
         }
+        Err(_) => false,
     }
 }
 
-/// The document of a set with one member, of a type and with more lines.
-fn set_with(alloc: Global, kind: &str, more: &str) -> Result<Vec<u8>, Fail> {
-    let mut bytes = Vec::from_slice(
-        alloc,
-        b"[[set]]\nqual = 'Q'\nname = 'S'\nsource = 'hq'\ntarget = 'shop'\n",
-    )?;
-    bytes.extend_from_slice(b"[[set.member]]\nsource = 'pens'\ntarget = 'pens'\ntype = '")?;
-    bytes.extend_from_slice(kind.as_bytes())?;
-    bytes.extend_from_slice(b"'\n")?;
-    bytes.extend_from_slice(more.as_bytes())?;
-    Ok(bytes)
-}
-
-/// Whether a set with this one member is refused.
-fn is_member_refused(alloc: Global, kind: &str, more: &str) -> Result<bool, Fail> {
-    Ok(is_refused(alloc, set_with(alloc, kind, more)?.as_slice()))
-}
-
 #[test]
-fn reads_an_empty_document(rt: HostRuntime) -> Result<(), Fail> {
-    let defs = read_defs(rt.alloc(), b"")?;
-    assert!(rt; defs.tables.is_empty());
-    assert!(rt; defs.registrations.is_empty());
-    assert!(rt; defs.sets.is_empty());
-    assert!(rt; read_defs(rt.alloc(), b"table = []\n")? == defs);
-    Ok(())
+fn reads_an_empty_document(rt: HostRuntime) {
+    assert!(rt; states_nothing(rt.alloc(), ""));
+    assert!(rt; states_nothing(rt.alloc(), "table = []\n"));
+}
+
+/// Whether these are the columns of the pens.
+fn are_pen_columns(columns: &[Bytes]) -> bool {
+    match columns {
+        [first, _] => is_text(first, "id int"),
+        _ => false,
+    }
+}
+
+/// Whether these are the pens.
+fn are_pens(tables: &[RawTable]) -> bool {
+    match tables {
+        [table] => {
+            is_text(&table.server, "hq")
+                && is_text(&table.name, "pens")
+                && are_pen_columns(table.columns.as_slice())
+                && table.key.is_empty()
+                && table.fixed.is_none()
+        }
+        _ => false,
+    }
 }
 
 #[test]
 fn reads_a_table(rt: HostRuntime) -> Result<(), Fail> {
-    let defs = read_defs(
-        rt.alloc(),
-        b"[[table]]\nserver = 'hq'\nname = 'pens'\ncolumns = ['id int', 'ink text']\nkey = []\n",
-    )?;
-    let table = defs.tables.as_slice().first().ok_or("no table")?;
-    assert_eq!(rt; defs.tables.len(), 1);
-    assert!(rt; is_text(&table.server, "hq"));
-    assert!(rt; is_text(&table.name, "pens"));
-    assert_eq!(rt; table.columns.len(), 2);
-    let column = table.columns.as_slice().first().ok_or("no column")?;
-    assert!(rt; is_text(column, "id int"));
-    assert!(rt; table.key.is_empty());
-    assert!(rt; table.fixed.is_none());
+    const PENS: &[u8] =
+        b"[[table]]\nserver = 'hq'\nname = 'pens'\ncolumns = ['id int', 'ink text']\nkey = []\n";
+    let defs = read_defs(rt.alloc(), PENS)?;
+    assert!(rt; are_pens(defs.tables.as_slice()));
     Ok(())
+}
+
+/// Whether the first of them is the registration of the pens.
+fn has_registration(registrations: &[RawRegistration]) -> bool {
+    match registrations {
+        [reg, ..] => {
+            is_text(&reg.table, "pens")
+                && reg.after.is_some()
+                && reg.before.is_none()
+                && matches!(reg.del_ins, Some(true))
+                && reg.changes_only.is_none()
+                && reg.disable_refresh.is_none()
+        }
+        [] => false,
+    }
 }
 
 #[test]
 fn reads_a_registration(rt: HostRuntime) -> Result<(), Fail> {
-    let defs = read_defs(
-        rt.alloc(),
-        b"[[registration]]\nserver = 'hq'\ntable = 'pens'\nafter = ['ink']\ndel_ins = true\n",
-    )?;
-    let reg = defs.registrations.as_slice().first().ok_or("none")?;
-    assert!(rt; is_text(&reg.table, "pens"));
-    assert!(rt; reg.after.is_some());
-    assert!(rt; reg.before.is_none());
-    assert_eq!(rt; reg.del_ins, Some(true));
-    assert_eq!(rt; reg.changes_only, None);
-    assert_eq!(rt; reg.disable_refresh, None);
+    const REGISTRATION: &[u8] =
+        b"[[registration]]\nserver = 'hq'\ntable = 'pens'\nafter = ['ink']\ndel_ins = true\n";
+    let defs = read_defs(rt.alloc(), REGISTRATION)?;
+    assert!(rt; has_registration(defs.registrations.as_slice()));
     Ok(())
+}
+
+/// Whether this is the one member of the set.
+fn are_members(members: &[RawMember]) -> bool {
+    match members {
+        [member] => {
+            is_text(&member.kind, "replica")
+                && member.columns.is_none()
+                && member.filter.is_some()
+                && member.complete.is_none()
+        }
+        _ => false,
+    }
+}
+
+/// Whether the first of them is the set.
+fn has_set(sets: &[RawSet]) -> bool {
+    match sets {
+        [set, ..] => {
+            is_text(&set.qual, "Q")
+                && is_text(&set.target, "shop")
+                && set.commit_count.is_none()
+                && are_members(set.members.as_slice())
+        }
+        [] => false,
+    }
+}
+
+/// The definitions that the document states that the texts make.
+fn read_joined(alloc: Global, texts: &[&str]) -> Result<RawDefs, Fail> {
+    let document = join(alloc, texts)?;
+    Ok(read_defs(alloc, document.as_bytes())?)
 }
 
 #[test]
 fn reads_a_set(rt: HostRuntime) -> Result<(), Fail> {
-    let bytes = set_with(rt.alloc(), "replica", "where = 'ink > 1'\n")?;
-    let defs = read_defs(rt.alloc(), bytes.as_slice())?;
-    let set = defs.sets.as_slice().first().ok_or("no set")?;
-    assert!(rt; is_text(&set.qual, "Q"));
-    assert!(rt; is_text(&set.target, "shop"));
-    assert_eq!(rt; set.commit_count, None);
-    let member = set.members.as_slice().first().ok_or("no member")?;
-    assert_eq!(rt; set.members.len(), 1);
-    assert!(rt; is_text(&member.kind, "replica"));
-    assert!(rt; member.columns.is_none());
-    assert!(rt; member.filter.is_some());
-    assert_eq!(rt; member.complete, None);
+    const TEXTS: &[&str] = &[SET, MEMBER, "'replica'\n", "where = 'ink > 1'\n"];
+    let defs = read_joined(rt.alloc(), TEXTS)?;
+    assert!(rt; has_set(defs.sets.as_slice()));
     Ok(())
 }
 
 #[test]
 fn asks_of_a_member_what_its_type_needs(rt: HostRuntime) -> Result<(), Fail> {
-    let alloc = rt.alloc();
-    assert!(rt; !is_member_refused(alloc, "user_copy", "columns = []\n")?);
-    assert!(rt; is_member_refused(alloc, "user_copy", "")?);
-    assert!(rt; is_member_refused(alloc, "user_copy", "columns = []\ncomplete = true\n")?);
-    assert!(rt; !is_member_refused(alloc, "replica", "")?);
-    assert!(rt; is_member_refused(alloc, "replica", "condensed = true\n")?);
-    let flags = "complete = true\ncondensed = false\n";
-    assert!(rt; is_member_refused(alloc, "ccd", flags)?);
-    assert!(rt; is_member_refused(alloc, "ccd", "columns = []\ncomplete = true\n")?);
-    let whole = "columns = []\ncomplete = true\ncondensed = false\n";
-    assert!(rt; !is_member_refused(alloc, "ccd", whole)?);
-    assert!(rt; is_member_refused(alloc, "copy", "columns = []\n")?);
-    assert!(rt; is_member_refused(alloc, "point_in_time", "columns = []\nother = 1\n")?);
-    assert!(rt; is_member_refused(alloc, "user_copy", "columns = [1]\n")?);
-    Ok(())
+    const ROWS: [Row<'static>; 11] = [
+        (&[SET, MEMBER, "'user_copy'\n", "columns = []\n"], false),
+        (&[SET, MEMBER, "'user_copy'\n"], true),
+        (
+            &[
+                SET,
+                MEMBER,
+                "'user_copy'\n",
+                "columns = []\ncomplete = true\n",
+            ],
+            true,
+        ),
+        (&[SET, MEMBER, "'replica'\n"], false),
+        (&[SET, MEMBER, "'replica'\n", "condensed = true\n"], true),
+        (
+            &[
+                SET,
+                MEMBER,
+                "'ccd'\n",
+                "complete = true\ncondensed = false\n",
+            ],
+            true,
+        ),
+        (
+            &[SET, MEMBER, "'ccd'\n", "columns = []\ncomplete = true\n"],
+            true,
+        ),
+        (
+            &[
+                SET,
+                MEMBER,
+                "'ccd'\n",
+                "columns = []\ncomplete = true\ncondensed = false\n",
+            ],
+            false,
+        ),
+        (&[SET, MEMBER, "'copy'\n", "columns = []\n"], true),
+        (
+            &[
+                SET,
+                MEMBER,
+                "'point_in_time'\n",
+                "columns = []\nother = 1\n",
+            ],
+            true,
+        ),
+        (&[SET, MEMBER, "'user_copy'\n", "columns = [1]\n"], true),
+    ];
+    expect_rows(rt.alloc(), &ROWS)
 }
 
 #[test]
 fn refuses_other_keys_and_missing_ones(rt: HostRuntime) -> Result<(), Fail> {
-    let alloc = rt.alloc();
-    assert!(rt; is_refused(alloc, b"other = 1\n"));
-    assert!(rt; is_refused(alloc, b"table = 'pens'\n"));
-    assert!(rt; is_refused(alloc, b"table = ['pens']\n"));
-    assert!(rt;
-        is_refused(
-            alloc,
-            b"[[table]]\nserver = 'hq'\nname = 'pens'\ncolumns = []\n"
-        )
-    );
-    let table = "[[table]]\nserver = 'hq'\nname = 'pens'\ncolumns = []\nkey = []\nother = 1\n";
-    assert!(rt; is_refused(alloc, table.as_bytes()));
-    assert!(rt; is_refused(alloc, b"[[registration]]\nserver = 'hq'\n"));
-    let registration = "[[registration]]\nserver = 'hq'\ntable = 'pens'\nother = 1\n";
-    assert!(rt; is_refused(alloc, registration.as_bytes()));
+    const ROWS: [Row<'static>; 7] = [
+        (&["other = 1\n"], true),
+        (&["table = 'pens'\n"], true),
+        (&["table = ['pens']\n"], true),
+        (
+            &["[[table]]\nserver = 'hq'\nname = 'pens'\ncolumns = []\n"],
+            true,
+        ),
+        (
+            &["[[table]]\nserver = 'hq'\nname = 'pens'\ncolumns = []\nkey = []\nother = 1\n"],
+            true,
+        ),
+        (&["[[registration]]\nserver = 'hq'\n"], true),
+        (
+            &["[[registration]]\nserver = 'hq'\ntable = 'pens'\nother = 1\n"],
+            true,
+        ),
+    ];
+    expect_rows(rt.alloc(), &ROWS)
+}
+
+/// Whether the first of them has the greatest limit of units, and none of minutes.
+fn has_greatest_limit(sets: &[RawSet]) -> bool {
+    match sets {
+        [set, ..] => {
+            matches!(set.commit_count, Some(4294967295)) && matches!(set.max_minutes, Some(0))
+        }
+        [] => false,
+    }
+}
+
+#[test]
+fn reads_the_greatest_limit(rt: HostRuntime) -> Result<(), Fail> {
+    const TEXTS: &[&str] = &[SET, "commit_count = 4294967295\nmax_minutes = 0\n", REPLICA];
+    let defs = read_joined(rt.alloc(), TEXTS)?;
+    assert!(rt; has_greatest_limit(defs.sets.as_slice()));
     Ok(())
 }
 
 #[test]
 fn refuses_sets_of_another_shape(rt: HostRuntime) -> Result<(), Fail> {
-    let alloc = rt.alloc();
-    let set = "[[set]]\nqual = 'Q'\nname = 'S'\nsource = 'hq'\ntarget = 'shop'\n";
-    assert!(rt; is_refused(alloc, set.as_bytes()));
-    let mut without = Vec::from_slice(alloc, set.as_bytes())?;
-    without.extend_from_slice(b"member = []\n")?;
-    assert!(rt; is_refused(alloc, without.as_slice()));
-    let member = "member = [{ source = 'a', target = 'b', type = 'replica' }]\n";
-    let mut greatest = Vec::from_slice(alloc, set.as_bytes())?;
-    greatest.extend_from_slice(b"commit_count = 4294967295\nmax_minutes = 0\n")?;
-    greatest.extend_from_slice(member.as_bytes())?;
-    let defs = read_defs(alloc, greatest.as_slice())?;
-    let read = defs.sets.as_slice().first().ok_or("no set")?;
-    assert_eq!(rt; read.commit_count, Some(4294967295));
-    assert_eq!(rt; read.max_minutes, Some(0));
-    let mut above = Vec::from_slice(alloc, set.as_bytes())?;
-    above.extend_from_slice(b"commit_count = 4294967296\n")?;
-    above.extend_from_slice(member.as_bytes())?;
-    assert!(rt; is_refused(alloc, above.as_slice()));
-    let mut below = Vec::from_slice(alloc, set.as_bytes())?;
-    below.extend_from_slice(b"max_minutes = -1\n")?;
-    below.extend_from_slice(member.as_bytes())?;
-    assert!(rt; is_refused(alloc, below.as_slice()));
-    let mut other = Vec::from_slice(alloc, set.as_bytes())?;
-    other.extend_from_slice(b"other = 1\n")?;
-    other.extend_from_slice(member.as_bytes())?;
-    assert!(rt; is_refused(alloc, other.as_slice()));
-    Ok(())
+    const ROWS: [Row<'static>; 5] = [
+        (&[SET], true),
+        (&[SET, "member = []\n"], true),
+        (&[SET, "commit_count = 4294967296\n", REPLICA], true),
+        (&[SET, "max_minutes = -1\n", REPLICA], true),
+        (&[SET, "other = 1\n", REPLICA], true),
+    ];
+    expect_rows(rt.alloc(), &ROWS)
 }
 
 #[test]
-fn refuses_what_is_no_document(rt: HostRuntime) -> Result<(), Fail> {
+fn refuses_what_is_no_document(rt: HostRuntime) {
     assert!(rt; is_refused(rt.alloc(), b"table = \n"));
     assert!(rt; is_refused(rt.alloc(), b"# \xe9\n"));
-    Ok(())
 }

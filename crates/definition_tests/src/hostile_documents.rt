@@ -1,7 +1,7 @@
 //! Documents that are large or deep, or whose numbers are.
 
+use crate::documents::is_refused;
 use raw_defs::read_defs;
-use repl_commands::DefsError;
 use std::alloc::Global;
 use std::test::Fail;
 
@@ -12,14 +12,6 @@ fn repeat(alloc: Global, piece: &str, count: u32) -> Result<Vec<u8>, Fail> {
         bytes.extend_from_slice(piece.as_bytes())?;
     }
     Ok(bytes)
-}
-
-/// Whether the document breaks a rule.
-fn is_refused(alloc: Global, bytes: &[u8]) -> bool {
-    matches!(
-        read_defs(alloc, bytes),
-        Err(DefsError::Broken { rule: 1, .. })
-    )
 }
 
 /// Whether a document with this piece so many times, and what stands before it, is refused.

@@ -1,51 +1,107 @@
 //! Definitions that texts spell, written out by hand.
 
 use crate::texts::{
-    CHANGED_ORDERS, ITEMS, LARGE_ORDERS, NUMBERS, ORDERS, ORDERS_BY_ITEM, PARTS, PENS_AND_INKS,
-    STOCK, STOCK_AT_BRANCH, check_alone, edit, join_two, stock_at,
+    BRANCH_STOCK, CHANGED_ORDERS, Edit, ITEMS, LARGE_ORDERS, NUMBERS, ORDERS, ORDERS_BY_ITEM,
+    PARTS, PENS_AND_INKS, STOCK, STOCK_AT_BRANCH, check_alone, join_edited,
 };
 use repl_definitions::{
-    Boxed, ColumnFrom, CompareOp, Expr, Member, Operand, Predicate, SetDef, TargetColumn,
-    TargetKind,
+    ColumnFrom, CompareOp, Expr, Member, Operand, Predicate, SetDef, TargetColumn, TargetKind,
 };
 use repl_types::{ColumnDef, Kind, Value};
-use spelled_defs::{RegistrationAt, TableAt};
+use spelled_defs::{Defs, RegistrationAt, TableAt};
 use std::alloc::Global;
 use std::test::Fail;
 
-/// A table: its server, its name, its columns with their kinds and whether they are nullable, and
-/// the places of its key and of its fixed columns.
+/// A column: its name, its kind and whether it is nullable.
+type WantedColumn<'a> = (&'a str, Kind, bool);
+
+/// A table: its server, its name, its columns, and the places of its key and of its fixed columns.
 #[derive(Clone, Copy)]
 struct WantedTable<'a> {
     server: &'a str,
     name: &'a str,
-    columns: &'a [(&'a str, Kind, bool)],
+    columns: &'a [WantedColumn<'a>],
     key: &'a [u32],
     fixed: &'a [u32],
 }
 
-fn is_column(column: &ColumnDef, wanted: (&str, Kind, bool)) -> bool {
+/// Whether a registration is captured with `del_ins`, `changes_only` and `disable_refresh`.
+type Flags = (bool, bool, bool);
+
+/// A registration: its server, its table, the places of its after-images and before-images, and
+/// its flags.
+#[derive(Clone, Copy)]
+struct WantedRegistration<'a> {
+    server: &'a str,
+    table: &'a str,
+    after: &'a [u32],
+    before: &'a [u32],
+    flags: Flags,
+}
+
+/// Where a column of a target comes from: a column, the product of a column and a number, the
+/// number of rows, or the sum or the greatest of a column.
+#[derive(Clone, Copy)]
+enum Origin {
+    Column(u32),
+    Product(u32, i64),
+    Count,
+    Sum(u32),
+    Max(u32),
+}
+
+/// A column of a target: its name, and where it comes from.
+type WantedTargetColumn<'a> = (&'a str, Origin);
+
+/// A member: its source and its target, the target's kind, its columns, and the column and the
+/// least number that its predicate takes.
+#[derive(Clone, Copy)]
+struct WantedMember<'a> {
+    source: &'a str,
+    target: &'a str,
+    kind: TargetKind,
+    columns: &'a [WantedTargetColumn<'a>],
+    least: Option<(u32, i64)>,
+}
+
+/// A set: its qualifier and name, its servers, its limits of units and of minutes, and its members.
+#[derive(Clone, Copy)]
+struct WantedSet<'a> {
+    qual: &'a str,
+    name: &'a str,
+    source: &'a str,
+    target: &'a str,
+    limits: (u32, u32),
+    members: &'a [WantedMember<'a>],
+}
+
+/// All definitions of a text.
+#[derive(Clone, Copy)]
+struct WantedDefs<'a> {
+    tables: &'a [WantedTable<'a>],
+    registrations: &'a [WantedRegistration<'a>],
+    sets: &'a [WantedSet<'a>],
+}
+
+fn is_column(column: &ColumnDef, wanted: WantedColumn) -> bool {
     let (name, kind, nullable) = wanted;
     column.name.as_str() == name && column.kind == kind && column.nullable == nullable
 }
 
-fn is_table(table: &TableAt, wanted: &WantedTable) -> bool {
-    let columns = table.def.columns.as_slice();
-    table.server.as_str() == wanted.server
-        && table.def.name.as_str() == wanted.name
-        && columns.len() == wanted.columns.len()
+fn are_columns(columns: &[ColumnDef], wanted: &[WantedColumn]) -> bool {
+    columns.len() == wanted.len()
         && columns
             .iter()
-            .zip(wanted.columns.iter())
+            .zip(wanted.iter())
             .all(|(column, wanted)| is_column(column, *wanted))
-        && table.def.key.as_slice() == wanted.key
-        && table.def.fixed.as_slice() == wanted.fixed
 }
 
-/// Whether a text spells these tables.
-fn spells_tables(alloc: Global, text: &str, wanted: &[WantedTable]) -> Result<bool, Fail> {
-    let defs = check_alone(alloc, text)?;
-    Ok(are_tables(defs.tables.as_slice(), wanted))
+fn is_table(table: &TableAt, wanted: &WantedTable) -> bool {
+    table.server.as_str() == wanted.server
+        && table.def.name.as_str() == wanted.name
+        && are_columns(table.def.columns.as_slice(), wanted.columns)
+        && table.def.key.as_slice() == wanted.key
+        && table.def.fixed.as_slice() == wanted.fixed
 }
 
 fn are_tables(tables: &[TableAt], wanted: &[WantedTable]) -> bool {
@@ -56,131 +112,16 @@ fn are_tables(tables: &[TableAt], wanted: &[WantedTable]) -> bool {
             .all(|(table, wanted)| is_table(table, wanted))
 }
 
-#[test]
-fn the_tables_of_a_text_are_spelled(rt: HostRuntime) -> Result<(), Fail> {
-    let alloc = rt.alloc();
-    let items = WantedTable {
-        server: "src",
-        name: "items",
-        columns: &[("id", Kind::Int, false), ("name", Kind::Text, true)],
-        key: &[0],
-        fixed: &[0],
-    };
-    let orders = WantedTable {
-        server: "hq",
-        name: "orders",
-        columns: &[
-            ("id", Kind::Int, false),
-            ("item", Kind::Text, false),
-            ("qty", Kind::Int, true),
-        ],
-        key: &[0],
-        fixed: &[0],
-    };
-    let other_keys = WantedTable {
-        key: &[1, 0],
-        fixed: &[2, 1],
-        ..orders
-    };
-    let parts = WantedTable {
-        server: "hq",
-        name: "parts",
-        columns: &[("code", Kind::Text, false), ("qty", Kind::Int, true)],
-        key: &[0],
-        fixed: &[],
-    };
-    let numbers = WantedTable {
-        server: "hq",
-        name: "nums",
-        columns: &[
-            ("id", Kind::Int, false),
-            ("grp", Kind::Int, false),
-            ("val", Kind::Int, true),
-        ],
-        key: &[0],
-        fixed: &[0],
-    };
-    let stock = WantedTable {
-        server: "hq",
-        name: "stock",
-        columns: &[("id", Kind::Int, false), ("qty", Kind::Int, true)],
-        key: &[0],
-        fixed: &[0],
-    };
-    let stock_at_branch = WantedTable {
-        server: "branch",
-        ..stock
-    };
-    let keys = edit(
-        alloc,
-        ORDERS,
-        "key = ['id']\nfixed = ['id']",
-        "key = ['item', 'id']\nfixed = ['qty', 'item']",
-    )?;
-    let branch = stock_at(alloc, "branch")?;
-    let stocks = join_two(alloc, STOCK, branch.as_str())?;
-    assert!(rt; spells_tables(alloc, ITEMS, &[items])?);
-    assert!(rt; spells_tables(alloc, ORDERS, &[orders])?);
-    assert!(rt; spells_tables(alloc, keys.as_str(), &[other_keys])?);
-    assert!(rt; spells_tables(alloc, PARTS, &[parts])?);
-    assert!(rt; spells_tables(alloc, NUMBERS, &[numbers])?);
-    assert!(rt; spells_tables(alloc, stocks.as_str(), &[stock, stock_at_branch])?);
-    Ok(())
-}
-
-/// A registration: its server, its table, the places of its after-images and before-images, and
-/// its three flags in their order.
-#[derive(Clone, Copy)]
-struct WantedRegistration<'a> {
-    server: &'a str,
-    table: &'a str,
-    after: &'a [u32],
-    before: &'a [u32],
-    flags: (bool, bool, bool),
-}
-
 fn is_registration(registration: &RegistrationAt, wanted: &WantedRegistration) -> bool {
     let def = &registration.def;
+    let (del_ins, changes_only, disable_refresh) = wanted.flags;
     registration.server.as_str() == wanted.server
         && def.table.as_str() == wanted.table
         && def.after.as_slice() == wanted.after
         && def.before.as_slice() == wanted.before
-        && (def.del_ins, def.changes_only, def.disable_refresh) == wanted.flags
-}
-
-/// Whether a text spells these registrations.
-fn spells_registrations(
-    alloc: Global,
-    text: &str,
-    wanted: &[WantedRegistration],
-) -> Result<bool, Fail> {
-    let defs = check_alone(alloc, text)?;
-    Ok(are_registrations(defs.registrations.as_slice(), wanted))
-}
-
-/// Whether the registration of the orders, with this last line, has these places and flags.
-fn orders_keep(
-    alloc: Global,
-    line: &str,
-    after: &[u32],
-    before: &[u32],
-    flags: (bool, bool, bool),
-) -> Result<bool, Fail> {
-    let text = edit(alloc, ORDERS, "before = ['qty']", line)?;
-    let defs = check_alone(alloc, text.as_str())?;
-    match defs.registrations.as_slice() {
-        [registration] => Ok(
-            registration.def.after.as_slice() == after
-                && registration.def.before.as_slice() == before
-                && flags_of(registration) == flags,
-        ),
-        _ => Ok(false),
-    }
-}
-
-fn flags_of(registration: &RegistrationAt) -> (bool, bool, bool) {
-    let def = &registration.def;
-    (def.del_ins, def.changes_only, def.disable_refresh)
+        && def.del_ins == del_ins
+        && def.changes_only == changes_only
+        && def.disable_refresh == disable_refresh
 }
 
 fn are_registrations(registrations: &[RegistrationAt], wanted: &[WantedRegistration]) -> bool {
@@ -191,144 +132,79 @@ fn are_registrations(registrations: &[RegistrationAt], wanted: &[WantedRegistrat
         ))
 }
 
-#[test]
-fn the_registrations_of_a_text_are_spelled(rt: HostRuntime) -> Result<(), Fail> {
-    let alloc = rt.alloc();
-    let items = WantedRegistration {
-        server: "src",
-        table: "items",
-        after: &[0, 1],
-        before: &[],
-        flags: (false, false, false),
-    };
-    let parts = WantedRegistration {
-        server: "hq",
-        table: "parts",
-        after: &[0, 1],
-        before: &[0],
-        flags: (false, false, false),
-    };
-    let numbers = WantedRegistration {
-        server: "hq",
-        table: "nums",
-        after: &[0, 1, 2],
-        before: &[],
-        flags: (false, false, false),
-    };
-    let stock = WantedRegistration {
-        server: "hq",
-        table: "stock",
-        after: &[0, 1],
-        before: &[0, 1],
-        flags: (false, false, false),
-    };
-    let stock_at_branch = WantedRegistration {
-        server: "branch",
-        ..stock
-    };
-    let branch = stock_at(alloc, "branch")?;
-    let stocks = join_two(alloc, STOCK, branch.as_str())?;
-    assert!(rt; spells_registrations(alloc, ITEMS, &[items])?);
-    assert!(rt; spells_registrations(alloc, PARTS, &[parts])?);
-    assert!(rt; spells_registrations(alloc, NUMBERS, &[numbers])?);
-    assert!(rt; spells_registrations(alloc, stocks.as_str(), &[stock, stock_at_branch])?);
-    Ok(())
+fn is_place(expr: &Expr, place: u32) -> bool {
+    match expr {
+        Expr::Column(at) => *at == place,
+        _ => false,
+    }
 }
 
-#[test]
-fn images_stand_in_the_order_of_the_table(rt: HostRuntime) -> Result<(), Fail> {
-    let alloc = rt.alloc();
-    let none = (false, false, false);
-    assert!(rt; orders_keep(alloc, "", &[0, 1, 2], &[], none)?);
-    assert!(rt; orders_keep(alloc, "before = ['qty']", &[0, 1, 2], &[2], none)?);
-    assert!(rt; orders_keep(alloc, "before = ['qty', 'id']", &[0, 1, 2], &[0, 2], none)?);
-    assert!(rt; orders_keep(alloc, "before = []", &[0, 1, 2], &[], none)?);
-    assert!(rt; orders_keep(alloc, "after = ['qty', 'id']", &[0, 2], &[], none)?);
-    let del_ins = (true, false, false);
-    assert!(rt; orders_keep(alloc, "del_ins = true", &[0, 1, 2], &[], del_ins)?);
-    let changes_only = (false, true, false);
-    assert!(rt; orders_keep(alloc, "changes_only = true", &[0, 1, 2], &[], changes_only)?);
-    let disabled = (false, false, true);
-    assert!(rt; orders_keep(alloc, "disable_refresh = true", &[0, 1, 2], &[], disabled)?);
-    assert!(rt; orders_keep(alloc, "del_ins = false", &[0, 1, 2], &[], none)?);
-    Ok(())
+fn is_number(expr: &Expr, number: i64) -> bool {
+    match expr {
+        Expr::Int(n) => *n == number,
+        _ => false,
+    }
 }
 
-/// Where a column of a target comes from.
-#[derive(Clone, Copy)]
-enum Origin {
-    Column(u32),
-    Count,
-    Sum(u32),
+fn is_product(expr: &Expr, place: u32, number: i64) -> bool {
+    match expr {
+        Expr::Mul(left, right) => is_place(left.get(), place) && is_number(right.get(), number),
+        _ => false,
+    }
 }
 
-/// A member: its source and its target, the target's kind, its columns, and the column and the
-/// least number that its predicate takes.
-#[derive(Clone, Copy)]
-struct WantedMember<'a> {
-    source: &'a str,
-    target: &'a str,
-    kind: TargetKind,
-    columns: &'a [(&'a str, Origin)],
-    least: Option<(u32, i64)>,
-}
-
-fn is_target_column(column: &TargetColumn, wanted: (&str, Origin)) -> bool {
-    let (name, origin) = wanted;
-    column.name.as_str() == name
-        && match origin {
-            Origin::Column(place) => column.from == ColumnFrom::Plain(Expr::Column(place)),
-            Origin::Count => column.from == ColumnFrom::Count,
-            Origin::Sum(place) => column.from == ColumnFrom::Sum(place),
+fn comes_from(from: &ColumnFrom, origin: Origin) -> bool {
+    match (from, origin) {
+        (ColumnFrom::Plain(expr), Origin::Column(place)) => is_place(expr, place),
+        (ColumnFrom::Plain(expr), Origin::Product(place, number)) => {
+            is_product(expr, place, number)
         }
+        (ColumnFrom::Count, Origin::Count) => true,
+        (ColumnFrom::Sum(at), Origin::Sum(place)) => *at == place,
+        (ColumnFrom::Max(at), Origin::Max(place)) => *at == place,
+        _ => false,
+    }
+}
+
+fn is_target_column(column: &TargetColumn, wanted: WantedTargetColumn) -> bool {
+    let (name, origin) = wanted;
+    column.name.as_str() == name && comes_from(&column.from, origin)
+}
+
+fn are_target_columns(columns: &[TargetColumn], wanted: &[WantedTargetColumn]) -> bool {
+    columns.len() == wanted.len()
+        && columns
+            .iter()
+            .zip(wanted.iter())
+            .all(|(column, wanted)| is_target_column(column, *wanted))
+}
+
+/// Whether a predicate takes the rows whose column at a place isn't below a number.
+fn is_at_least(test: &Predicate, place: u32, number: i64) -> bool {
+    match test {
+        Predicate::Compare {
+            left: Operand::Column(at),
+            op: CompareOp::Ge,
+            right: Operand::Value(Value::Int(n)),
+        } => *at == place && *n == number,
+        _ => false,
+    }
 }
 
 fn is_filter(filter: &Option<Predicate>, least: Option<(u32, i64)>) -> bool {
     match (filter, least) {
         (None, None) => true,
-        (Some(filter), Some((place, number))) => *filter == at_least(place, number),
+        (Some(test), Some((place, number))) => is_at_least(test, place, number),
         _ => false,
     }
 }
 
-/// The predicate that the column at a place is not below a number.
-fn at_least(place: u32, number: i64) -> Predicate {
-    Predicate::Compare {
-        left: Operand::Column(place),
-        op: CompareOp::Ge,
-        right: Operand::Value(Value::Int(number)),
-    }
-}
-
 fn is_member(member: &Member, wanted: &WantedMember) -> bool {
-    let columns = member.columns.as_slice();
     member.source.as_str() == wanted.source
         && member.target.as_str() == wanted.target
         && member.kind == wanted.kind
-        && columns.len() == wanted.columns.len()
-        && columns
-            .iter()
-            .zip(wanted.columns.iter())
-            .all(|(column, wanted)| is_target_column(column, *wanted))
+        && are_target_columns(member.columns.as_slice(), wanted.columns)
         && is_filter(&member.filter, wanted.least)
-}
-
-/// A set: its qualifier, its name, its servers, and its limits of units and of minutes.
-#[derive(Clone, Copy)]
-struct WantedSet<'a> {
-    qual: &'a str,
-    name: &'a str,
-    source: &'a str,
-    target: &'a str,
-    limits: (u32, u32),
-}
-
-fn is_set(set: &SetDef, wanted: &WantedSet) -> bool {
-    set.id.qual.as_str() == wanted.qual
-        && set.id.name.as_str() == wanted.name
-        && set.source.as_str() == wanted.source
-        && set.target.as_str() == wanted.target
-        && (set.commit_count, set.max_minutes) == wanted.limits
 }
 
 fn are_members(members: &[Member], wanted: &[WantedMember]) -> bool {
@@ -339,31 +215,207 @@ fn are_members(members: &[Member], wanted: &[WantedMember]) -> bool {
             .all(|(member, wanted)| is_member(member, wanted))
 }
 
-/// Whether a text spells this set with these members, and no other.
-fn spells_set(
-    alloc: Global,
-    text: &str,
-    wanted: &WantedSet,
-    members: &[WantedMember],
-) -> Result<bool, Fail> {
-    let defs = check_alone(alloc, text)?;
-    match defs.sets.as_slice() {
-        [set] => Ok(is_set(set, wanted) && are_members(set.members.as_slice(), members)),
-        _ => Ok(false),
-    }
+fn has_limits(set: &SetDef, limits: (u32, u32)) -> bool {
+    let (units, minutes) = limits;
+    set.commit_count == units && set.max_minutes == minutes
 }
 
-#[test]
-fn the_sets_of_a_text_are_spelled(rt: HostRuntime) -> Result<(), Fail> {
-    let alloc = rt.alloc();
-    let orders_copy = WantedMember {
+fn is_set(set: &SetDef, wanted: &WantedSet) -> bool {
+    set.id.qual.as_str() == wanted.qual
+        && set.id.name.as_str() == wanted.name
+        && set.source.as_str() == wanted.source
+        && set.target.as_str() == wanted.target
+        && has_limits(set, wanted.limits)
+        && are_members(set.members.as_slice(), wanted.members)
+}
+
+fn are_sets(sets: &[SetDef], wanted: &[WantedSet]) -> bool {
+    sets.len() == wanted.len()
+        && sets
+            .iter()
+            .zip(wanted.iter())
+            .all(|(set, wanted)| is_set(set, wanted))
+}
+
+fn are_defs(defs: &Defs, wanted: &WantedDefs) -> bool {
+    are_tables(defs.tables.as_slice(), wanted.tables)
+        && are_registrations(defs.registrations.as_slice(), wanted.registrations)
+        && are_sets(defs.sets.as_slice(), wanted.sets)
+}
+
+/// Texts that are joined, an edit if there is one, and the definitions that the text spells.
+type Row<'a> = (&'a [&'a str], Option<Edit<'a>>, WantedDefs<'a>);
+
+/// Whether an edited text spells these definitions, and no others.
+fn spells(
+    alloc: Global,
+    texts: &[&str],
+    edit: Option<Edit>,
+    wanted: &WantedDefs,
+) -> Result<bool, Fail> {
+    let text = join_edited(alloc, texts, edit)?;
+    let defs = check_alone(alloc, text.as_str())?;
+    Ok(are_defs(&defs, wanted))
+}
+
+/// Fails unless each text spells its definitions.
+fn expect_rows(alloc: Global, rows: &[Row]) -> Result<(), Fail> {
+    for (texts, edit, wanted) in rows {
+        if !spells(alloc, *texts, *edit, wanted)? {
+            return Err(Fail::new(format_args!("{edit:?} in {texts:?}")));
+        }
+    }
+    Ok(())
+}
+
+const ITEMS_TABLE: WantedTable<'static> = WantedTable {
+    server: "src",
+    name: "items",
+    columns: &[("id", Kind::Int, false), ("name", Kind::Text, true)],
+    key: &[0],
+    fixed: &[0],
+};
+
+const ORDERS_TABLE: WantedTable<'static> = WantedTable {
+    server: "hq",
+    name: "orders",
+    columns: &[
+        ("id", Kind::Int, false),
+        ("item", Kind::Text, false),
+        ("qty", Kind::Int, true),
+    ],
+    key: &[0],
+    fixed: &[0],
+};
+
+/// The orders with another key and other fixed columns.
+const KEYED_ORDERS_TABLE: WantedTable<'static> = WantedTable {
+    server: "hq",
+    name: "orders",
+    columns: &[
+        ("id", Kind::Int, false),
+        ("item", Kind::Text, false),
+        ("qty", Kind::Int, true),
+    ],
+    key: &[1, 0],
+    fixed: &[2, 1],
+};
+
+const PARTS_TABLE: WantedTable<'static> = WantedTable {
+    server: "hq",
+    name: "parts",
+    columns: &[("code", Kind::Text, false), ("qty", Kind::Int, true)],
+    key: &[0],
+    fixed: &[],
+};
+
+const NUMBERS_TABLE: WantedTable<'static> = WantedTable {
+    server: "hq",
+    name: "nums",
+    columns: &[
+        ("id", Kind::Int, false),
+        ("grp", Kind::Int, false),
+        ("val", Kind::Int, true),
+    ],
+    key: &[0],
+    fixed: &[0],
+};
+
+const STOCK_TABLE: WantedTable<'static> = WantedTable {
+    server: "hq",
+    name: "stock",
+    columns: &[("id", Kind::Int, false), ("qty", Kind::Int, true)],
+    key: &[0],
+    fixed: &[0],
+};
+
+const BRANCH_STOCK_TABLE: WantedTable<'static> = WantedTable {
+    server: "branch",
+    name: "stock",
+    columns: &[("id", Kind::Int, false), ("qty", Kind::Int, true)],
+    key: &[0],
+    fixed: &[0],
+};
+
+const ITEMS_REGISTRATION: WantedRegistration<'static> = WantedRegistration {
+    server: "src",
+    table: "items",
+    after: &[0, 1],
+    before: &[],
+    flags: (false, false, false),
+};
+
+const ORDERS_REGISTRATION: WantedRegistration<'static> = WantedRegistration {
+    server: "hq",
+    table: "orders",
+    after: &[0, 1, 2],
+    before: &[2],
+    flags: (false, false, false),
+};
+
+/// The registration of the orders if updates are taken apart.
+const SPLIT_ORDERS_REGISTRATION: WantedRegistration<'static> = WantedRegistration {
+    server: "hq",
+    table: "orders",
+    after: &[0, 1, 2],
+    before: &[],
+    flags: (true, false, false),
+};
+
+const PARTS_REGISTRATION: WantedRegistration<'static> = WantedRegistration {
+    server: "hq",
+    table: "parts",
+    after: &[0, 1],
+    before: &[0],
+    flags: (false, false, false),
+};
+
+const NUMBERS_REGISTRATION: WantedRegistration<'static> = WantedRegistration {
+    server: "hq",
+    table: "nums",
+    after: &[0, 1, 2],
+    before: &[],
+    flags: (false, false, false),
+};
+
+const STOCK_REGISTRATION: WantedRegistration<'static> = WantedRegistration {
+    server: "hq",
+    table: "stock",
+    after: &[0, 1],
+    before: &[0, 1],
+    flags: (false, false, false),
+};
+
+const BRANCH_STOCK_REGISTRATION: WantedRegistration<'static> = WantedRegistration {
+    server: "branch",
+    table: "stock",
+    after: &[0, 1],
+    before: &[0, 1],
+    flags: (false, false, false),
+};
+
+const LARGE_SET: WantedSet<'static> = WantedSet {
+    qual: "q",
+    name: "s",
+    source: "hq",
+    target: "shop",
+    limits: (0, 0),
+    members: &[WantedMember {
         source: "orders",
         target: "orders_copy",
         kind: TargetKind::UserCopy,
         columns: &[("id", Origin::Column(0)), ("qty", Origin::Column(2))],
         least: Some((2, 10)),
-    };
-    let by_item = WantedMember {
+    }],
+};
+
+const COUNTED_SET: WantedSet<'static> = WantedSet {
+    qual: "q",
+    name: "c",
+    source: "hq",
+    target: "shop",
+    limits: (2, 0),
+    members: &[WantedMember {
         source: "orders",
         target: "by_item",
         kind: TargetKind::ChangeAggregate,
@@ -373,126 +425,318 @@ fn the_sets_of_a_text_are_spelled(rt: HostRuntime) -> Result<(), Fail> {
             ("total", Origin::Sum(2)),
         ],
         least: None,
-    };
-    let hist = WantedMember {
-        target: "hist",
-        kind: TargetKind::Ccd {
-            complete: false,
-            condensed: false,
+    }],
+};
+
+const CHANGED_SET: WantedSet<'static> = WantedSet {
+    qual: "q",
+    name: "d",
+    source: "hq",
+    target: "shop",
+    limits: (0, 0),
+    members: &[
+        WantedMember {
+            source: "orders",
+            target: "hist",
+            kind: TargetKind::Ccd {
+                complete: false,
+                condensed: false,
+            },
+            columns: &[("id", Origin::Column(0)), ("qty", Origin::Column(2))],
+            least: None,
         },
-        least: None,
-        ..orders_copy
-    };
-    let latest = WantedMember {
-        target: "latest",
-        kind: TargetKind::Ccd {
-            complete: true,
-            condensed: true,
+        WantedMember {
+            source: "orders",
+            target: "latest",
+            kind: TargetKind::Ccd {
+                complete: true,
+                condensed: true,
+            },
+            columns: &[("id", Origin::Column(0)), ("qty", Origin::Column(2))],
+            least: None,
         },
-        ..hist
-    };
-    let items_copy = WantedMember {
+    ],
+};
+
+const ITEMS_SET: WantedSet<'static> = WantedSet {
+    qual: "copy",
+    name: "copy",
+    source: "src",
+    target: "dst",
+    limits: (0, 0),
+    members: &[WantedMember {
         source: "items",
         target: "items_copy",
+        kind: TargetKind::UserCopy,
         columns: &[("id", Origin::Column(0)), ("name", Origin::Column(1))],
         least: None,
-        ..orders_copy
-    };
-    let parts_pit = WantedMember {
+    }],
+};
+
+const PARTS_SET: WantedSet<'static> = WantedSet {
+    qual: "q",
+    name: "p",
+    source: "hq",
+    target: "shop",
+    limits: (0, 0),
+    members: &[WantedMember {
         source: "parts",
         target: "parts_pit",
         kind: TargetKind::PointInTime,
         columns: &[("code", Origin::Column(0)), ("qty", Origin::Column(1))],
         least: None,
-    };
-    let numbers_copy = WantedMember {
+    }],
+};
+
+const NUMBERS_SET: WantedSet<'static> = WantedSet {
+    qual: "q",
+    name: "g",
+    source: "hq",
+    target: "shop",
+    limits: (0, 0),
+    members: &[WantedMember {
         source: "nums",
         target: "nums_copy",
+        kind: TargetKind::UserCopy,
         columns: &[("id", Origin::Column(0)), ("val", Origin::Column(2))],
         least: None,
-        ..orders_copy
-    };
-    let stock = WantedMember {
+    }],
+};
+
+const REPLICA_SET: WantedSet<'static> = WantedSet {
+    qual: "r",
+    name: "b",
+    source: "hq",
+    target: "branch",
+    limits: (0, 0),
+    members: &[WantedMember {
         source: "stock",
         target: "stock",
         kind: TargetKind::Replica,
         columns: &[],
         least: None,
+    }],
+};
+
+#[test]
+fn the_definitions_of_a_text_are_spelled(rt: HostRuntime) -> Result<(), Fail> {
+    const KEYS: Edit<'static> = (
+        "key = ['id']\nfixed = ['id']",
+        "key = ['item', 'id']\nfixed = ['qty', 'item']",
+    );
+    const ROWS: [Row<'static>; 11] = [
+        (
+            &[ITEMS],
+            None,
+            WantedDefs {
+                tables: &[ITEMS_TABLE],
+                registrations: &[ITEMS_REGISTRATION],
+                sets: &[ITEMS_SET],
+            },
+        ),
+        (
+            &[ORDERS],
+            None,
+            WantedDefs {
+                tables: &[ORDERS_TABLE],
+                registrations: &[ORDERS_REGISTRATION],
+                sets: &[],
+            },
+        ),
+        (
+            &[ORDERS],
+            Some(KEYS),
+            WantedDefs {
+                tables: &[KEYED_ORDERS_TABLE],
+                registrations: &[ORDERS_REGISTRATION],
+                sets: &[],
+            },
+        ),
+        (
+            &[PARTS],
+            None,
+            WantedDefs {
+                tables: &[PARTS_TABLE],
+                registrations: &[PARTS_REGISTRATION],
+                sets: &[PARTS_SET],
+            },
+        ),
+        (
+            &[NUMBERS],
+            None,
+            WantedDefs {
+                tables: &[NUMBERS_TABLE],
+                registrations: &[NUMBERS_REGISTRATION],
+                sets: &[NUMBERS_SET],
+            },
+        ),
+        (
+            &[STOCK, BRANCH_STOCK],
+            None,
+            WantedDefs {
+                tables: &[STOCK_TABLE, BRANCH_STOCK_TABLE],
+                registrations: &[STOCK_REGISTRATION, BRANCH_STOCK_REGISTRATION],
+                sets: &[],
+            },
+        ),
+        (
+            &[ORDERS, LARGE_ORDERS],
+            None,
+            WantedDefs {
+                tables: &[ORDERS_TABLE],
+                registrations: &[ORDERS_REGISTRATION],
+                sets: &[LARGE_SET],
+            },
+        ),
+        (
+            &[ORDERS, LARGE_ORDERS],
+            Some(("before = ['qty']", "del_ins = true")),
+            WantedDefs {
+                tables: &[ORDERS_TABLE],
+                registrations: &[SPLIT_ORDERS_REGISTRATION],
+                sets: &[LARGE_SET],
+            },
+        ),
+        (
+            &[ORDERS, ORDERS_BY_ITEM],
+            None,
+            WantedDefs {
+                tables: &[ORDERS_TABLE],
+                registrations: &[ORDERS_REGISTRATION],
+                sets: &[COUNTED_SET],
+            },
+        ),
+        (
+            &[ORDERS, CHANGED_ORDERS],
+            None,
+            WantedDefs {
+                tables: &[ORDERS_TABLE],
+                registrations: &[ORDERS_REGISTRATION],
+                sets: &[CHANGED_SET],
+            },
+        ),
+        (
+            &[STOCK, BRANCH_STOCK, STOCK_AT_BRANCH],
+            None,
+            WantedDefs {
+                tables: &[STOCK_TABLE, BRANCH_STOCK_TABLE],
+                registrations: &[STOCK_REGISTRATION, BRANCH_STOCK_REGISTRATION],
+                sets: &[REPLICA_SET],
+            },
+        ),
+    ];
+    expect_rows(rt.alloc(), &ROWS)
+}
+
+/// The last line of the registration of the orders, the places of its after-images and
+/// before-images, and its flags.
+type ImagesRow<'a> = (&'a str, &'a [u32], &'a [u32], Flags);
+
+/// Whether the orders, registered with this line, have these images and flags.
+fn have_images(alloc: Global, row: &ImagesRow) -> Result<bool, Fail> {
+    let (line, after, before, flags) = *row;
+    let registration = WantedRegistration {
+        server: "hq",
+        table: "orders",
+        after,
+        before,
+        flags,
     };
-    let large = WantedSet {
-        qual: "q",
-        name: "s",
-        source: "hq",
-        target: "shop",
-        limits: (0, 0),
+    let wanted = WantedDefs {
+        tables: &[ORDERS_TABLE],
+        registrations: &[registration],
+        sets: &[],
     };
-    let counted = WantedSet {
-        name: "c",
-        limits: (2, 0),
-        ..large
-    };
-    let changed = WantedSet { name: "d", ..large };
-    let items = WantedSet {
-        qual: "copy",
-        name: "copy",
-        source: "src",
-        target: "dst",
-        ..large
-    };
-    let parts = WantedSet { name: "p", ..large };
-    let numbers = WantedSet { name: "g", ..large };
-    let replica = WantedSet {
-        qual: "r",
-        name: "b",
-        target: "branch",
-        ..large
-    };
-    let copied = join_two(alloc, ORDERS, LARGE_ORDERS)?;
-    assert!(rt; spells_set(alloc, copied.as_str(), &large, &[orders_copy])?);
-    let split = edit(alloc, copied.as_str(), "before = ['qty']", "del_ins = true")?;
-    assert!(rt; spells_set(alloc, split.as_str(), &large, &[orders_copy])?);
-    let summed = join_two(alloc, ORDERS, ORDERS_BY_ITEM)?;
-    assert!(rt; spells_set(alloc, summed.as_str(), &counted, &[by_item])?);
-    let kept = join_two(alloc, ORDERS, CHANGED_ORDERS)?;
-    assert!(rt; spells_set(alloc, kept.as_str(), &changed, &[hist, latest])?);
-    assert!(rt; spells_set(alloc, ITEMS, &items, &[items_copy])?);
-    assert!(rt; spells_set(alloc, PARTS, &parts, &[parts_pit])?);
-    assert!(rt; spells_set(alloc, NUMBERS, &numbers, &[numbers_copy])?);
-    let branch = stock_at(alloc, "branch")?;
-    let stocks = join_two(alloc, STOCK, branch.as_str())?;
-    let replicas = join_two(alloc, stocks.as_str(), STOCK_AT_BRANCH)?;
-    assert!(rt; spells_set(alloc, replicas.as_str(), &replica, &[stock])?);
+    spells(alloc, &[ORDERS], Some(("before = ['qty']", line)), &wanted)
+}
+
+/// Fails unless the orders have the images and flags of each row.
+fn expect_images(alloc: Global, rows: &[ImagesRow]) -> Result<(), Fail> {
+    for row in rows {
+        if !have_images(alloc, row)? {
+            return Err(Fail::new(format_args!("{}", row.0)));
+        }
+    }
     Ok(())
 }
 
 #[test]
-fn trees_name_places_of_the_source(rt: HostRuntime) -> Result<(), Fail> {
-    let alloc = rt.alloc();
-    let defs = check_alone(alloc, PENS_AND_INKS)?;
-    let near = defs.sets.as_slice().first().ok_or("no set")?;
-    assert_eq!(rt; (near.commit_count, near.max_minutes), (0, 5));
-    let inks = near.members.as_slice().get(1).ok_or("no member")?;
-    let twice = ColumnFrom::Plain(Expr::Mul(
-        Boxed::new(alloc, Expr::Column(1))?,
-        Boxed::new(alloc, Expr::Int(2))?,
-    ));
-    let filter = Predicate::And(
-        Boxed::new(alloc, at_least(1, 3))?,
-        Boxed::new(alloc, Predicate::IsNotNull(2))?,
-    );
-    assert!(rt; has_column(inks, 1, "twice", &twice));
-    assert!(rt; inks.filter == Some(filter));
-    let far = defs.sets.as_slice().get(1).ok_or("no second set")?;
-    let inks = far.members.as_slice().get(1).ok_or("no member")?;
-    assert!(rt; inks.kind == TargetKind::BaseAggregate);
-    assert!(rt; has_column(inks, 2, "top", &ColumnFrom::Max(1)));
-    Ok(())
+fn images_stand_in_the_order_of_the_table(rt: HostRuntime) -> Result<(), Fail> {
+    const NONE: Flags = (false, false, false);
+    const ROWS: [ImagesRow<'static>; 9] = [
+        ("", &[0, 1, 2], &[], NONE),
+        ("before = ['qty']", &[0, 1, 2], &[2], NONE),
+        ("before = ['qty', 'id']", &[0, 1, 2], &[0, 2], NONE),
+        ("before = []", &[0, 1, 2], &[], NONE),
+        ("after = ['qty', 'id']", &[0, 2], &[], NONE),
+        ("del_ins = true", &[0, 1, 2], &[], (true, false, false)),
+        ("changes_only = true", &[0, 1, 2], &[], (false, true, false)),
+        (
+            "disable_refresh = true",
+            &[0, 1, 2],
+            &[],
+            (false, false, true),
+        ),
+        ("del_ins = false", &[0, 1, 2], &[], NONE),
+    ];
+    expect_images(rt.alloc(), &ROWS)
 }
 
 /// Whether the column at a place of a target has this name and comes from this.
-fn has_column(member: &Member, place: usize, name: &str, from: &ColumnFrom) -> bool {
+fn has_column(member: &Member, place: usize, wanted: WantedTargetColumn) -> bool {
     match member.columns.as_slice().get(place) {
-        Some(column) => column.name.as_str() == name && column.from == *from,
+        Some(column) => is_target_column(column, wanted),
         None => false,
     }
+}
+
+fn is_not_null(test: &Predicate, place: u32) -> bool {
+    match test {
+        Predicate::IsNotNull(at) => *at == place,
+        _ => false,
+    }
+}
+
+/// Whether the inks are taken whose price is at least 3 and whose label isn't NULL.
+fn are_labelled(filter: &Option<Predicate>) -> bool {
+    match filter {
+        Some(Predicate::And(left, right)) => {
+            is_at_least(left.get(), 1, 3) && is_not_null(right.get(), 2)
+        }
+        _ => false,
+    }
+}
+
+fn is_near_set(set: &SetDef) -> bool {
+    match set.members.as_slice() {
+        [_, inks, ..] => {
+            has_limits(set, (0, 5))
+                && has_column(inks, 1, ("twice", Origin::Product(1, 2)))
+                && are_labelled(&inks.filter)
+        }
+        _ => false,
+    }
+}
+
+fn is_far_set(set: &SetDef) -> bool {
+    match set.members.as_slice() {
+        [_, inks, ..] => {
+            inks.kind == TargetKind::BaseAggregate && has_column(inks, 2, ("top", Origin::Max(1)))
+        }
+        _ => false,
+    }
+}
+
+fn are_near_and_far(sets: &[SetDef]) -> bool {
+    match sets {
+        [near, far, ..] => is_near_set(near) && is_far_set(far),
+        _ => false,
+    }
+}
+
+#[test]
+fn trees_name_places_of_the_source(rt: HostRuntime) -> Result<(), Fail> {
+    let defs = check_alone(rt.alloc(), PENS_AND_INKS)?;
+    assert!(rt; are_near_and_far(defs.sets.as_slice()));
+    Ok(())
 }

@@ -2,7 +2,7 @@
 
 use checked_defs::check;
 use raw_defs::read_defs;
-use repl_commands::DefsError;
+use repl_commands::{DefsError, RawDefs};
 use repl_types::{DefPlace, List};
 use spelled_defs::Defs;
 use std::alloc::{AllocError, Global};
@@ -232,6 +232,34 @@ table = 'stock'
 before = ['id', 'qty']
 ";
 
+/// The stock at the branch.
+pub const BRANCH_STOCK: &str = "
+[[table]]
+server = 'branch'
+name = 'stock'
+columns = ['id int', 'qty int null']
+key = ['id']
+fixed = ['id']
+[[registration]]
+server = 'branch'
+table = 'stock'
+before = ['id', 'qty']
+";
+
+/// The stock at the depot.
+pub const DEPOT_STOCK: &str = "
+[[table]]
+server = 'depot'
+name = 'stock'
+columns = ['id int', 'qty int null']
+key = ['id']
+fixed = ['id']
+[[registration]]
+server = 'depot'
+table = 'stock'
+before = ['id', 'qty']
+";
+
 /// A set that makes the stock at the branch a replica.
 pub const STOCK_AT_BRANCH: &str = "
 [[set]]
@@ -258,15 +286,20 @@ target = 'stock'
 type = 'replica'
 ";
 
-/// The stock at another server.
-pub fn stock_at(alloc: Global, server: &str) -> Result<String, AllocError> {
-    STOCK.replace(alloc, "hq", server)
-}
+/// The rule that a text breaks, and the place, if it breaks one.
+pub type Break = Option<(u8, DefPlace)>;
 
-/// Two texts, one after the other.
-pub fn join_two<'a>(alloc: Global, first: &'a str, second: &'a str) -> Result<String, AllocError> {
-    join(alloc, &[first, second])
-}
+/// A part of a text, which stands in it once, and what replaces it.
+pub type Edit<'a> = (&'a str, &'a str);
+
+/// A part of a text, what replaces it, and which rule is broken then.
+pub type Row<'a> = (&'a str, &'a str, Break);
+
+/// Texts that are joined, and rows over what they make.
+pub type Table<'a> = (&'a [&'a str], &'a [Row<'a>]);
+
+/// Two edits of a text, one after the other, and which rule is broken then.
+pub type RowOfTwo<'a> = (Edit<'a>, Edit<'a>, (u8, DefPlace));
 
 /// The texts one after the other.
 pub fn join(alloc: Global, texts: &[&str]) -> Result<String, AllocError> {
@@ -278,63 +311,111 @@ pub fn join(alloc: Global, texts: &[&str]) -> Result<String, AllocError> {
 }
 
 /// The text with one part of it replaced. The part stands in it once.
-pub fn edit(alloc: Global, text: &str, old: &str, new: &str) -> Result<String, Fail> {
+fn replace_once(alloc: Global, text: &str, edit: Edit) -> Result<String, Fail> {
+    let (old, new) = edit;
     match text.split_once(old) {
         Some((before, after)) if !after.contains(old) => Ok(join(alloc, &[before, new, after])?),
         _ => Err(Fail::new(format_args!("{old} doesn't stand there once"))),
     }
 }
 
+/// The texts one after the other, edited if there is an edit.
+pub fn join_edited(alloc: Global, texts: &[&str], edit: Option<Edit>) -> Result<String, Fail> {
+    let joined = join(alloc, texts)?;
+    match edit {
+        None => Ok(joined),
+        Some(edit) => replace_once(alloc, joined.as_str(), edit),
+    }
+}
+
 /// The definitions of a text, if nothing is known.
 pub fn check_alone(alloc: Global, text: &str) -> Result<Defs, DefsError> {
+    let raw = read_defs(alloc, text.as_bytes())?;
     let known = Defs {
         tables: List::new(alloc),
         registrations: List::new(alloc),
         sets: List::new(alloc),
     };
-    check(alloc, &read_defs(alloc, text.as_bytes())?, &known)
+    check(alloc, &raw, &known)
 }
 
-/// The rule that a text breaks, and the place, if the definitions of another text are known.
-pub fn break_beside(
-    alloc: Global,
-    known: &str,
-    text: &str,
-) -> Result<Option<(u8, DefPlace)>, DefsError> {
-    let known = check_alone(alloc, known)?;
-    let raw = read_defs(alloc, text.as_bytes())?;
-    match check(alloc, &raw, &known) {
+/// What definitions break beside known ones.
+fn break_of(alloc: Global, raw: &RawDefs, known: &Defs) -> Result<Break, DefsError> {
+    match check(alloc, raw, known) {
         Ok(_) => Ok(None),
         Err(DefsError::Broken { rule, place }) => Ok(Some((rule, place))),
         Err(DefsError::Memory) => Err(DefsError::Memory),
     }
 }
 
-/// The rule that a text with one part replaced breaks, and the place, if nothing is known.
-pub fn break_of_edited(
-    alloc: Global,
-    text: &str,
-    old: &str,
-    new: &str,
-) -> Result<Option<(u8, DefPlace)>, Fail> {
-    let edited = edit(alloc, text, old, new)?;
-    Ok(break_beside(alloc, "", edited.as_str())?)
+/// What a text breaks, if the definitions of another text are known.
+pub fn break_beside(alloc: Global, known: &str, text: &str) -> Result<Break, DefsError> {
+    let known = check_alone(alloc, known)?;
+    let raw = read_defs(alloc, text.as_bytes())?;
+    break_of(alloc, &raw, &known)
 }
 
-/// A part of a text, what replaces it, and the rule that is broken then, with the place.
-pub type Row<'a> = (&'a str, &'a str, Option<(u8, DefPlace)>);
-
-/// The first row with another answer than the one that is wanted, and that answer.
-pub fn find_wrong<'a>(
+/// What an edited text breaks, if the definitions of another text are known.
+fn break_of_edited(
     alloc: Global,
-    text: &str,
-    rows: &[Row<'a>],
-) -> Result<Option<Row<'a>>, Fail> {
-    for (old, new, wanted) in rows {
-        let answer = break_of_edited(alloc, text, old, new)?;
-        if answer != *wanted {
-            return Ok(Some((*old, *new, answer)));
-        }
+    known: &[&str],
+    texts: &[&str],
+    edit: Edit,
+) -> Result<Break, Fail> {
+    let known = join(alloc, known)?;
+    let text = join_edited(alloc, texts, Some(edit))?;
+    Ok(break_beside(alloc, known.as_str(), text.as_str())?)
+}
+
+/// Fails unless an edited text breaks what is wanted.
+pub fn judge(answer: Break, wanted: Break, edit: Edit) -> Result<(), Fail> {
+    if answer == wanted {
+        Ok(())
+    } else {
+        Err(Fail::new(format_args!("{answer:?} and not {wanted:?}: {edit:?}")))
     }
-    Ok(None)
+}
+
+/// Fails unless an edited text breaks what is wanted, if the definitions of another text are known.
+pub fn expect(
+    alloc: Global,
+    known: &[&str],
+    texts: &[&str],
+    edit: Edit,
+    wanted: Break,
+) -> Result<(), Fail> {
+    let answer = break_of_edited(alloc, known, texts, edit)?;
+    judge(answer, wanted, edit)
+}
+
+/// Fails unless each edit of a text breaks what is wanted.
+fn expect_rows(alloc: Global, texts: &[&str], rows: &[Row]) -> Result<(), Fail> {
+    for (old, new, wanted) in rows {
+        expect(alloc, &[], texts, (*old, *new), *wanted)?;
+    }
+    Ok(())
+}
+
+/// Fails unless each edit of each text breaks what is wanted.
+pub fn expect_tables(alloc: Global, tables: &[Table]) -> Result<(), Fail> {
+    for (texts, rows) in tables {
+        expect_rows(alloc, *texts, *rows)?;
+    }
+    Ok(())
+}
+
+/// What a text breaks after two edits, if nothing is known.
+fn break_of_two(alloc: Global, texts: &[&str], first: Edit, second: Edit) -> Result<Break, Fail> {
+    let once = join_edited(alloc, texts, Some(first))?;
+    let twice = replace_once(alloc, once.as_str(), second)?;
+    Ok(break_beside(alloc, "", twice.as_str())?)
+}
+
+/// Fails unless each two edits of a text break what is wanted.
+pub fn expect_rows_of_two(alloc: Global, texts: &[&str], rows: &[RowOfTwo]) -> Result<(), Fail> {
+    for (first, second, wanted) in rows {
+        let answer = break_of_two(alloc, texts, *first, *second)?;
+        judge(answer, Some(*wanted), *second)?;
+    }
+    Ok(())
 }

@@ -7,12 +7,12 @@
 #![tactic(auto)]
 
 #[cfg(test)]
+mod by_chance;
+#[cfg(test)]
 mod calls;
 #[cfg(test)]
 mod files;
 #[cfg(test)]
 mod foreign_tables;
-#[cfg(test)]
-mod in_memory;
 
 fn main(_rt: HostRuntime) {}

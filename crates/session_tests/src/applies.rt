@@ -108,13 +108,6 @@ row 2
 ok rows 2
 ";
 
-/// How far the sets are then, if no call failed.
-const STATUSES: &[u8] = b"ok set q/s synchpoint 00000000000000090000 base 00000000000000050000 \
-flag 0 trail 2 mark 00000000000000090000
-ok set q/all synchpoint 000000000000000b0000 base 000000000000000b0000 \
-flag 0 trail 1 mark 000000000000000b0000
-";
-
 /// How far the first set is before the block.
 const SET_BEFORE: &[u8] = b"ok set q/s synchpoint 00000000000000050000 base ";
 
@@ -189,15 +182,6 @@ fn failing_calls(
         check_next_run(rt, alloc, sites)?;
     }
     Ok(CALLS)
-}
-
-#[test]
-fn two_sets_are_applied_and_show_what_they_copy(rt: HostRuntime) -> Result<(), Fail> {
-    let alloc = rt.alloc();
-    let mut sites = begun(&rt, alloc, NONE)?;
-    check_here(&rt, alloc, &mut sites, APPLY, APPLIED)?;
-    check_here(&rt, alloc, &mut sites, SHOW, SHOWN)?;
-    check_here(&rt, alloc, &mut sites, STATUS, STATUSES)
 }
 
 #[test]

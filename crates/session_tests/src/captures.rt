@@ -286,65 +286,6 @@ fn a_failed_call_ends_a_capture_and_the_next_one_goes_on(rt: HostRuntime) -> Res
     Ok(())
 }
 
-/// A feed of sixty units beside two kinds of longer transactions: one that is committed after each
-/// ten of them, and one that is aborted after each seven.
-fn feed_of_sixty_units(alloc: Global) -> Result<String, Fail> {
-    let mut script = String::from_str(alloc, "feed hq\n")?;
-    for unit in 1..61_u64 {
-        let ten = unit / 10;
-        let long = format!(in alloc; "|insert 10{ten} orders {unit} 'long' null\n")?;
-        script.push_str(long.as_str())?;
-        let short = format!(in alloc; "|insert {unit} parts 'p{unit}' {unit}\n")?;
-        script.push_str(short.as_str())?;
-        let dropped = format!(in alloc; "|insert 99 stock {unit} 1 null\n")?;
-        script.push_str(dropped.as_str())?;
-        if unit % 7 == 0 {
-            script.push_str("|abort 99\n")?;
-        }
-        let commit = format!(in alloc; "|commit {unit} ann {unit}\n")?;
-        script.push_str(commit.as_str())?;
-        if unit % 10 == 9 {
-            let commit = format!(in alloc; "|commit 10{ten} bob {unit}\n")?;
-            script.push_str(commit.as_str())?;
-        }
-    }
-    Ok(script)
-}
-
-/// Scripts that capture that log.
-const CUTS_OF_SIXTY: [&[u8]; 4] = [
-    b"capture hq\n",
-    b"capture hq every 1\n",
-    b"capture hq units 1\ncapture hq units 33 every 4\ncapture hq\n",
-    b"capture hq units 7 every 3\ncapture hq every 10\n",
-];
-
-/// What is shown of the server once a script has captured that log.
-fn shown_after(rt: &impl Abort, alloc: Global, cut: &[u8]) -> Result<BytesSink, Fail> {
-    let mut sites = started_server(rt, alloc)?;
-    let script = feed_of_sixty_units(alloc)?;
-    let (_fed, status) = run(alloc, &mut sites, script.as_bytes())?;
-    assert_eq!(rt; status, Status::Ok);
-    let (_replies, status) = run(alloc, &mut sites, cut)?;
-    assert_eq!(rt; status, Status::Ok);
-    let (shown, status) = run(alloc, &mut sites, SHOW)?;
-    assert_eq!(rt; status, Status::Ok);
-    Ok(shown)
-}
-
-#[test]
-fn any_cut_of_sixty_units_captures_the_same(rt: HostRuntime) -> Result<(), Fail> {
-    let alloc = rt.alloc();
-    let whole = shown_after(&rt, alloc, CUTS_OF_SIXTY[0])?;
-    assert!(rt; whole.bytes().len() > 5_000);
-    for cut in CUTS_OF_SIXTY {
-        let shown = shown_after(&rt, alloc, cut)?;
-        let is_same = shown.bytes() == whole.bytes();
-        assert!(rt; is_same);
-    }
-    Ok(())
-}
-
 /// What the status of the server says of how far it is captured, before a capture of one unit at a
 /// time and after each of its commits.
 const POINTS: [&str; 8] = [

@@ -1,5 +1,5 @@
-//! Runs at servers of which one record is damaged: it is reported, with its server and its area, by
-//! each command that reads it, and nothing is answered as if it weren't there.
+//! Runs at servers of which one record is damaged or missing: it is reported, with its server and
+//! its area, by each command that reads it, and nothing is answered as if it weren't there.
 
 ghost use Rattle.keep_core.specs.Kept.{IsClosed};
 
@@ -56,12 +56,14 @@ feed hq
 ";
 
 /// A record that is damaged: the first of a table of an area of a server, or the first after a key.
+/// Its last byte is cut, or it is removed.
 #[derive(Clone, Copy)]
 struct Place {
     server: u32,
     area: Area,
     table: u32,
     after: &'static [u8],
+    is_removed: bool,
 }
 
 /// The server, the area and the table of which the first record is cut, and a script that reads it.
@@ -84,39 +86,49 @@ const DAMAGES: [(u32, Area, u32, &[u8]); 16] = [
     (1, Area::Target, 0, b"show shop target orders_copy\n"),
 ];
 
-/// Cuts a record of a keeper by its last byte, and answers the bytes that are left.
-fn cut_record<K: Keeper>(alloc: Global, keeper: &mut K, place: Place) -> Result<List<u8>, Fail>
+/// Cuts a record of a keeper by its last byte, or removes it. Answers what is to be reported of it.
+fn damage_record<K: Keeper>(
+    alloc: Global,
+    keeper: &mut K,
+    place: Place,
+) -> Result<DamageCause, Fail>
     requires { IsClosed (K.kept keeper.old) }
 {
     let mut key = Vec::new(alloc);
     let mut value = Vec::new(alloc);
     keeper.next(place.area, place.table, place.after, &mut key, &mut value)?;
+    if place.is_removed {
+        keeper.begin()?;
+        keeper.remove(place.area, place.table, &key)?;
+        keeper.commit()?;
+        return Ok(DamageCause::Absent(List::from_vec(key)));
+    }
     value.pop();
     if key.is_empty() || key.len() > KEY_LIMIT || value.len() > VALUE_LIMIT {
         Err("there is no record to cut")?;
     }
     hold(keeper, place.area, place.table, &key, &value)?;
-    Ok(List::from_vec(value))
+    Ok(DamageCause::Spelling(List::from_vec(value)))
 }
 
-/// Servers with the same keepers, of which a record is cut, and the bytes that are left of it.
+/// Servers with the same keepers, of which a record is damaged, and what is to be reported of it.
 fn with_damage(
     alloc: Global,
     sites: Sites<MapKeeper>,
     place: Place,
-) -> Result<(List<u8>, Sites<MapKeeper>), Fail> {
-    let mut cut = List::new(alloc);
+) -> Result<(Option<DamageCause>, Sites<MapKeeper>), Fail> {
+    let mut cause = None;
     let mut list = List::new(alloc);
     let sites = sites.into_list().into_vec();
     for (server, (name, site)) in NAMES.iter().zip(sites).enumerate() {
         let mut keeper = site.into_keeper();
         keeper.rollback();
         if server == place.server as usize {
-            cut = cut_record(alloc, &mut keeper, place)?;
+            cause = Some(damage_record(alloc, &mut keeper, place)?);
         }
         list.push(server_with(alloc, name, keeper)?)?;
     }
-    Ok((cut, Sites::new(list)?))
+    Ok((cause, Sites::new(list)?))
 }
 
 /// Servers at which the definitions are loaded and a script has run.
@@ -129,24 +141,51 @@ fn servers_after(rt: &impl Abort, alloc: Global, script: &[u8]) -> Result<Sites<
     Ok(sites)
 }
 
+/// Damages a record at servers at which a script has run, and checks that another, which reads it,
+/// ends with that and writes nothing.
+fn check_damage(
+    rt: &impl Abort,
+    alloc: Global,
+    first: &[u8],
+    place: Place,
+    script: &[u8],
+) -> Result<(), Fail> {
+    let sites = servers_after(rt, alloc, first)?;
+    let (cause, mut sites) = with_damage(alloc, sites, place)?;
+    let (output, status) = run_at(alloc, WORDS, &mut sites, script)?;
+    let wanted = cause.map(|cause| Status::Damaged(place.server, place.area, cause));
+    assert_eq!(rt; Some(status), wanted);
+    assert!(rt; output.bytes().is_empty());
+    Ok(())
+}
+
 #[test]
 fn a_damaged_record_ends_each_command_that_reads_it(rt: HostRuntime) -> Result<(), Fail> {
-    let alloc = rt.alloc();
     for (server, area, table, script) in DAMAGES {
         let place = Place {
             server,
             area,
             table,
             after: b"",
+            is_removed: false,
         };
-        let sites = servers_after(&rt, alloc, BEGIN)?;
-        let (cut, mut sites) = with_damage(alloc, sites, place)?;
-        let (output, status) = run_at(alloc, WORDS, &mut sites, script)?;
-        let wanted = Status::Damaged(server, area, DamageCause::Spelling(cut));
-        assert_eq!(rt; status, wanted, "at {area:?} {table}");
-        assert!(rt; output.bytes().is_empty(), "at {area:?} {table}");
+        check_damage(&rt, rt.alloc(), BEGIN, place, script)?;
     }
     Ok(())
+}
+
+/// The state of the registration.
+const STATE: Place = Place {
+    server: 0,
+    area: Area::Capture,
+    table: 1,
+    after: b"",
+    is_removed: true,
+};
+
+#[test]
+fn a_state_that_is_missing_is_damage(rt: HostRuntime) -> Result<(), Fail> {
+    check_damage(&rt, rt.alloc(), BEGIN, STATE, b"status hq\n")
 }
 
 /// Two units that aren't captured yet.
@@ -166,6 +205,7 @@ const FIRST_INSERT: Place = Place {
     area: Area::Log,
     table: 0,
     after: b"\0\0\0\0\0\0\0\x02",
+    is_removed: false,
 };
 
 /// What is left of its 38 bytes: the transaction 1, the table, and the row but for its last byte.
@@ -178,10 +218,10 @@ const LEFT_OF_INSERT: &[u8] = b"\x11\0\0\0\x01\x06orders\0\x03\
 fn a_cut_log_record_is_reported_by_a_capture_with_its_bytes(rt: HostRuntime) -> Result<(), Fail> {
     let alloc = rt.alloc();
     let sites = servers_after(&rt, alloc, UNCAPTURED)?;
-    let (cut, mut sites) = with_damage(alloc, sites, FIRST_INSERT)?;
-    assert_eq!(rt; cut.as_slice(), LEFT_OF_INSERT);
+    let (_cause, mut sites) = with_damage(alloc, sites, FIRST_INSERT)?;
     let (_output, status) = run_at(alloc, WORDS, &mut sites, b"capture hq\n")?;
-    let wanted = Status::Damaged(0, Area::Log, DamageCause::Spelling(cut));
+    let left = List::from_vec(Vec::from_slice(alloc, LEFT_OF_INSERT)?);
+    let wanted = Status::Damaged(0, Area::Log, DamageCause::Spelling(left));
     assert_eq!(rt; status, wanted);
     Ok(())
 }

@@ -163,28 +163,3 @@ fn a_failed_call_ends_a_feed_and_what_is_missing_makes_up_for_it(
     }
     Ok(())
 }
-
-#[test]
-fn a_transaction_goes_on_over_three_runs(rt: HostRuntime) -> Result<(), Fail> {
-    let alloc = rt.alloc();
-    let mut sites = empty_server(alloc)?;
-    let begun = b"load
-|[[table]]
-|server = 'hq'
-|name = 'orders'
-|columns = ['id int']
-|key = ['id']
-feed hq
-|insert 1 orders 1
-";
-    let replies = b"ok loaded tables 1 registrations 0 sets 0
-ok fed 1 last 00000000000000010000
-";
-    check(&rt, alloc, &mut sites, begun, replies)?;
-    let goes_on = b"feed hq\n|insert 1 orders 2\nshow hq source orders\n";
-    let none = b"ok fed 1 last 00000000000000020000\nok rows 0\n";
-    check(&rt, alloc, &mut sites, goes_on, none)?;
-    let committed = b"feed hq\n|commit 1 ann 100\nshow hq source orders\n";
-    let both = b"ok fed 1 last 00000000000000030000\nrow 1\nrow 2\nok rows 2\n";
-    check(&rt, alloc, &mut sites, committed, both)
-}

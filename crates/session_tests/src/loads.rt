@@ -182,20 +182,6 @@ fn failing_calls(
 }
 
 #[test]
-fn two_loads_show_in_the_statuses_and_the_same_loads_add_nothing(
-    rt: HostRuntime,
-) -> Result<(), Fail> {
-    let alloc = rt.alloc();
-    let mut sites = new_servers(alloc, &NAMES, NONE)?;
-    for loads in [ALL_NEW, NONE_NEW] {
-        let (output, status) = run_loads(alloc, &mut sites)?;
-        assert_eq!(rt; status, Status::Ok);
-        assert_eq!(rt; output.bytes(), with_statuses(alloc, loads)?.as_slice());
-    }
-    Ok(())
-}
-
-#[test]
 fn a_failed_call_ends_the_run_and_the_next_run_makes_up_for_it(
     rt: HostRuntime,
 ) -> Result<(), Fail> {

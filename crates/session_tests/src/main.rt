@@ -1,5 +1,5 @@
-//! Tests of whole scripts, run by `session` at servers in memory, with a failure at each call, and
-//! over databases in memory.
+//! Tests of whole scripts, run by `session` at servers in memory, with a failure at each call, over
+//! streams that fail, and over databases in memory.
 //!
 //! It has no code but tests. It stands on `session_core`, and nothing stands on it.
 //!
@@ -20,6 +20,8 @@ mod feeds;
 mod loads;
 #[cfg(test)]
 mod runs;
+#[cfg(test)]
+mod streams;
 #[cfg(test)]
 mod two_runs;
 

@@ -1,6 +1,5 @@
-//! Tests of the steps of a set of user copies between two servers in memory: what it does next,
-//! the rows that its refreshes and blocks leave, what is kept of them, and what stands if a call
-//! of a keeper fails.
+//! Tests of the steps of a set of user copies between two servers in memory: what it does if
+//! changes that it needs aren't kept, and what stands if a call of a keeper fails.
 //!
 //! It has no code but tests, of the calls of `set_places` and `subs_sets`, and of `step` and
 //! `cycle` of `apply_cycle` with the targets of `apply_copies`, over definitions that `load_defs`
@@ -10,10 +9,6 @@
 #![tactic(auto)]
 
 #[cfg(test)]
-mod copies;
-#[cfg(test)]
-mod cuts;
-#[cfg(test)]
 mod cycles;
 #[cfg(test)]
 mod failing;
@@ -21,12 +16,6 @@ mod failing;
 mod failures;
 #[cfg(test)]
 mod gaps;
-#[cfg(test)]
-mod keys;
-#[cfg(test)]
-mod long;
-#[cfg(test)]
-mod predicates;
 #[cfg(test)]
 mod restarts;
 #[cfg(test)]

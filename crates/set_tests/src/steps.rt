@@ -11,14 +11,14 @@ use apply_copies::CopyTargets;
 use apply_cycle::{cycle, step};
 use keep_core::Keeper;
 use keep_map::MapKeeper;
-use repl_records::{SetState, TrailEntry};
+use repl_records::SetState;
 use repl_types::{Fault, List, Name, SetId, Stepped};
 use set_places::{PlacedSet, find_set};
 use site_store::Sites;
 use std::alloc::Global;
 use std::process::Abort;
 use std::test::Fail;
-use subs_sets::{Action, is_replica_set, next_action, set_state, trail_entry};
+use subs_sets::{Action, is_replica_set, next_action, set_state};
 
 /// The name of the set.
 pub fn set_name(alloc: Global) -> Result<SetId, Fail> {
@@ -123,14 +123,4 @@ pub fn action_of(alloc: Global, sites: &mut Sites<MapKeeper>) -> Result<Action, 
 pub fn state_of(alloc: Global, sites: &mut Sites<MapKeeper>) -> Result<SetState, Fail> {
     let set = the_set(alloc, sites)?;
     Ok(set_state(sites, alloc, &set)?)
-}
-
-/// The entry of its trail with a number.
-pub fn entry_of(
-    alloc: Global,
-    sites: &mut Sites<MapKeeper>,
-    number: u64,
-) -> Result<Option<TrailEntry>, Fail> {
-    let set = the_set(alloc, sites)?;
-    Ok(trail_entry(sites, alloc, &set, number)?)
 }

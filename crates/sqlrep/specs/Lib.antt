@@ -1,5 +1,4 @@
 pub mod Asked
 pub mod Endings
-pub mod Faults
 pub mod Opened
 pub mod Runs

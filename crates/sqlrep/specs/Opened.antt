@@ -1,5 +1,5 @@
 -- Which servers a run opens, and how.
-use Rattle.std.specs.Prelude.{◌≡◌, ◌≢◌, ℕ, Bool, true, ◌&&◌, not, codes, map, List, [], ◌∷◌}
+use Rattle.std.specs.Prelude.{◌≡◌, ◌≢◌, ℕ, Bool, true, ◌&&◌, not, map, List}
 use Rattle.std.specs.List.{AllZip, list_all, list_any}
 use Rattle.std.specs.Str.{bytes_eq}
 use Rattle.keep_map.specs.Keepers.{IsNew}
@@ -10,6 +10,7 @@ use Rattle.run_words.specs.declared.opening.Opening.{Opening}
 use Rattle.run_words.specs.declared.opening.Opening.TheVariants.{Copy, Servers}
 use Rattle.run_words.specs.declared.opening.ServerWord.{ServerWord}
 use Rattle.run_words.specs.Openings.{map_path}
+use Rattle.session_core.specs.Session.{server_names}
 use Rattle.site_store.specs.Servers.{names_of, site_keeper}
 use Rattle.site_store.specs.declared.site.Site.{Site}
 use Rattle.sqlrep.specs.declared.servers.OpenError.{OpenError}
@@ -19,9 +20,9 @@ use Rattle.sqlrep.specs.declared.servers.OpenError.TheVariants.{Memory, CannotOp
 abbrev pub in_memory : List ℕ → ServerWord
 in_memory name = record { name = name; path = map_path }
 
--- the servers that a run needs: `copy` needs two in memory, and a script those of its words
+-- the servers that a run needs: `copy` needs those of its names in memory, and a script those of its words
 abbrev pub needed_servers : Opening → List ServerWord
-needed_servers Copy = in_memory (codes "src") ∷ in_memory (codes "dst") ∷ []
+needed_servers Copy = map in_memory (server_names Copy)
 needed_servers (Servers cells servers) = servers
 
 -- all of them are kept in memory

@@ -137,7 +137,7 @@ pub fn ending_of(alloc: Global, status: &Status, names: &[Name]) -> Result<Endin
     })
 }
 
-/// The end of a run whose servers can't be opened, but for want of memory.
+/// The end of a run of which a server can't be opened; `Err` if that is for want of memory.
 pub fn ending_unopened(alloc: Global, error: &OpenError) -> Result<Ending, AllocError>
     ensures code { IfOk result (λ ending. ending.code ≡ code_of (Status.KeeperFault 0)) }
     ensures line { IfOk result (λ ending. option_map string_bytes ending.line

@@ -26,16 +26,12 @@ ghost use Rattle.sqlrep.specs.Runs.{RanWhole};
 mod ending;
 mod help;
 mod servers;
-mod streams;
-#[cfg(test)]
-mod tests;
 
 use crate::ending::{Ending, ending_of, ending_unopened, error_line, exit_status};
 use crate::help::asked_text;
 use crate::servers::{
     OpenError, close_servers, copy_servers, names_of_servers, needed_servers, open_servers,
 };
-use crate::streams::{Reads, Writes};
 use keep_core::{ReadError, Sink, Source, write_line};
 use keep_sqlite::AnyKeeper;
 use repl_commands::WordsError;
@@ -44,6 +40,7 @@ use run_words::{Opening, ServerWord, server_words};
 use session_core::session;
 use site_store::Sites;
 use sqlite::Alter;
+use standard_streams::{Reads, Writes};
 use std::alloc::{AllocError, Global};
 use std::io;
 use std::process::ExitCode;

@@ -96,7 +96,7 @@ pub fn names_of_servers(alloc: Global, words: &[ServerWord]) -> Result<List<Name
 /// The keeper of a path.
 fn open_keeper(rt: &HostRuntime, path: &str) -> Result<RunKeeper, KeepError>
     ensures opened { IfOk result (IsOpened path.now) }
-    ensures in_file { path.now ≡ map_path → IsOk result }
+    ensures in_memory { path.now ≡ map_path → IsOk result }
 {
     if path == MAP_PATH {
         return Ok(AnyKeeper::Map(MapKeeper::new(rt.alloc())));

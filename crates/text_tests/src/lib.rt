@@ -1,14 +1,11 @@
-//! Tests of what is read and written as text: words, commands, log lines and replies.
+//! What is read and written as text, worked out by hand: words, commands, log lines and replies.
 //!
-//! It has no code but tests, of the calls of `run_words`, `script_text`, `log_text` and
-//! `reply_text`.
+//! The tables of commands, log lines and replies are lemmas of `specs`, proved by computation on
+//! the definitions that the contracts of `script_text`, `log_text` and `reply_text` name. Its only
+//! code is tests of `run_words` and `line_input`.
 #![tactic(auto)]
 
 #[cfg(test)]
-mod commands;
-#[cfg(test)]
-mod log_lines;
-#[cfg(test)]
-mod replies;
+mod lines;
 #[cfg(test)]
 mod words;

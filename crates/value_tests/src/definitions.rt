@@ -1,30 +1,12 @@
-//! Definitions against spellings that are worked out by hand.
+//! Bytes that are no definitions, and expressions and predicates that are deep.
 
-use repl_definitions::{DefinedRegistration, DefinedTable, Expr, Predicate, SourceSet, TargetSet};
+use repl_definitions::{DefinedRegistration, DefinedTable, Expr, Predicate, SourceSet};
 use row_codec::{Part, Stored, TakeError};
 use std::alloc::Global;
 use std::test::Fail;
 
-/// Whether the bytes are taken as a record that is put as these bytes again.
-fn comes_back<T: Stored>(alloc: Global, bytes: &[u8]) -> Result<bool, Fail> {
-    let value = T::take(alloc, bytes)?;
-    let mut out = Vec::new(alloc);
-    value.put(&mut out)?;
-    Ok(out.as_slice() == bytes)
-}
-
 fn is_refused<T: Stored>(alloc: Global, bytes: &[u8]) -> bool {
     matches!(T::take(alloc, bytes), Err(TakeError::Spelling))
-}
-
-#[test]
-fn tables_and_registrations_have_their_spellings(rt: HostRuntime) -> Result<(), Fail> {
-    let alloc = rt.alloc();
-    let table = b"\0\0\0\x03\x05items\0\x02\x02id\x01\0\x04name\x02\x01\0\x01\0\0\0\x01\0\0";
-    assert!(rt; comes_back::<DefinedTable>(alloc, table)?);
-    let registration = b"\0\0\0\x03\x05items\0\x02\0\0\0\x01\0\0\x01\0\0";
-    assert!(rt; comes_back::<DefinedRegistration>(alloc, registration)?);
-    Ok(())
 }
 
 #[test]
@@ -55,25 +37,6 @@ fn set_with(alloc: Global, member: &[u8]) -> Result<Vec<u8>, Fail> {
     )?;
     bytes.extend_from_slice(member)?;
     Ok(bytes)
-}
-
-#[test]
-fn sets_have_their_spellings(rt: HostRuntime) -> Result<(), Fail> {
-    let alloc = rt.alloc();
-    const MEMBERS: [&[u8]; 6] = [
-        b"\x01\0\0\0",
-        b"\x02\0\0\x01\x24\x23\x20\x30\0\0\x06\x31\x01\x80\0\0\0\0\0\0\x0a\x21\0\x01\x22\0\x02",
-        b"\x03\0\x06\x01i\x01\x10\0\x01\x01n\x02\x01c\x03\0\x02\x01s\x04\0\x02\x01l\x05\0\x02\x01h\x06\0\x02\0",
-        b"\x04\0\x01\x01x\x01\x14\x13\x12\x10\0\0\x11\x01\x80\0\0\0\0\0\0\x05\x10\0\x01\x10\0\x02\0",
-        b"\x05\0\x01\0\x01\x01x\x01\x15\x11\x02a\0\0\x11\x02b\0\0\0",
-        b"\x06\0\0\x01\x20\x31\x02a\0\0\x01\x30\0\x01",
-    ];
-    for member in MEMBERS {
-        let set = set_with(alloc, member)?;
-        assert!(rt; comes_back::<SourceSet>(alloc, set.as_slice())?);
-        assert!(rt; comes_back::<TargetSet>(alloc, set.as_slice())?);
-    }
-    Ok(())
 }
 
 #[test]

@@ -1,0 +1,2 @@
+pub mod ColumnTexts
+pub mod Entries

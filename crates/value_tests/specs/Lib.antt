@@ -1,0 +1,11 @@
+pub mod Definitions
+pub mod Expressions
+pub mod LogRecords
+pub mod NoLogRecords
+pub mod NoRecords
+pub mod NoRows
+pub mod Records
+pub mod Rows
+pub mod Sequences
+pub mod Spelled
+pub mod Values
