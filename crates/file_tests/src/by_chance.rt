@@ -17,7 +17,7 @@ use std::test::Fail;
 /// How many transactions there are.
 const TRANSACTIONS: u32 = 100;
 
-/// How many values are put or removed in each; after each of these two keys are read.
+/// How many values are put or removed in each; after each of them, two keys are read.
 const CHANGES: u32 = 40;
 
 /// A keeper of either kind, which is a map or over a database.

@@ -2,34 +2,26 @@
 use Rattle.std.proofs.Common.{◌≡◌, ◌↔◌, ℕ, List, [], ◌∷◌, map, Bool, true, false, not, refl, sym, ap, subst}
 use Rattle.std.specs.Prelude.{Option, Some, IsTrue, slice_get}
 use Rattle.std.proofs.lemmas.List.{append-nil}
-use Rattle.repl_types.specs.declared.record.SetId.{SetId}
-use Rattle.repl_types.specs.declared.refusal.Refusal.{Refusal}
 use Rattle.keep_core.specs.Contents.{Contents}
 use Rattle.keep_core.specs.Kept.{Kept}
 use Rattle.keep_core.specs.Revealed.{Takes, TakesPrefix}
 use Rattle.repl_definitions.specs.declared.member.Member.{Member}
 use Rattle.repl_definitions.specs.declared.set.SetDef.{SetDef}
 use Rattle.repl_model.specs.Rules.{is_replica_set}
-use Rattle.repl_model.specs.World.{World, KnownSet, server_in}
-use Rattle.run_core.specs.Runs.{Event, Went, Stopped, writes, lines_of, is_refused}
+use Rattle.repl_model.specs.World.{World, KnownSet}
+use Rattle.run_core.specs.Runs.{Event, Went, Stopped, writes, is_refused}
 use Rattle.run_core.specs.laws.Quiet.{went_quiet, stopped_quiet}
-use Rattle.site_store.specs.Servers.{AllClosed, IsPlace}
-use Rattle.site_store.specs.Views.{names, held, work}
+use Rattle.site_store.specs.Views.{names, held}
 use Rattle.site_store.specs.declared.sites.Sites.{Sites}
-use Rattle.site_store.specs.one_server.Calls.{Looks}
 use Rattle.world_store.specs.Stands.{Stands}
-use Rattle.run_commands.specs.parts.Parts.{Happened, StoppedIn}
-use Rattle.run_commands.specs.parts.Refusing.{refused}
 use Rattle.run_commands.specs.parts.laws.Lines.{lines_quiet, lines_in_turn, none_refused}
-use Rattle.run_commands.specs.parts.laws.Looking.{looked_stands, went_looked, ended_looked}
-use Rattle.run_commands.specs.parts.laws.Parts.{refusal_written, refusal_begun}
-use Rattle.set_places.specs.Places.{IsPlacedAs, IsKnownAs, IsReadOnly, ForSet}
+use Rattle.set_places.specs.Places.{IsPlacedAs, IsReadOnly, ForSet}
 use Rattle.set_places.specs.declared.placed_set.PlacedSet.{PlacedSet}
 use Rattle.shows.specs.sets.Replies.{set_line, copy_lines, copy_text}
-use Rattle.shows.specs.sets.Targets.{IsCopyAt, IsTargetNamed, ForCopy}
+use Rattle.shows.specs.sets.Targets.{IsCopyAt, ForCopy}
 use Rattle.shows.specs.declared.targets.PlacedTarget.{PlacedTarget}
-use Rattle.run_commands.specs.target.TargetEvents.{known_set_events, set_events, member_events, target_events}
-use Rattle.run_commands.proofs.TargetEvents.{set_shown, one_known, copy_shown, one_target}
+use Rattle.run_commands.specs.target.TargetEvents.{known_set_events, member_events}
+use Rattle.run_commands.proofs.TargetEvents.{set_shown, copy_shown}
 
 -- a set that was found and isn't a replica set is read-only in the world
 pub read_only : (w : World) (k : KnownSet) (set : PlacedSet) → IsPlacedAs w k set → IsTrue (not (is_replica_set set.at_target.def)) → IsReadOnly k
@@ -39,55 +31,6 @@ read_only w k set placed = subst (λ (def : SetDef). IsTrue (not (is_replica_set
 pub fails_test : {P : Type 0} (b : Bool) → (IsTrue b ↔ P) → b ≡ false → P → ⊥
 fails_test true says is p = cc
 fails_test false says is p = let e : IsTrue false = says.1 p in cc
-
-module _ {K : Type 0} (kept : K → Kept) (s : Sites K) (t u : Option (List ℕ)) (refusal : Refusal) (w : World) (stands : Stands (names s) (held kept s) w) (events : List (Event World)) (same : refused refusal ≡ events) where
-  -- the line of a refusal was written, by other words for it
-  pub refusal_as : (answer : Bool) → (answer ≡ true) × Takes t u (lines_of (refused refusal)) → Went (Stands (names s)) events w (held kept s) t u × (answer ≡ is_refused events)
-  refusal_as answer wrote = subst (λ (es : List (Event World)). Went (Stands (names s)) es w (held kept s) t u × (answer ≡ is_refused es)) same (refusal_written kept s t u refusal answer wrote w stands)
-
-  -- a prefix of it was
-  pub prefix_as : TakesPrefix t u (lines_of (refused refusal)) → Stopped (Stands (names s)) events w (held kept s) t u
-  prefix_as wrote = subst (λ (es : List (Event World)). Stopped (Stands (names s)) es w (held kept s) t u) same (refusal_begun kept s t u refusal wrote w stands)
-
--- ---- what goes on after reads
-
-module _ {K : Type 0} (kept : K → Kept) (s0 s1 : Sites K) (looks : Looks kept s0 s1) where
-  module _ (s2 : Sites K) (t u : Option (List ℕ)) where
-    -- ---- a set that was found
-
-    module _ (number : ℕ) (id : SetId) (set : PlacedSet) (known : (w : World) → Stands (names s0) (held kept s0) w → IsKnownAs w id (Some set)) where
-      -- what happened at it happened at its name
-      pub set_happened : (answer : Bool) → ((w : World) (k : KnownSet) → Stands (names s1) (held kept s1) w → IsPlacedAs w k set → Went (Stands (names s1)) (known_set_events number k) w (held kept s2) t u × (answer ≡ is_refused (known_set_events number k))) → Happened kept s0 s2 t u (set_events number id) answer
-      set_happened answer happened = λ w stands.
-          let one = known w stands in
-          let here = happened w one.0 (looked_stands kept s0 s1 looks w stands) one.2 in
-          subst (λ (es : List (Event World)). Went (Stands (names s0)) es w (held kept s2) t u × (answer ≡ is_refused es)) (one_known number id w set one)
-          (went_looked kept s0 s1 looks s2 t u w (known_set_events number one.0) here.0, here.1)
-
-      -- and so it stopped
-      pub set_stopped : ((w : World) (k : KnownSet) → Stands (names s1) (held kept s1) w → IsPlacedAs w k set → Stopped (Stands (names s1)) (known_set_events number k) w (held kept s2) t u) → StoppedIn kept s0 s2 t u (set_events number id)
-      set_stopped stopped = λ w stands.
-          let one = known w stands in
-          subst (λ (es : List (Event World)). Stopped (Stands (names s0)) es w (held kept s2) t u) (one_known number id w set one)
-          (ended_looked kept s0 s1 looks s2 t u w (known_set_events number one.0) (stopped w one.0 (looked_stands kept s0 s1 looks w stands) one.2))
-
-    -- ---- a target that was found
-
-    module _ (closed : AllClosed (work kept s0)) (number : ℕ) (name table : List ℕ) (n : ℕ) (place : IsPlace (names s0) name n) (target : PlacedTarget) (named : (w : World) → Stands (names s0) (held kept s0) w → IsTargetNamed table w (server_in w n) target) where
-      -- what happened at it happened at its name
-      pub target_happened : (answer : Bool) → ((w : World) (k : KnownSet) (member : Member) → Stands (names s1) (held kept s1) w → IsPlacedAs w k target.set → slice_get k.at_target.def.members target.member ≡ Some member → Went (Stands (names s1)) (member_events number w k member) w (held kept s2) t u × (answer ≡ is_refused (member_events number w k member))) → Happened kept s0 s2 t u (target_events number name table) answer
-      target_happened answer happened = λ w stands.
-          let one = named w stands in
-          let here = happened w one.k one.member (looked_stands kept s0 s1 looks w stands) one.placed one.there in
-          subst (λ (es : List (Event World)). Went (Stands (names s0)) es w (held kept s2) t u × (answer ≡ is_refused es)) (one_target kept s0 closed number name table n place w stands target one)
-          (went_looked kept s0 s1 looks s2 t u w (member_events number w one.k one.member) here.0, here.1)
-
-      -- and so it stopped
-      pub target_stopped : ((w : World) (k : KnownSet) (member : Member) → Stands (names s1) (held kept s1) w → IsPlacedAs w k target.set → slice_get k.at_target.def.members target.member ≡ Some member → Stopped (Stands (names s1)) (member_events number w k member) w (held kept s2) t u) → StoppedIn kept s0 s2 t u (target_events number name table)
-      target_stopped stopped = λ w stands.
-          let one = named w stands in
-          subst (λ (es : List (Event World)). Stopped (Stands (names s0)) es w (held kept s2) t u) (one_target kept s0 closed number name table n place w stands target one)
-          (ended_looked kept s0 s1 looks s2 t u w (member_events number w one.k one.member) (stopped w one.k one.member (looked_stands kept s0 s1 looks w stands) one.placed one.there))
 
 -- ---- what is shown
 

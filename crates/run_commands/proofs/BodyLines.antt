@@ -10,16 +10,17 @@ use Rattle.log_text.specs.Records.{record_of}
 use Rattle.repl_model.specs.World.{Server, World}
 use Rattle.reply_text.specs.Replies.{reply_line}
 use Rattle.reply_text.specs.declared.reply.Reply.TheVariants as replies
-use Rattle.run_core.specs.Runs.{Event, writes, is_refused}
+use Rattle.run_core.specs.Runs.{Event, writes, last_world, is_refused}
 use Rattle.run_core.specs.laws.Runs.{stopped_in_first}
 use Rattle.site_store.specs.Servers.{AllClosed, HasNone, IsPlace}
 use Rattle.site_store.specs.Views.{names, held, work}
 use Rattle.site_store.specs.declared.sites.Sites.{Sites}
 use Rattle.world_store.specs.Stands.{Stands}
 use Rattle.stored_defs.specs.laws.Standing.{server_at_place, no_server}
-use Rattle.run_commands.specs.parts.Parts.{then_events, Happened, StoppedIn}
+use Rattle.run_commands.specs.parts.Parts.{IsPart}
+use Rattle.run_commands.specs.declared.parts.run_error.RunError.{RunError}
 use Rattle.run_commands.specs.parts.Refusing.{refused}
-use Rattle.run_commands.specs.parts.laws.Parts.{happened_as, stopped_as, happened_both, stopped_second}
+use Rattle.run_commands.specs.parts.laws.Composing.{part_as, part_gives, part_then}
 use Rattle.run_commands.specs.feed.FeedEvents.{batch_events, batch_and, begin_events, begun, record_events, refused_events, feed_line_events, after_record, feed_after, last_position}
 use Rattle.run_commands.specs.feed.Feeds.{new_feed, with_record, committed, is_full}
 use Rattle.run_commands.specs.declared.feed.feed.Feed.{Feed}
@@ -62,6 +63,11 @@ module _ (feed : Feed) (number : ℕ) (r : LogRecord) where
   pub none_waits : is_full (with_record number r feed) r ≡ true → committed (with_record number r feed) ≡ after_record feed number r
   none_waits full = ap (λ (b : Bool). if b then committed (with_record number r feed) else with_record number r feed) (sym full)
 
+  -- what is after the records that wait are committed is the feed after the record
+  pub after_batch : is_full (with_record number r feed) r ≡ true → (more : Feed) → more ≡ with_record number r feed → (after : Option Feed) → IfSome after (λ f. f ≡ committed more) → IfSome after (λ f. f ≡ after_record feed number r)
+  after_batch full more is None same = tt
+  after_batch full more is (Some f) same = same ∙ ap committed is ∙ none_waits full
+
 -- ---- a body line
 
 module _ (feed : Feed) (number : ℕ) (text : List ℕ) where
@@ -92,53 +98,39 @@ module _ (feed : Feed) (number : ℕ) (text : List ℕ) where
 
 -- ---- a commit of the records that wait, and then something more
 
-module _ {K : Type 0} (kept : K → Kept) (s0 s1 : Sites K) (t u : Option (List ℕ)) (feed : Feed) (more : World → List (Event World)) where
-  -- both
-  abbrev both : World → List (Event World)
-  both w = batch_and feed (more w) w
+-- the commit, and what follows by whether something was refused
+abbrev chosen_after : Feed → (World → List (Event World)) → World → Bool → List (Event World)
+chosen_after feed more w refuses = batch_events feed w ++ (if refuses then [] else more w)
 
-  -- the commit, and what follows by whether something was refused
-  abbrev chosen_after : World → Bool → List (Event World)
-  chosen_after w refuses = batch_events feed w ++ (if refuses then [] else more w)
-
-  -- they stopped if the commit did
-  pub batch_stopped : StoppedIn kept s0 s1 t u (batch_events feed) → StoppedIn kept s0 s1 t u both
-  batch_stopped stopped = λ w stands. stopped_in_first (Stands (names s0)) w (batch_events feed w) (if is_refused (batch_events feed w) then [] else more w) (held kept s1) t u (stopped w stands)
+module _ {K O : Type 0} {kept : K → Kept} {taken : O → Option (List ℕ)} {faults : O → ℕ} {s0 s1 : Sites K} {o p : O} (feed : Feed) (more : World → List (Event World)) where
+  -- it failed, and nothing follows
+  pub batch_fails : {U : Type 0} {e : RunError} (refuses : U → Bool) → IsPart kept taken faults s0 s1 o p (batch_events feed) (is_none {T = ℕ}) (Err e) → IsPart kept taken faults s0 s1 o p (λ w. batch_and feed (more w) w) refuses (Err e)
+  batch_fails refuses part = record {
+    ok = tt;
+    stopped = λ w stands. stopped_in_first (Stands (names s0)) w (batch_events feed w) (if is_refused (batch_events feed w) then [] else more w) (held kept s1) (taken o) (taken p) (part.stopped w stands);
+    servers = part.servers;
+    cause = part.cause;
+    counts = part.counts;
+  }
 
   -- if something was refused, nothing follows
-  pub batch_refused : Happened kept s0 s1 t u (batch_events feed) true → Happened kept s0 s1 t u both true
-  batch_refused happened = happened_as kept s0 s1 t u (batch_events feed) both (λ w stands. sym (append-nil (batch_events feed w)) ∙ ap (chosen_after w) (happened w stands).1) true happened
+  pub batch_refused : {U : Type 0} (refuses : U → Bool) (y : U) → true ≡ refuses y → IsPart kept taken faults s0 s1 o p (batch_events feed) (is_none {T = ℕ}) (Ok None) → IsPart kept taken faults s0 s1 o p (λ w. batch_and feed (more w) w) refuses (Ok y)
+  batch_refused refuses y is part = part_as (λ w. batch_and feed (more w) w) (λ w stands. sym (append-nil (batch_events feed w)) ∙ ap (chosen_after feed more w) (part.ok w stands).1) (part_gives refuses y is part)
 
-  module _ (happened : Happened kept s0 s1 t u (batch_events feed) false) (same : names s1 ≡ names s0) (next : List (Event World))
-      (are : (w : World) → Stands (names s0) (held kept s0) w → next ≡ more w) (v : Option (List ℕ)) where
-    -- else these events do
-    followed : (w : World) → Stands (names s0) (held kept s0) w → batch_events feed w ++ next ≡ both w
-    followed w stands = ap (λ (es : List (Event World)). batch_events feed w ++ es) (are w stands) ∙ ap (chosen_after w) (happened w stands).1
-
-    -- they happened
-    pub more_happened : (answer : Bool) → Happened kept s1 s1 u v (λ x. next) answer → Happened kept s0 s1 t v both answer
-    more_happened answer later = happened_as kept s0 s1 t v (then_events (batch_events feed) (λ x. next)) both followed answer
-        (happened_both kept s0 s1 s1 same t u v (batch_events feed) (λ x. next) false answer happened later)
-
-    -- or they stopped
-    pub more_stopped : StoppedIn kept s1 s1 u v (λ x. next) → StoppedIn kept s0 s1 t v both
-    more_stopped later = stopped_as kept s0 s1 t v (then_events (batch_events feed) (λ x. next)) both followed (stopped_second kept s0 s1 s1 same t u v (batch_events feed) (λ x. next) false happened later)
-
--- ---- what a commit answers
-
--- a last position was answered
-pub last_given : (o : Option ℕ) (P : Bool → Type 0) → is_some o ≡ true → P (is_none o) → P false
-last_given None P is at = absurd cc
-last_given (Some n) P is at = at
-
--- none was
-pub none_given : (o : Option ℕ) (P : Bool → Type 0) → is_some o ≡ false → P (is_none o) → P true
-none_given None P is at = at
-none_given (Some n) P is at = absurd cc
+  -- else this does
+  pub batch_then : {U : Type 0} {s2 : Sites K} {q : O} {refuses : U → Bool} {last : ℕ} {r : Result U RunError} (next : World → List (Event World)) → ((w : World) → Stands (names s0) (held kept s0) w → (v : World) → next v ≡ more w)
+      → IsPart kept taken faults s0 s1 o p (batch_events feed) (is_none {T = ℕ}) (Ok (Some last)) → IsPart kept taken faults s1 s2 p q next refuses r → IsPart kept taken faults s0 s2 o q (λ w. batch_and feed (more w) w) refuses r
+  batch_then next are part later = part_as (λ w. batch_and feed (more w) w)
+      (λ w stands. ap (λ (es : List (Event World)). batch_events feed w ++ es) (are w stands (last_world w (batch_events feed w))) ∙ ap (chosen_after feed more w) (part.ok w stands).1)
+      (part_then part later)
 
 -- the line that says how many records were fed
 abbrev told : ℕ → ℕ → List (Event World)
 told records last = writes (reply_line (replies.Fed records last)) ∷ []
+
+-- at the end of a feed
+abbrev pub fed_line : Feed → World → List (Event World)
+fed_line feed w = told (feed.fed + length feed.records) (last_position feed w)
 
 -- it is the one that the feed calls for
 pub told_same : (feed : Feed) (w : World) (count last : ℕ) → count ≡ length feed.records → last ≡ last_position feed w → told (feed.fed + count) last ≡ told (feed.fed + length feed.records) (last_position feed w)

@@ -1,10 +1,9 @@
 -- The steps of the set of a name, which is looked for first.
-use Rattle.std.proofs.Common.{◌≡◌, ◌∙◌, ◌+◌, ◌<◌, ℕ, List, [], ◌∷◌, length, sym, ap, subst}
+use Rattle.std.proofs.Common.{◌≡◌, ◌∙◌, ◌+◌, ℕ, [], ◌∷◌, sym, ap}
 use Rattle.std.specs.Prelude.{Option, Some, None}
-use Rattle.std.specs.Option.{option_map_or, IfSome}
+use Rattle.std.specs.Option.{option_map_or}
 use Rattle.repl_types.specs.declared.record.SetId.{SetId}
 use Rattle.repl_types.specs.declared.refusal.Refusal.TheVariants as refusals
-use Rattle.keep_core.specs.Contents.{Contents}
 use Rattle.keep_core.specs.Kept.{Kept}
 use Rattle.repl_model.specs.World.{World, KnownSet}
 use Rattle.reply_text.specs.Replies.{reply_line}
@@ -13,11 +12,10 @@ use Rattle.run_core.specs.Runs.{writes}
 use Rattle.run_commands.specs.parts.Refusing.{refused}
 use Rattle.run_commands.specs.parts.laws.Looking.{stood_before}
 use Rattle.site_store.specs.one_server.Calls.{Looks}
-use Rattle.site_store.specs.one_server.laws.Reads.{looks_sees}
 use Rattle.site_store.specs.Views.{names, held}
 use Rattle.site_store.specs.declared.sites.Sites.{Sites}
 use Rattle.world_store.specs.Stands.{Stands}
-use Rattle.set_places.specs.Places.{HasSourceRow, HasTargetRow, IsPlaced, IsKnownAs}
+use Rattle.set_places.specs.Places.{IsKnownAs}
 use Rattle.set_places.specs.declared.placed_set.PlacedSet.{PlacedSet}
 use Rattle.apply_cycle.specs.Cycling.{MakesAtMost}
 use Rattle.run_commands.specs.apply.Progress.{MayMake}

@@ -19,7 +19,7 @@ use Rattle.repl_model.specs.Sound.{IsSound}
 use Rattle.repl_model.specs.SoundLogs.{log_limit, LogIsSound}
 use Rattle.repl_model.specs.World.{Server, World, KnownSet}
 use Rattle.reply_text.specs.Steps.{step_line}
-use Rattle.run_core.specs.Runs.{commits, writes, lines_of}
+use Rattle.run_core.specs.Runs.{commits, writes, lines_of, is_refused, Went, Stopped}
 use Rattle.run_core.specs.laws.Quiet.{went_quiet, stopped_quiet}
 use Rattle.run_core.specs.laws.Runs.{stopped_before, stopped_after, stopped_in_line}
 use Rattle.run_commands.specs.parts.Refusing.{refused}
@@ -36,9 +36,27 @@ use Rattle.set_places.specs.declared.placed_set.PlacedSet.{PlacedSet}
 use Rattle.set_places.specs.laws.Known.{placed_def}
 use Rattle.apply_cycle.specs.Signals.{length_signalled}
 use Rattle.apply_cycle.specs.Stepping.{answer_of, IsAnswer, IsRefused, HasMade}
-use Rattle.run_commands.specs.apply.Progress.{progress_told, line_told, Progressed, StoppedStep}
+use Rattle.run_commands.specs.apply.Progress.{progress_told, line_told, progress_of, is_refusal, step_of}
 use Rattle.run_commands.specs.apply.StepEvents.{Outcome, declines, rests, makes, making, outcome_of}
+use Rattle.run_commands.specs.declared.apply.steps.Progress.{Progress}
 use Rattle.run_commands.specs.declared.apply.steps.Progress.TheVariants.{Refused, Rested, Made}
+
+-- ---- what came of a step
+
+module _ {K : Type 0} (kept : K → Kept) (old new : Sites K) (before now : Option (List ℕ)) where
+  -- from a world on, a step came to this: its events happened, and the answer says which it was; at rest nothing was done
+  abbrev pub Progressed : World → Outcome → Progress → Type 0
+  Progressed w outcome progress = Went (Stands (names old)) (step_of outcome) w (held kept new) before now × (progress ≡ progress_of outcome)
+
+  -- it stopped on its way
+  abbrev pub StoppedStep : World → Outcome → Type 0
+  StoppedStep w outcome = Stopped (Stands (names old)) (step_of outcome) w (held kept new) before now
+
+-- it refuses something if it was refused
+pub refuses_step : (o : Outcome) → is_refusal (progress_of o) ≡ is_refused (step_of o)
+refuses_step (declines refusal) = refl
+refuses_step rests = refl
+refuses_step (makes v line) = refl
 
 -- ---- actions that commit a world
 

@@ -1,5 +1,5 @@
 -- How `status` of a server is carried out.
-use Rattle.std.proofs.Common.{◌≡◌, ℕ, List, map, Bool, false, sym, ap}
+use Rattle.std.proofs.Common.{◌≡◌, ℕ, List, map, false, sym, ap}
 use Rattle.std.specs.Prelude.{Option, Some}
 use Rattle.std.specs.Option.{option_map_or}
 use Rattle.repl_types.specs.declared.refusal.Refusal.TheVariants as refusals
@@ -26,7 +26,6 @@ use Rattle.run_commands.specs.declared.parts.run_error.RunError.{RunError}
 use Rattle.run_commands.specs.declared.parts.run_error.RunError.TheVariants as errors
 use Rattle.run_commands.specs.parts.laws.Damage.{status_shown, failed_cause}
 use Rattle.run_commands.specs.parts.laws.Lines.{lines_written, lines_begun}
-use Rattle.run_commands.specs.parts.laws.Parts.{happened_as, stopped_as}
 use Rattle.std.proofs.lemmas.Option.{same_Some}
 use Rattle.run_commands.specs.status.StatusEvents.{status_events}
 
@@ -42,7 +41,7 @@ module _ {K : Type 0} (kept : K → Kept) (s0 : Sites K) (closed : AllClosed (wo
   at_place name n place w stands = ap (at_server name) (sym (server_at_place kept s0 closed w stands name n s0.servers.apart place))
 
   -- at a name of no server the name is refused
-  at_none : (name : List ℕ) → HasNone (names s0) name → (w : World) → Stands (names s0) (held kept s0) w → refused (refusals.NoSuchServer name) ≡ status_events name w
+  pub at_none : (name : List ℕ) → HasNone (names s0) name → (w : World) → Stands (names s0) (held kept s0) w → refused (refusals.NoSuchServer name) ≡ status_events name w
   at_none name none w stands = ap (at_server name) (sym (no_server kept s0 closed w stands name none))
 
   -- all lines were written
@@ -52,14 +51,6 @@ module _ {K : Type 0} (kept : K → Kept) (s0 : Sites K) (closed : AllClosed (wo
   -- a prefix of them was
   pub status_begun : (s1 : Sites K) (t u : Option (List ℕ)) (name : List ℕ) (n : ℕ) → IsPlace (names s0) name n → held kept s1 ≡ held kept s0 → ((w : World) → Stands (names s0) (held kept s0) w → TakesPrefix t u (status_text (server_in w n))) → StoppedIn kept s0 s1 t u (status_events name)
   status_begun s1 t u name n place same took = lines_begun kept s0 s1 same t u (status_events name) (λ w. status_lines (server_in w n)) (at_place name n place) took
-
-  -- the name was refused
-  pub name_refused : (t u : Option (List ℕ)) (name : List ℕ) (answer : Bool) → HasNone (names s0) name → Happened kept s0 s0 t u (λ w. refused (refusals.NoSuchServer name)) answer → Happened kept s0 s0 t u (status_events name) answer
-  name_refused t u name answer none = happened_as kept s0 s0 t u (λ w. refused (refusals.NoSuchServer name)) (status_events name) (at_none name none) answer
-
-  -- a prefix of the line that refuses it was written
-  pub name_begun : (t u : Option (List ℕ)) (name : List ℕ) → HasNone (names s0) name → StoppedIn kept s0 s0 t u (λ w. refused (refusals.NoSuchServer name)) → StoppedIn kept s0 s0 t u (status_events name)
-  name_begun t u name none = stopped_as kept s0 s0 t u (λ w. refused (refusals.NoSuchServer name)) (status_events name) (at_none name none)
 
   -- ---- why it ends
 

@@ -1,7 +1,7 @@
 -- Damage that a step met is damage by the rules of a run.
 use Rattle.std.proofs.Common.{◌≡◌, ◌⊎◌, inl, inr, ℕ, ◌<◌, List, length, map, false, sym, subst}
 use Rattle.std.proofs.lemmas.Bool.{true≢false}
-use Rattle.std.specs.Prelude.{zero, Option, Some, None, IfSome}
+use Rattle.std.specs.Prelude.{zero, Option, Some, None}
 use Rattle.repl_types.specs.declared.area.Area.{Area}
 use Rattle.repl_types.specs.declared.area.Area.TheVariants as areas
 use Rattle.repl_types.specs.declared.status.DamageCause.{DamageCause}

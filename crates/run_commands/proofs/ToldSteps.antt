@@ -9,7 +9,7 @@ use Rattle.reply_text.specs.Steps.{step_line}
 use Rattle.run_commands.specs.parts.Causes.{FoundByRead}
 use Rattle.run_commands.specs.apply.Progress.{progress_told, line_told, TakesStep, TellsNoRest}
 use Rattle.run_commands.specs.declared.apply.steps.Progress.{Progress}
-use Rattle.run_commands.specs.declared.apply.steps.Progress.TheVariants.{Made, Refused}
+use Rattle.run_commands.specs.declared.apply.steps.Progress.TheVariants.{Made}
 use Rattle.run_commands.specs.declared.parts.run_error.RunError.{RunError}
 use Rattle.run_commands.specs.declared.parts.run_error.RunError.TheVariants as errors
 
@@ -31,10 +31,6 @@ told_line t u source stepped progress is took = subst (TakesStep t u) (sym is) (
     pick (steps.Load m f rows) took = made (steps.Load m f rows) refl took
     pick (steps.Decide x d accepted rejected) took = made (steps.Decide x d accepted rejected) refl took
     pick (steps.Settle m f rejected applied) took = made (steps.Settle m f rejected applied) refl took
-
--- a refused step has no line
-pub no_line : (t u : Option (List ℕ)) (progress : Progress) → progress ≡ Refused → TakesStep t u progress
-no_line t u progress is = subst (TakesStep t u) (sym is) tt
 
 -- ---- all steps
 

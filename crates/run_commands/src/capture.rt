@@ -8,15 +8,12 @@
 //! change row. Then `capture hq` commits once and writes
 //! `ok captured 00000000000000050000 units 1 rows 1`.
 
-ghost use Rattle.std.specs.Prelude.{◌≡◌, ◌≤◌, false, IfOk, IfErr, OnErr};
-ghost use Rattle.keep_core.specs.Revealed.{Takes, TakesPrefix};
+ghost use Rattle.std.specs.Prelude.{◌≡◌, false};
 ghost use Rattle.site_store.specs.Servers.{AllClosed};
 ghost use Rattle.site_store.specs.Views.{work};
-ghost use Rattle.site_store.specs.Calls.{KeepsServers};
-ghost use Rattle.run_commands.specs.parts.Causes.{IsOfOutput, PartHasCause};
-ghost use Rattle.run_commands.specs.parts.Parts.{Happened, StoppedIn};
 ghost use Rattle.run_commands.specs.capture.CaptureEvents.{capture_events, counts_line};
 ghost use Rattle.run_commands.specs.capture.CaptureEvents.{units_per_commit as units_per_commit_lem};
+ghost use Rattle.run_commands.specs.parts.Parts.{IsPart, WritesLine};
 
 use crate::parts::{RunError, error_of_fault, refuse, reply};
 use capture_core::{Captured, capture};
@@ -42,12 +39,7 @@ fn write_counts<O: Sink>(
     output: &mut O,
     captured: Captured,
 ) -> Result<bool, RunError>
-    ensures ok { IfOk result (λ refused. (refused ≡ false) × Takes (O.taken output.old)
-        (O.taken output.new) (counts_line captured)) }
-    ensures stopped { OnErr result (TakesPrefix (O.taken output.old) (O.taken output.new)
-        (counts_line captured)) }
-    ensures cause { IfErr result (IsOfOutput (O.faults output.old) (O.faults output.new)) }
-    ensures counts { O.faults output.old ≤ O.faults output.new }
+    ensures { WritesLine O.taken O.faults output.old output.new (counts_line captured) false result }
 {
     let counts = Reply::Captured {
         captured: captured.upto,
@@ -71,14 +63,8 @@ pub fn capture_server<K: Keeper, O: Sink>(
     every: Option<u32>,
 ) -> Result<bool, RunError>
     requires { AllClosed (work K.kept sites.old) }
-    ensures ok { IfOk result (Happened K.kept sites.old sites.new (O.taken output.old)
-        (O.taken output.new) (capture_events name units every)) }
-    ensures stopped { OnErr result (StoppedIn K.kept sites.old sites.new (O.taken output.old)
-        (O.taken output.new) (capture_events name units every)) }
-    ensures servers { KeepsServers K.kept sites.old sites.new }
-    ensures cause { IfErr result (PartHasCause K.kept sites.old sites.new (O.faults output.old)
-        (O.faults output.new)) }
-    ensures counts { O.faults output.old ≤ O.faults output.new }
+    ensures { IsPart K.kept O.taken O.faults sites.old sites.new output.old output.new
+        (capture_events name units every) (λ refused. refused) result }
 {
     let Some(server) = sites.find(&name) else {
         return refuse(alloc, output, &Refusal::NoSuchServer(name));

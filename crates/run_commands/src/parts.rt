@@ -1,12 +1,12 @@
 //! The parts of a run at servers, as the commands of a script: what each says of what happened, why
 //! it ends the run early, and with which status.
 //!
-//! `specs/Parts.antt` has the words of the contract that all parts share, and `specs/Causes.antt`
-//! says who is to blame for an error. `refuse` writes the line of a refusal, `refuse_set` that of
-//! the name of no set, and `reply` that of a reply. Parts compose by the laws in `specs/laws`. It
-//! stands on `run_core`, whose events say what happens in a run, and on `site_store` and
-//! `world_store`, which say for which world servers stand. The commands stand on it, each in a
-//! crate of its own, and `session_core`.
+//! `specs/parts/Parts.antt` has `IsPart`, the contract that all parts share, and
+//! `specs/parts/Causes.antt` says who is to blame for an error. `refuse` writes the line of a
+//! refusal, `refuse_set` that of the name of no set, and `reply` that of a reply. Parts compose by
+//! the laws in `specs/parts/laws`. It stands on `run_core`, whose events say what happens in a run,
+//! and on `site_store` and `world_store`, which say for which world servers stand. The commands
+//! stand on it, a module each, and `session_core`.
 //!
 //! For example, of two parts in turn of which the second failed, the events of the first and the
 //! first of those of the second happened.

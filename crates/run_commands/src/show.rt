@@ -7,14 +7,11 @@
 //!
 //! For example, at a table that isn't defined the line `refused 7 NoSuchTable hq.nope` is written.
 
-ghost use Rattle.std.specs.Prelude.{◌≤◌, IfOk, IfErr, OnErr};
 ghost use Rattle.site_store.specs.Servers.{AllClosed};
 ghost use Rattle.site_store.specs.Views.{work};
-ghost use Rattle.site_store.specs.Calls.{KeepsServers};
-ghost use Rattle.run_commands.specs.parts.Causes.{PartHasCause};
-ghost use Rattle.run_commands.specs.parts.Parts.{Happened, StoppedIn};
 ghost use Rattle.run_commands.specs.show.ShowEvents.{source_events, log_events};
 ghost use Rattle.run_commands.specs.show.ShowEvents.{changes_events, units_events};
+ghost use Rattle.run_commands.specs.parts.Parts.{IsPart};
 
 use crate::parts::{RunError, error_of_reply, refuse};
 use keep_core::{Keeper, Sink};
@@ -33,14 +30,8 @@ pub fn show_source_rows<K: Keeper, O: Sink>(
     table: Name,
 ) -> Result<bool, RunError>
     requires { AllClosed (work K.kept sites.old) }
-    ensures ok { IfOk result (Happened K.kept sites.old sites.new (O.taken output.old)
-        (O.taken output.new) (source_events name table)) }
-    ensures stopped { OnErr result (StoppedIn K.kept sites.old sites.new (O.taken output.old)
-        (O.taken output.new) (source_events name table)) }
-    ensures servers { KeepsServers K.kept sites.old sites.new }
-    ensures cause { IfErr result (PartHasCause K.kept sites.old sites.new (O.faults output.old)
-        (O.faults output.new)) }
-    ensures counts { O.faults output.old ≤ O.faults output.new }
+    ensures { IsPart K.kept O.taken O.faults sites.old sites.new output.old output.new
+        (source_events name table) (λ refused. refused) result }
 {
     let Some(server) = sites.find(&name) else {
         return refuse(alloc, output, &Refusal::NoSuchServer(name));
@@ -68,14 +59,8 @@ pub fn show_log_records<K: Keeper, O: Sink>(
     name: Name,
 ) -> Result<bool, RunError>
     requires { AllClosed (work K.kept sites.old) }
-    ensures ok { IfOk result (Happened K.kept sites.old sites.new (O.taken output.old)
-        (O.taken output.new) (log_events name)) }
-    ensures stopped { OnErr result (StoppedIn K.kept sites.old sites.new (O.taken output.old)
-        (O.taken output.new) (log_events name)) }
-    ensures servers { KeepsServers K.kept sites.old sites.new }
-    ensures cause { IfErr result (PartHasCause K.kept sites.old sites.new (O.faults output.old)
-        (O.faults output.new)) }
-    ensures counts { O.faults output.old ≤ O.faults output.new }
+    ensures { IsPart K.kept O.taken O.faults sites.old sites.new output.old output.new (log_events
+        name) (λ refused. refused) result }
 {
     let Some(server) = sites.find(&name) else {
         return refuse(alloc, output, &Refusal::NoSuchServer(name));
@@ -96,14 +81,8 @@ pub fn show_change_rows<K: Keeper, O: Sink>(
     table: Name,
 ) -> Result<bool, RunError>
     requires { AllClosed (work K.kept sites.old) }
-    ensures ok { IfOk result (Happened K.kept sites.old sites.new (O.taken output.old)
-        (O.taken output.new) (changes_events name table)) }
-    ensures stopped { OnErr result (StoppedIn K.kept sites.old sites.new (O.taken output.old)
-        (O.taken output.new) (changes_events name table)) }
-    ensures servers { KeepsServers K.kept sites.old sites.new }
-    ensures cause { IfErr result (PartHasCause K.kept sites.old sites.new (O.faults output.old)
-        (O.faults output.new)) }
-    ensures counts { O.faults output.old ≤ O.faults output.new }
+    ensures { IsPart K.kept O.taken O.faults sites.old sites.new output.old output.new
+        (changes_events name table) (λ refused. refused) result }
 {
     let Some(server) = sites.find(&name) else {
         return refuse(alloc, output, &Refusal::NoSuchServer(name));
@@ -131,14 +110,8 @@ pub fn show_unit_rows<K: Keeper, O: Sink>(
     name: Name,
 ) -> Result<bool, RunError>
     requires { AllClosed (work K.kept sites.old) }
-    ensures ok { IfOk result (Happened K.kept sites.old sites.new (O.taken output.old)
-        (O.taken output.new) (units_events name)) }
-    ensures stopped { OnErr result (StoppedIn K.kept sites.old sites.new (O.taken output.old)
-        (O.taken output.new) (units_events name)) }
-    ensures servers { KeepsServers K.kept sites.old sites.new }
-    ensures cause { IfErr result (PartHasCause K.kept sites.old sites.new (O.faults output.old)
-        (O.faults output.new)) }
-    ensures counts { O.faults output.old ≤ O.faults output.new }
+    ensures { IsPart K.kept O.taken O.faults sites.old sites.new output.old output.new (units_events
+        name) (λ refused. refused) result }
 {
     let Some(server) = sites.find(&name) else {
         return refuse(alloc, output, &Refusal::NoSuchServer(name));

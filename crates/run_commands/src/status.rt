@@ -6,13 +6,10 @@
 //!
 //! For example, at the name of no server the line `refused 6 NoSuchServer zz` is written.
 
-ghost use Rattle.std.specs.Prelude.{◌≤◌, IfOk, IfErr, OnErr};
 ghost use Rattle.site_store.specs.Servers.{AllClosed};
 ghost use Rattle.site_store.specs.Views.{work};
-ghost use Rattle.site_store.specs.Calls.{KeepsServers};
-ghost use Rattle.run_commands.specs.parts.Causes.{PartHasCause};
-ghost use Rattle.run_commands.specs.parts.Parts.{Happened, StoppedIn};
 ghost use Rattle.run_commands.specs.status.StatusEvents.{status_events};
+ghost use Rattle.run_commands.specs.parts.Parts.{IsPart};
 
 use crate::parts::{RunError, error_of_reply, refuse};
 use keep_core::{Keeper, Sink};
@@ -30,14 +27,8 @@ pub fn show_status<K: Keeper, O: Sink>(
     name: Name,
 ) -> Result<bool, RunError>
     requires { AllClosed (work K.kept sites.old) }
-    ensures ok { IfOk result (Happened K.kept sites.old sites.new (O.taken output.old)
-        (O.taken output.new) (status_events name)) }
-    ensures stopped { OnErr result (StoppedIn K.kept sites.old sites.new (O.taken output.old)
-        (O.taken output.new) (status_events name)) }
-    ensures servers { KeepsServers K.kept sites.old sites.new }
-    ensures cause { IfErr result (PartHasCause K.kept sites.old sites.new (O.faults output.old)
-        (O.faults output.new)) }
-    ensures counts { O.faults output.old ≤ O.faults output.new }
+    ensures { IsPart K.kept O.taken O.faults sites.old sites.new output.old output.new
+        (status_events name) (λ refused. refused) result }
 {
     let Some(server) = sites.find(&name) else {
         return refuse(alloc, output, &Refusal::NoSuchServer(name));

@@ -6,20 +6,18 @@
 //!
 //! For example, at the name of no set the line `refused 8 NoSuchSet q/z` is written.
 
-ghost use Rattle.std.specs.Prelude.{◌≡◌, ◌≤◌, Some, slice_get, IfOk, IfErr, OnErr};
+ghost use Rattle.std.specs.Prelude.{◌≡◌, Some, slice_get, List};
 ghost use Rattle.repl_definitions.specs.declared.member.Member.{Member};
-ghost use Rattle.repl_model.specs.World.{World, KnownSet};
-ghost use Rattle.run_core.specs.Runs.{Went, Stopped, is_refused};
+ghost use Rattle.repl_model.specs.World.{World};
 ghost use Rattle.site_store.specs.Servers.{AllClosed, IsPlace};
-ghost use Rattle.site_store.specs.Views.{names, held, work};
-ghost use Rattle.site_store.specs.Calls.{KeepsServers};
-ghost use Rattle.world_store.specs.Stands.{Stands};
-ghost use Rattle.set_places.specs.Places.{IsPlaced, IsPlacedAs};
+ghost use Rattle.site_store.specs.Views.{names, work};
+ghost use Rattle.set_places.specs.Places.{IsPlaced};
 ghost use Rattle.shows.specs.sets.Targets.{IsTargetAt};
-ghost use Rattle.run_commands.specs.parts.Causes.{PartHasCause};
-ghost use Rattle.run_commands.specs.parts.Parts.{Happened, StoppedIn};
 ghost use Rattle.run_commands.specs.target.TargetEvents.{known_set_events, set_events};
 ghost use Rattle.run_commands.specs.target.TargetEvents.{member_events, target_events};
+ghost use Rattle.run_commands.specs.parts.Parts.{IsPart};
+ghost use Rattle.run_commands.specs.parts.Found.{IsKnownWith};
+ghost use Rattle.run_core.specs.Runs.{Event};
 
 use crate::parts::{RunError, error_of_fault, error_of_reply, refuse, refuse_set};
 use keep_core::{Keeper, Sink};
@@ -40,22 +38,11 @@ fn show_found_set<K: Keeper, O: Sink>(
     set: &PlacedSet,
 ) -> Result<bool, RunError>
     requires placed { IsPlaced K.kept sites.old set.now }
-    requires known { (w : World) → Stands (names sites.old) (held K.kept sites.old) w
-        → (k : KnownSet) × IsPlacedAs w k set.now }
     requires closed { AllClosed (work K.kept sites.old) }
-    ensures ok { IfOk result (λ refused. (w : World) (k : KnownSet)
-        → Stands (names sites.old) (held K.kept sites.old) w → IsPlacedAs w k set.now
-        → Went (Stands (names sites.old)) (known_set_events number k) w (held K.kept sites.new)
-        (O.taken output.old) (O.taken output.new)
-        × (refused ≡ is_refused (known_set_events number k))) }
-    ensures stopped { OnErr result ((w : World) (k : KnownSet)
-        → Stands (names sites.old) (held K.kept sites.old) w → IsPlacedAs w k set.now
-        → Stopped (Stands (names sites.old)) (known_set_events number k) w (held K.kept sites.new)
-        (O.taken output.old) (O.taken output.new)) }
-    ensures servers { KeepsServers K.kept sites.old sites.new }
-    ensures cause { IfErr result (PartHasCause K.kept sites.old sites.new (O.faults output.old)
-        (O.faults output.new)) }
-    ensures counts { O.faults output.old ≤ O.faults output.new }
+    ensures { (events : World → List (Event World))
+        → IsKnownWith K.kept sites.old set.now (λ w k. events w ≡ known_set_events number k)
+        → IsPart K.kept O.taken O.faults sites.old sites.new output.old output.new events
+        (λ refused. refused) result }
 {
     if is_replica_set(&set.at_target.def) {
         return refuse(alloc, output, &Refusal::UnknownCommand { line: number });
@@ -76,14 +63,8 @@ pub fn show_set_status<K: Keeper, O: Sink>(
     id: &SetId,
 ) -> Result<bool, RunError>
     requires { AllClosed (work K.kept sites.old) }
-    ensures ok { IfOk result (Happened K.kept sites.old sites.new (O.taken output.old)
-        (O.taken output.new) (set_events number id.now)) }
-    ensures stopped { OnErr result (StoppedIn K.kept sites.old sites.new (O.taken output.old)
-        (O.taken output.new) (set_events number id.now)) }
-    ensures servers { KeepsServers K.kept sites.old sites.new }
-    ensures cause { IfErr result (PartHasCause K.kept sites.old sites.new (O.faults output.old)
-        (O.faults output.new)) }
-    ensures counts { O.faults output.old ≤ O.faults output.new }
+    ensures { IsPart K.kept O.taken O.faults sites.old sites.new output.old output.new (set_events
+        number id.now) (λ refused. refused) result }
 {
     let found = match find_set(sites, alloc, id) {
         Ok(found) => found,
@@ -105,24 +86,13 @@ fn show_found_target<K: Keeper, O: Sink>(
     target: &PlacedTarget,
 ) -> Result<bool, RunError>
     requires there { IsTargetAt K.kept sites.old target.now.set.target target.now }
-    requires known { (w : World) → Stands (names sites.old) (held K.kept sites.old) w
-        → (k : KnownSet) × IsPlacedAs w k target.now.set }
     requires closed { AllClosed (work K.kept sites.old) }
-    ensures ok { IfOk result (λ refused. (w : World) (k : KnownSet) (member : Member)
-        → Stands (names sites.old) (held K.kept sites.old) w → IsPlacedAs w k target.now.set
-        → slice_get k.at_target.def.members target.now.member ≡ Some member
-        → Went (Stands (names sites.old)) (member_events number w k member) w
-        (held K.kept sites.new) (O.taken output.old) (O.taken output.new)
-        × (refused ≡ is_refused (member_events number w k member))) }
-    ensures stopped { OnErr result ((w : World) (k : KnownSet) (member : Member)
-        → Stands (names sites.old) (held K.kept sites.old) w → IsPlacedAs w k target.now.set
-        → slice_get k.at_target.def.members target.now.member ≡ Some member
-        → Stopped (Stands (names sites.old)) (member_events number w k member) w
-        (held K.kept sites.new) (O.taken output.old) (O.taken output.new)) }
-    ensures servers { KeepsServers K.kept sites.old sites.new }
-    ensures cause { IfErr result (PartHasCause K.kept sites.old sites.new (O.faults output.old)
-        (O.faults output.new)) }
-    ensures counts { O.faults output.old ≤ O.faults output.new }
+    ensures { (events : World → List (Event World))
+        → IsKnownWith K.kept sites.old target.now.set (λ w k. (member : Member)
+        × (slice_get k.at_target.def.members target.now.member ≡ Some member)
+        × (events w ≡ member_events number w k member))
+        → IsPart K.kept O.taken O.faults sites.old sites.new output.old output.new events
+        (λ refused. refused) result }
 {
     if !is_user_copy(target) {
         return refuse(alloc, output, &Refusal::UnknownCommand { line: number });
@@ -146,14 +116,8 @@ fn show_rows_at<K: Keeper, O: Sink>(
 ) -> Result<bool, RunError>
     requires server { IsPlace (names sites.old) name server }
     requires closed { AllClosed (work K.kept sites.old) }
-    ensures ok { IfOk result (Happened K.kept sites.old sites.new (O.taken output.old)
-        (O.taken output.new) (target_events number name table)) }
-    ensures stopped { OnErr result (StoppedIn K.kept sites.old sites.new (O.taken output.old)
-        (O.taken output.new) (target_events number name table)) }
-    ensures servers { KeepsServers K.kept sites.old sites.new }
-    ensures cause { IfErr result (PartHasCause K.kept sites.old sites.new (O.faults output.old)
-        (O.faults output.new)) }
-    ensures counts { O.faults output.old ≤ O.faults output.new }
+    ensures { IsPart K.kept O.taken O.faults sites.old sites.new output.old output.new
+        (target_events number name table) (λ refused. refused) result }
 {
     let found = match find_target(sites, alloc, server, &table) {
         Ok(found) => found,
@@ -182,14 +146,8 @@ pub fn show_target_rows<K: Keeper, O: Sink>(
     table: Name,
 ) -> Result<bool, RunError>
     requires { AllClosed (work K.kept sites.old) }
-    ensures ok { IfOk result (Happened K.kept sites.old sites.new (O.taken output.old)
-        (O.taken output.new) (target_events number name table)) }
-    ensures stopped { OnErr result (StoppedIn K.kept sites.old sites.new (O.taken output.old)
-        (O.taken output.new) (target_events number name table)) }
-    ensures servers { KeepsServers K.kept sites.old sites.new }
-    ensures cause { IfErr result (PartHasCause K.kept sites.old sites.new (O.faults output.old)
-        (O.faults output.new)) }
-    ensures counts { O.faults output.old ≤ O.faults output.new }
+    ensures { IsPart K.kept O.taken O.faults sites.old sites.new output.old output.new
+        (target_events number name table) (λ refused. refused) result }
 {
     let Some(server) = sites.find(&name) else {
         return refuse(alloc, output, &Refusal::NoSuchServer(name));

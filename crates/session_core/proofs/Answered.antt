@@ -16,7 +16,7 @@ use Rattle.site_store.specs.declared.sites.Sites.{Sites}
 use Rattle.world_store.specs.Stands.{Stands}
 use Rattle.run_commands.specs.parts.Parts.{Happened, StoppedIn}
 use Rattle.run_commands.specs.parts.laws.Parts.{happened_since, stopped_since}
-use Rattle.session_core.specs.Answers.{Answers}
+use Rattle.session_core.specs.Answers.{Follows}
 use Rattle.session_core.specs.Inputs.{OfInput}
 use Rattle.session_core.specs.Lines.{GoesOn}
 use Rattle.session_core.specs.Talk.{line_events, bodies_after, end_events, script_events}
@@ -46,13 +46,13 @@ module _ {K : Type 0} (kept : K → Kept) (s0 s1 s2 : Sites K) (same : names s1 
     makes = makes_line kind text last number (subst (IsLineOf kind) (sym same_text) whole) later
 
     -- after its answer the run goes on
-    pub line_answered : (answer : Answer) → Answers kept s1 s2 u u2 (line_events bodies number (line_of kind text)) (bodies_after bodies number (line_of kind text)) (number + 1) answer
+    pub line_answered : (answer : Answer) → Happened kept s1 s2 u u2 (line_events bodies number (line_of kind text)) answer.refused → Follows kept s1 (bodies_after bodies number (line_of kind text)) (number + 1) answer
         → (w : World) → Means (held kept s0) w → GoesOn Means input w answer.bodies number now (held kept s2) t u2 (any || answer.refused)
-    line_answered answer answers w at =
+    line_answered answer happened follows w at =
         let line = line_of kind text in
         takes_line Means w (held kept s1) (held kept s2) t u u2 bodies any number line last makes input now answer.bodies answer.refused (goes_at w at)
-        (subst (λ (n : List (List ℕ)). (v : World) → Stands n (held kept s1) v → answer.bodies ≡ bodies_after bodies number line v) same answers.bodies)
-        (happened_since kept s0 s1 s2 same u u2 (line_events bodies number line) answer.refused answers.happened)
+        (subst (λ (n : List (List ℕ)). (v : World) → Stands n (held kept s1) v → answer.bodies ≡ bodies_after bodies number line v) same follows.bodies)
+        (happened_since kept s0 s1 s2 same u u2 (line_events bodies number line) answer.refused happened)
 
     -- or it stopped in the answer
     pub line_stopped : StoppedIn kept s1 s2 u u2 (line_events bodies number (line_of kind text)) → (w : World) → Means (held kept s0) w → OfInput input (λ bytes. Stopped Means (script_events bytes w) w (held kept s2) t u2)

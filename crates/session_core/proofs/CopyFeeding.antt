@@ -1,6 +1,7 @@
 -- The feed of the input, whose lines are kept, and what is done after it.
-use Rattle.std.proofs.Common.{◌≡◌, ◌∙◌, ◌||◌, ℕ, List, [], Bool, sym, ap}
-use Rattle.std.specs.Prelude.{Option, Some, codes}
+use Rattle.std.proofs.Common.{◌≡◌, ◌≤◌, ◌∙◌, ◌||◌, ℕ, List, [], length, Bool, sym, ap}
+use Rattle.std.specs.Prelude.{Option, Some, Result, Ok, Err, IfOk, IfErr, IfSome, OnErr, codes}
+use Rattle.line_input.specs.Limits.{input_limit}
 use Rattle.keep_core.specs.Contents.{Contents}
 use Rattle.keep_core.specs.Kept.{Kept}
 use Rattle.repl_model.specs.World.{World}
@@ -9,15 +10,18 @@ use Rattle.run_core.specs.laws.Runs.{refused_append, went_both, stopped_in_first
 use Rattle.site_store.specs.Views.{names, held}
 use Rattle.site_store.specs.declared.sites.Sites.{Sites}
 use Rattle.world_store.specs.Stands.{Stands}
+use Rattle.run_commands.specs.parts.Causes.{PartHasCause, HasEnded}
 use Rattle.run_commands.specs.parts.Parts.{Happened, StoppedIn}
+use Rattle.run_commands.specs.declared.parts.run_error.RunError.{RunError}
 use Rattle.run_commands.specs.parts.laws.Parts.{happened_since, stopped_since}
 use Rattle.session_core.specs.copy.unwritten.Unwritten.{unwritten}
+use Rattle.session_core.specs.copy.unwritten.laws.Causes.{part_blamed}
 use Rattle.session_core.specs.copy.unwritten.laws.Sinks.{kept_lines}
 use Rattle.session_core.specs.copy.unwritten.laws.Unwritten.{unwritten_refused, went_unwritten, stopped_unwritten}
 use Rattle.session_core.specs.copy.fed.FedInput.{input_events}
 use Rattle.session_core.specs.copy.fed.laws.Refusals.{input_silent}
 use Rattle.session_core.specs.copy.CopyEvents.{shown_events, fed_events}
-use Rattle.session_core.specs.copy.Reading.{ReadsAll, StopsReading}
+use Rattle.session_core.specs.Reading.{ReadsAll, StopsReading}
 use Rattle.session_core.specs.copy.Showing.{KeepsRefusals}
 use Rattle.session_core.proofs.CopyRefusals.{keeps_refusals}
 use Rattle.session_core.proofs.ReadInputs.{of_input_also}
@@ -49,28 +53,40 @@ module _ {K : Type 0} (kept : K → Kept) (s0 s1 s2 : Sites K) (same : names s1 
   known : (w : World) (bytes : List ℕ) → HasFed w bytes → KeepsRefusals (fed_at bytes w) lines refused
   known w bytes fed = keeps_refusals (fed_at bytes w) lines refused fed.1 (kept_lines Means (fed_at bytes w) w (held kept s1) lines fed.0) (input_silent (codes "src") bytes w)
 
-  -- the feed happened, and what is done after it
-  pub feed_happened : (input : Option (List ℕ)) (any : Bool) → ReadsAll kept s0 s1 input (Some []) (Some lines) fed_at refused
-      → ((fed : List (Event World)) → KeepsRefusals fed lines refused → Happened kept s1 s2 t u (shown_events fed) any) → ReadsAll kept s0 s2 input t u fed_events any
-  feed_happened input any fed shown = λ w at.
-      of_input_also input (HasFed w) (λ bytes. Went Means (fed_events bytes w) w (held kept s2) t u × (any ≡ is_refused (fed_events bytes w)))
-      (λ bytes here.
-      let events = fed_at bytes w in
-      let first = went_unwritten Means events w (held kept s1) (Some []) (Some lines) t here.0 in
-      let v = last_world w (unwritten events) in
-      let later = happened_since kept s0 s1 s2 same t u (shown_events events) any (shown events (known w bytes here)) v first.stands in (
-        went_both Means w (unwritten events) (shown_events events v) (held kept s1) (held kept s2) t t u first later.0,
-        later.1 ∙ ap (λ (was : Bool). was || is_refused (shown_events events v)) (sym (unwritten_refused events)) ∙ sym (refused_append (unwritten events) (shown_events events v)),
-      )) (fed w at)
+  module _ (input : Option (List ℕ)) (r : Result Bool RunError) (fed : ReadsAll kept s0 s1 input (Some []) (Some lines) fed_at refused) where
+    -- the feed happened, and what is done after it
+    pub shown_read : ((fed : List (Event World)) → KeepsRefusals fed lines refused → IfOk r (λ any. Happened kept s1 s2 t u (shown_events fed) any)) → IfOk r (ReadsAll kept s0 s2 input t u fed_events)
+    shown_read = pick r
+      where
+        pick : (r : Result Bool RunError) → ((fed : List (Event World)) → KeepsRefusals fed lines refused → IfOk r (λ any. Happened kept s1 s2 t u (shown_events fed) any)) → IfOk r (ReadsAll kept s0 s2 input t u fed_events)
+        pick (Err e) shown = tt
+        pick (Ok any) shown = λ w at.
+            of_input_also input (HasFed w) (λ bytes. Went Means (fed_events bytes w) w (held kept s2) t u × (any ≡ is_refused (fed_events bytes w)))
+            (λ bytes here.
+            let events = fed_at bytes w in
+            let first = went_unwritten Means events w (held kept s1) (Some []) (Some lines) t here.0 in
+            let v = last_world w (unwritten events) in
+            let later = happened_since kept s0 s1 s2 same t u (shown_events events) any (shown events (known w bytes here)) v first.stands in (
+              went_both Means w (unwritten events) (shown_events events v) (held kept s1) (held kept s2) t t u first later.0,
+              later.1 ∙ ap (λ (was : Bool). was || is_refused (shown_events events v)) (sym (unwritten_refused events)) ∙ sym (refused_append (unwritten events) (shown_events events v)),
+            )) (fed w at)
 
-  -- or the run stopped after it
-  pub shown_stopped : (input : Option (List ℕ)) → ReadsAll kept s0 s1 input (Some []) (Some lines) fed_at refused
-      → ((fed : List (Event World)) → KeepsRefusals fed lines refused → StoppedIn kept s1 s2 t u (shown_events fed)) → StopsReading kept s0 s2 input t u fed_events
-  shown_stopped input fed stopped = λ w at.
-      of_input_also input (HasFed w) (λ bytes. Stopped Means (fed_events bytes w) w (held kept s2) t u)
-      (λ bytes here.
-      let events = fed_at bytes w in
-      let first = went_unwritten Means events w (held kept s1) (Some []) (Some lines) t here.0 in
-      let v = last_world w (unwritten events) in
-      stopped_in_second Means w (unwritten events) (shown_events events v) (held kept s1) (held kept s2) t t u first
-      (stopped_since kept s0 s1 s2 same t u (shown_events events) (stopped events (known w bytes here)) v first.stands)) (fed w at)
+    -- or the run stopped after it
+    pub shown_unread : ((fed : List (Event World)) → KeepsRefusals fed lines refused → OnErr r (StoppedIn kept s1 s2 t u (shown_events fed))) → OnErr r (StopsReading kept s0 s2 input t u fed_events)
+    shown_unread = pick r
+      where
+        pick : (r : Result Bool RunError) → ((fed : List (Event World)) → KeepsRefusals fed lines refused → OnErr r (StoppedIn kept s1 s2 t u (shown_events fed))) → OnErr r (StopsReading kept s0 s2 input t u fed_events)
+        pick (Ok any) stopped = tt
+        pick (Err e) stopped = λ w at.
+            of_input_also input (HasFed w) (λ bytes. Stopped Means (fed_events bytes w) w (held kept s2) t u)
+            (λ bytes here.
+            let events = fed_at bytes w in
+            let first = went_unwritten Means events w (held kept s1) (Some []) (Some lines) t here.0 in
+            let v = last_world w (unwritten events) in
+            stopped_in_second Means w (unwritten events) (shown_events events v) (held kept s1) (held kept s2) t t u first
+            (stopped_since kept s0 s1 s2 same t u (shown_events events) (stopped events (known w bytes here)) v first.stands)) (fed w at)
+
+-- how a run ended that has read its input, and then shows what was fed
+pub shown_ended : {K : Type 0} (kept : K → Kept) (s1 s2 : Sites K) (input rest : Option (List ℕ)) (in_before in_now before now : ℕ) (r : Result Bool RunError) → IfSome input (λ bytes. (rest ≡ Some []) × (length bytes ≤ input_limit)) → IfErr r (PartHasCause kept s1 s2 before now) → HasEnded input rest in_before in_now before now r
+shown_ended kept s1 s2 input rest in_before in_now before now (Ok any) read cause = read
+shown_ended kept s1 s2 input rest in_before in_now before now (Err e) read cause = part_blamed kept s1 s2 input in_before in_now before now e cause

@@ -1,6 +1,6 @@
 -- The lines of an input, and its end, as parts of the run that feeds them.
 use Rattle.std.proofs.Common.{◌≡◌, ◌≢◌, ◌∙◌, ◌+◌, ◌||◌, ◌<◌, ◌≤◌, ℕ, List, length, Bool, true, false, refl, sym, ap, subst, arith}
-use Rattle.std.specs.Prelude.{Option, Some, None, is_none}
+use Rattle.std.specs.Prelude.{Option, Some, None, is_some, is_none, not}
 use Rattle.std.specs.Option.{IfSome}
 use Rattle.std.proofs.lemmas.Bool.{true≢false}
 use Rattle.keep_core.specs.Contents.{Contents}
@@ -9,18 +9,18 @@ use Rattle.line_input.specs.Input.{ReadsLine, IsLineText}
 use Rattle.line_input.specs.declared.input.Next.{Next}
 use Rattle.line_input.specs.declared.input.Next.TheVariants.{End, Line, LongLine}
 use Rattle.repl_model.specs.World.{World}
-use Rattle.run_core.specs.Runs.{Event, Went, Stopped, is_refused}
+use Rattle.run_core.specs.Runs.{Went, Stopped, is_refused}
 use Rattle.site_store.specs.Views.{names, held}
 use Rattle.site_store.specs.declared.sites.Sites.{Sites}
 use Rattle.world_store.specs.Stands.{Stands}
-use Rattle.run_commands.specs.parts.Parts.{StoppedIn}
-use Rattle.run_commands.specs.parts.laws.Parts.{stopped_since}
+use Rattle.run_commands.specs.parts.Parts.{Happened, StoppedIn}
+use Rattle.run_commands.specs.parts.laws.Parts.{happened_since, stopped_since}
 use Rattle.run_commands.specs.feed.Feeds.{IsFeed}
 use Rattle.run_commands.specs.declared.feed.feed.Feed.{Feed}
 use Rattle.session_core.specs.Inputs.{OfInput}
 use Rattle.session_core.specs.copy.fed.FedInput.{input_events}
 use Rattle.session_core.specs.copy.fed.Feeding.{GoesOn}
-use Rattle.session_core.specs.copy.fed.Lines.{is_end, next_events, next_after, end_events, HappenedAfter, Feeds}
+use Rattle.session_core.specs.copy.fed.Lines.{is_end, next_events, next_after, end_events, refuses_now, FeedsOn}
 use Rattle.session_core.proofs.CopyGoing.{stands_now, stops_here, takes_line, stops_at_line, takes_end, stops_at_end}
 
 -- a feed that has read fewer records than the number of the next line is one
@@ -47,6 +47,18 @@ is_ended LongLine is = absurd cc
 pub is_more : (next : Next) → is_end next ≡ false → next ≢ End
 is_more next is ended = true≢false (sym (ap is_end ended) ∙ is)
 
+-- a feed that isn't there is none
+pub none_is : {T : Type 0} (o : Option T) (b : Bool) → is_some o ≡ not b → b ≡ is_none o
+none_is None true is = refl
+none_is None false is = absurd cc
+none_is (Some x) true is = absurd cc
+none_is (Some x) false is = refl
+
+-- what was refused up to a line, and what is refused at it, was refused after it
+refused_so_far : (feed : Option Feed) (number : ℕ) (next : Next) (line : List ℕ) (after : Option Feed) (w : World) → after ≡ next_after feed number next line w → (b : Bool) → refuses_now feed after ≡ b → is_none after ≡ (is_none feed || b)
+refused_so_far None number next line after w is b now = ap is_none is
+refused_so_far (Some feed) number next line after w is b now = now
+
 -- The servers are those at the beginning of the run, before a line and after it, and the output likewise.
 module _ {K : Type 0} (kept : K → Kept) (s0 s1 s2 : Sites K) (same : names s1 ≡ names s0) (server : List ℕ) (input t u u2 : Option (List ℕ)) (feed : Option Feed) (number : ℕ) where
   -- for which world servers stand, by their names at the beginning
@@ -65,19 +77,15 @@ module _ {K : Type 0} (kept : K → Kept) (s0 s1 s2 : Sites K) (same : names s1 
   pub stopped_here : (left : Option (List ℕ)) → Goes left → (w : World) → Means (held kept s0) w → OfInput input (λ bytes. Stopped Means (input_events server bytes w) w (held kept s1) t u)
   stopped_here left goes w at = stops_here Means server input left w (held kept s1) t u feed number (goes w at)
 
-  -- what happened, by the names that the servers had at the beginning
-  happened_after : (was : Bool) (events : World → List (Event World)) (any : Bool) → HappenedAfter kept s1 s2 u u2 was events any → (v : World) → Means (held kept s1) v → Went Means (events v) v (held kept s2) u u2 × (any ≡ (was || is_refused (events v)))
-  happened_after was events any happened = subst (λ (n : List (List ℕ)). (v : World) → Stands n (held kept s1) v → Went (Stands n) (events v) v (held kept s2) u u2 × (any ≡ (was || is_refused (events v)))) same happened
-
   module _ (before now : Option (List ℕ)) (goes : Goes before) (next : Next) (line : List ℕ) (reads : ReadsLine next line before now) where
     module _ (more : next ≢ End) (text : IsLineText next line) where
       -- after a line the run goes on
-      pub line_fed : (after : Option Feed) → Feeds kept s1 s2 u u2 (is_none feed) (next_events feed number next line) (next_after feed number next line) number after
+      pub line_fed : (after : Option Feed) → Happened kept s1 s2 u u2 (next_events feed number next line) (refuses_now feed after) → FeedsOn kept s1 (next_after feed number next line) number after
           → (w : World) → Means (held kept s0) w → GoesOn Means server input w after (number + 1) now (held kept s2) t u2
-      line_fed after feeds w at =
-          takes_line Means server w (held kept s1) (held kept s2) t u u2 feed number next line more text input before now after (goes w at) reads
-          (subst (λ (n : List (List ℕ)). (v : World) → Stands n (held kept s1) v → after ≡ next_after feed number next line v) same feeds.after_it)
-          (happened_after (is_none feed) (next_events feed number next line) (is_none after) feeds.happened)
+      line_fed after happened feeds w at =
+          let after_it = subst (λ (n : List (List ℕ)). (v : World) → Stands n (held kept s1) v → after ≡ next_after feed number next line v) same feeds.after_it in
+          takes_line Means server w (held kept s1) (held kept s2) t u u2 feed number next line more text input before now after (goes w at) reads after_it
+          (λ v stands. let here = happened_since kept s0 s1 s2 same u u2 (next_events feed number next line) (refuses_now feed after) happened v stands in (here.0, refused_so_far feed number next line after v (after_it v stands) (is_refused (next_events feed number next line v)) here.1))
 
       -- or it stopped at the line
       pub line_stopped : StoppedIn kept s1 s2 u u2 (next_events feed number next line) → (w : World) → Means (held kept s0) w → OfInput input (λ bytes. Stopped Means (input_events server bytes w) w (held kept s2) t u2)
@@ -90,10 +98,11 @@ module _ {K : Type 0} (kept : K → Kept) (s0 s1 s2 : Sites K) (same : names s1 
       at_end = subst (λ (n : Next). ReadsLine n line before now) ended reads
 
       -- after the end of the feed the whole run happened
-      pub end_fed : (any : Bool) → HappenedAfter kept s1 s2 u u2 (is_none feed) (end_events feed) any
-          → (w : World) → Means (held kept s0) w → OfInput input (λ bytes. Went Means (input_events server bytes w) w (held kept s2) t u2 × (any ≡ is_refused (input_events server bytes w)))
+      pub end_fed : (any : Bool) → Happened kept s1 s2 u u2 (end_events feed) any
+          → (w : World) → Means (held kept s0) w → OfInput input (λ bytes. Went Means (input_events server bytes w) w (held kept s2) t u2 × ((is_none feed || any) ≡ is_refused (input_events server bytes w)))
       end_fed any happened w at =
-          takes_end Means server w (held kept s1) (held kept s2) t u u2 feed number line input before now any (goes w at) at_end (happened_after (is_none feed) (end_events feed) any happened)
+          takes_end Means server w (held kept s1) (held kept s2) t u u2 feed number line input before now (is_none feed || any) (goes w at) at_end
+          (λ v stands. let here = happened_since kept s0 s1 s2 same u u2 (end_events feed) any happened v stands in (here.0, ap (λ (b : Bool). is_none feed || b) here.1))
 
       -- or it stopped there
       pub end_stopped : StoppedIn kept s1 s2 u u2 (end_events feed) → (w : World) → Means (held kept s0) w → OfInput input (λ bytes. Stopped Means (input_events server bytes w) w (held kept s2) t u2)

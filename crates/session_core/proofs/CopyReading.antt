@@ -1,18 +1,26 @@
 -- Parts of a run that read its input, after parts that don't.
-use Rattle.std.proofs.Common.{◌≡◌, ◌∙◌, ◌||◌, ℕ, List, Bool, false, sym, ap, subst}
-use Rattle.std.specs.Prelude.{Option, Some, None}
+use Rattle.std.proofs.Common.{◌≡◌, ◌∙◌, ◌||◌, ℕ, List, Bool, false, sym, ap, subst, arith}
+use Rattle.std.specs.Prelude.{Option, Some, None, Result, Ok, Err, IsErrAnd}
+use Rattle.std.proofs.lemmas.Result.{err_from_is_err_and, on_err_weaker}
 use Rattle.keep_core.specs.Contents.{Contents}
 use Rattle.keep_core.specs.Kept.{Kept}
 use Rattle.repl_model.specs.World.{World}
 use Rattle.run_core.specs.Runs.{Event, last_world, Went, Stopped, is_refused}
 use Rattle.run_core.specs.laws.Runs.{refused_append, went_both, stopped_in_first, stopped_in_second}
-use Rattle.site_store.specs.Views.{names, held}
+use Rattle.site_store.specs.Servers.{AllClosed}
+use Rattle.site_store.specs.Views.{names, held, work}
 use Rattle.site_store.specs.declared.sites.Sites.{Sites}
+use Rattle.site_store.specs.laws.Counts.{keeps_itself, keeps_then}
 use Rattle.world_store.specs.Stands.{Stands}
-use Rattle.run_commands.specs.parts.Parts.{then_events, Happened, StoppedIn}
+use Rattle.run_commands.specs.parts.Parts.{then_events, Happened, IsPart}
+use Rattle.run_commands.specs.parts.laws.Exits.{ok_also, if_err_also}
+use Rattle.run_commands.specs.parts.laws.Parts.{stands_after}
+use Rattle.run_commands.specs.declared.parts.run_error.RunError.{RunError}
+use Rattle.run_commands.specs.declared.parts.run_error.RunError.TheVariants as errors
 use Rattle.session_core.specs.Inputs.{OfInput}
-use Rattle.session_core.specs.copy.Reading.{ReadsAll, StopsReading}
-use Rattle.session_core.proofs.ReadInputs.{of_any, of_input_also}
+use Rattle.session_core.specs.Reading.{ReadsAll, StopsReading, IsReading}
+use Rattle.session_core.specs.copy.unwritten.laws.Causes.{part_blamed, servers_later}
+use Rattle.session_core.proofs.ReadInputs.{of_any, of_input_also, nothing_read}
 
 -- after all of what was read the servers stand for a world
 pub reads_stand : {K : Type 0} (kept : K → Kept) (s0 s1 : Sites K) (input t u : Option (List ℕ)) (events : List ℕ → World → List (Event World)) (any : Bool) → ReadsAll kept s0 s1 input t u events any
@@ -26,7 +34,7 @@ module _ {K : Type 0} (kept : K → Kept) (s0 s1 s2 : Sites K) (same : names s1 
   Means h w = Stands (names s0) h w
 
   -- a part that wrote nothing and refused nothing, and then one that reads the input
-  pub reads_after : (input : Option (List ℕ)) (any : Bool) → Happened kept s0 s1 t t first false → ReadsAll kept s1 s2 input t u rest any → ReadsAll kept s0 s2 input t u (λ bytes. then_events first (rest bytes)) any
+  reads_after : (input : Option (List ℕ)) (any : Bool) → Happened kept s0 s1 t t first false → ReadsAll kept s1 s2 input t u rest any → ReadsAll kept s0 s2 input t u (λ bytes. then_events first (rest bytes)) any
   reads_after input any one two = λ w at.
       let here = one w at in
       let v = last_world w (first w) in
@@ -39,7 +47,7 @@ module _ {K : Type 0} (kept : K → Kept) (s0 s1 s2 : Sites K) (same : names s1 
       )) later
 
   -- the second stopped
-  pub stops_after : (input : Option (List ℕ)) → Happened kept s0 s1 t t first false → StopsReading kept s1 s2 input t u rest → StopsReading kept s0 s2 input t u (λ bytes. then_events first (rest bytes))
+  stops_after : (input : Option (List ℕ)) → Happened kept s0 s1 t t first false → StopsReading kept s1 s2 input t u rest → StopsReading kept s0 s2 input t u (λ bytes. then_events first (rest bytes))
   stops_after input one two = λ w at.
       let here = one w at in
       let v = last_world w (first w) in
@@ -47,6 +55,57 @@ module _ {K : Type 0} (kept : K → Kept) (s0 s1 s2 : Sites K) (same : names s1 
       of_input_also input (λ bytes. Stopped Means (rest bytes v) v (held kept s2) t u) (λ bytes. Stopped Means (then_events first (rest bytes) w) w (held kept s2) t u)
       (λ bytes second. stopped_in_second Means w (first w) (rest bytes v) (held kept s1) (held kept s2) t t u here.0 second) later
 
-  -- the first stopped
-  pub stops_first : (input : Option (List ℕ)) → StoppedIn kept s0 s1 t t first → StopsReading kept s0 s1 input t t (λ bytes. then_events first (rest bytes))
-  stops_first input one = λ w at. of_any input (λ bytes. Stopped Means (then_events first (rest bytes) w) w (held kept s1) t t) (λ bytes. stopped_in_first Means w (first w) (rest bytes (last_world w (first w))) (held kept s1) t t (one w at))
+-- ---- parts as wholes
+
+module _ {K O : Type 0} {kept : K → Kept} {taken : O → Option (List ℕ)} {faults : O → ℕ} where
+  -- a part that writes nothing does to an output what it does to any
+  pub silent_part : {T : Type 0} {s0 s1 : Sites K} {o : O} {events : World → List (Event World)} {refuses : T → Bool} {r : Result T RunError}
+      → ((bytes : Option (List ℕ)) (count : ℕ) → IsPart kept (λ b. b) (λ b. count) s0 s1 bytes bytes events refuses r) → IsPart kept taken faults s0 s1 o o events refuses r
+  silent_part {o = o} whatever =
+      let part = whatever (taken o) (faults o) in
+      record { ok = part.ok; stopped = part.stopped; servers = part.servers; cause = part.cause; counts = part.counts }
+
+  module _ {I : Type 0} {left : I → Option (List ℕ)} {in_faults : I → ℕ} where
+    -- a part that failed is one whose result is its error
+    pub reading_err : {s0 s1 : Sites K} {i j : I} {o p : O} {events : List ℕ → World → List (Event World)} {e : RunError} (r : Result Bool RunError) → IsErrAnd r (λ y. y ≡ e)
+        → IsReading kept left in_faults taken faults s0 s1 i j o p events (Err e) → IsReading kept left in_faults taken faults s0 s1 i j o p events r
+    reading_err {s0 = s0} {s1 = s1} {i = i} {j = j} {o = o} {p = p} {events = events} r is part =
+        let found = err_from_is_err_and r is in
+        subst (IsReading kept left in_faults taken faults s0 s1 i j o p events) (ap Err (sym found.2) ∙ sym found.1) part
+
+    -- nothing was done, since memory ran out
+    pub nothing_read_part : {s : Sites K} {i : I} {o : O} (events : List ℕ → World → List (Event World)) → AllClosed (work kept s) → IsReading kept left in_faults taken faults s s i i o o events (Err errors.Memory)
+    nothing_read_part {s = s} {i = i} {o = o} events closed = record {
+      ok = tt;
+      stopped = λ w at. nothing_read (Stands (names s)) (left i) events w (held kept s) (taken o) at;
+      ended = tt;
+      servers = keeps_itself kept s closed;
+      cause = tt;
+      counts = omega arith;
+    }
+
+    -- a part before it failed, which reads no input
+    pub first_fails_unread : {T : Type 0} {s0 s1 : Sites K} {i : I} {o p : O} {first : World → List (Event World)} {refuses : T → Bool} {e : RunError} (rest : List ℕ → World → List (Event World)) → IsPart kept taken faults s0 s1 o p first refuses (Err e)
+        → IsReading kept left in_faults taken faults s0 s1 i i o p (λ bytes. then_events first (rest bytes)) (Err e)
+    first_fails_unread {s0 = s0} {s1 = s1} {i = i} {o = o} {p = p} {first = first} {e = e} rest part = record {
+      ok = tt;
+      stopped = λ w at. of_any (left i) (λ bytes. Stopped (Stands (names s0)) (then_events first (rest bytes) w) w (held kept s1) (taken o) (taken p)) (λ bytes. stopped_in_first (Stands (names s0)) w (first w) (rest bytes (last_world w (first w))) (held kept s1) (taken o) (taken p) (part.stopped w at));
+      ended = part_blamed kept s0 s1 (left i) (in_faults i) (in_faults i) (faults o) (faults p) e part.cause;
+      servers = part.servers;
+      cause = part.cause.servers;
+      counts = part.counts;
+    }
+
+    -- a part that writes nothing and refuses nothing, and then one that reads the input
+    pub reads_then : {T : Type 0} {s0 s1 s2 : Sites K} {i j : I} {o p : O} {first : World → List (Event World)} {rest : List ℕ → World → List (Event World)} {refuses : T → Bool} {x : T} {r : Result Bool RunError}
+        → IsPart kept taken faults s0 s1 o o first refuses (Ok x) → refuses x ≡ false → IsReading kept left in_faults taken faults s1 s2 i j o p rest r → IsReading kept left in_faults taken faults s0 s2 i j o p (λ bytes. then_events first (rest bytes)) r
+    reads_then {s0 = s0} {s1 = s1} {s2 = s2} {i = i} {o = o} {p = p} {first = first} {rest = rest} {r = r} one not two =
+        let happened = subst (Happened kept s0 s1 (taken o) (taken o) first) not one.ok in
+        record {
+          ok = ok_also r (λ any. reads_after kept s0 s1 s2 one.servers.names (taken o) (taken p) first rest (left i) any happened) two.ok;
+          stopped = on_err_weaker r (stops_after kept s0 s1 s2 one.servers.names (taken o) (taken p) first rest (left i) happened) two.stopped;
+          ended = two.ended;
+          servers = keeps_then kept s0 s1 s2 one.servers two.servers;
+          cause = if_err_also r (λ e. servers_later kept s0 s1 s2 e one.servers (stands_after kept s0 s1 (taken o) (taken o) first first false happened)) two.cause;
+          counts = two.counts;
+        }

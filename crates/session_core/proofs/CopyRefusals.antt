@@ -1,12 +1,18 @@
 -- The lines of what was refused, which are written last.
-use Rattle.std.proofs.Common.{◌≡◌, ◌∙◌, ℕ, List, Bool, true, false, refl, sym, ap, subst}
-use Rattle.std.specs.Prelude.{Option}
+use Rattle.std.proofs.Common.{◌≡◌, ◌∙◌, ℕ, List, [], ◌∷◌, Bool, true, false, refl, sym, ap, subst}
+use Rattle.std.specs.Prelude.{Option, Result}
+use Rattle.std.proofs.lemmas.List.{append-nil}
 use Rattle.keep_core.specs.Kept.{Kept}
 use Rattle.keep_core.specs.Revealed.{Takes, TakesPrefix}
 use Rattle.repl_model.specs.World.{World}
-use Rattle.run_core.specs.Runs.{Event, is_refused, lines_of}
+use Rattle.run_core.specs.Runs.{Event, refuses, is_refused, lines_of}
+use Rattle.site_store.specs.Servers.{AllClosed}
+use Rattle.site_store.specs.Views.{work}
+use Rattle.site_store.specs.laws.Counts.{keeps_itself}
 use Rattle.site_store.specs.declared.sites.Sites.{Sites}
-use Rattle.run_commands.specs.parts.Parts.{Happened, StoppedIn}
+use Rattle.run_commands.specs.parts.Parts.{IsPart, WritesLine}
+use Rattle.run_commands.specs.parts.laws.Composing.{part_written}
+use Rattle.run_commands.specs.declared.parts.run_error.RunError.{RunError}
 use Rattle.run_commands.specs.parts.laws.Parts.{happened_quiet, stopped_quietly}
 use Rattle.session_core.specs.copy.unwritten.Unwritten.{refusals_in}
 use Rattle.session_core.specs.copy.unwritten.laws.Refusals.{HasNoReplies, refusal_lines, refusals_refused, refusals_quiet, no_refusals}
@@ -20,11 +26,14 @@ keeps_refusals fed lines any refused kept silent = record { refused = refused; w
     by_answer true is = kept ∙ sym (refusal_lines fed (silent (sym is)))
     by_answer false is = sym (ap lines_of (no_refusals fed (sym is)))
 
-module _ {K : Type 0} (kept : K → Kept) (s : Sites K) (t u : Option (List ℕ)) (fed : List (Event World)) (lines : List ℕ) (any : Bool) (keeps : KeepsRefusals fed lines any) where
-  -- they were written
-  pub refusals_written : Takes t u (lines_if any lines) → Happened kept s s t u (λ w. refusals_in fed) any
-  refusals_written took = happened_quiet kept s s refl t u (λ w. refusals_in fed) any (λ w at. (refusals_quiet fed, subst (Takes t u) keeps.written took, keeps.refused ∙ sym (refusals_refused fed)))
+-- there are some events whose refusals are these lines
+pub some_fed : (lines : List ℕ) (any : Bool) → (fed : List (Event World)) × KeepsRefusals fed lines any
+some_fed lines true = (refuses lines ∷ [], record { refused = refl; written = sym (append-nil lines) })
+some_fed lines false = ([], record { refused = refl; written = refl })
 
-  -- or a prefix of them was
-  pub refusals_begun : TakesPrefix t u (lines_if any lines) → StoppedIn kept s s t u (λ w. refusals_in fed)
-  refusals_begun took = stopped_quietly kept s s refl t u (λ w. refusals_in fed) (λ w at. (refusals_quiet fed, subst (TakesPrefix t u) keeps.written took))
+-- they were written, or a prefix of them was
+pub refusals_part : {K O : Type 0} {kept : K → Kept} {taken : O → Option (List ℕ)} {faults : O → ℕ} {s : Sites K} {o p : O} {lines : List ℕ} {any : Bool} {r : Result Bool RunError} (fed : List (Event World)) → KeepsRefusals fed lines any → AllClosed (work kept s)
+    → WritesLine taken faults o p (lines_if any lines) any r → IsPart kept taken faults s s o p (λ w. refusals_in fed) (λ refused. refused) r
+refusals_part {kept = kept} {taken = taken} {s = s} {o = o} {p = p} {any = any} fed keeps closed wrote = part_written wrote (λ w. refusals_in fed) (λ refused. refused) (keeps_itself kept s closed)
+    (λ took. happened_quiet kept s s refl (taken o) (taken p) (λ w. refusals_in fed) any (λ w at. (refusals_quiet fed, subst (Takes (taken o) (taken p)) keeps.written took, keeps.refused ∙ sym (refusals_refused fed))))
+    (λ took. stopped_quietly kept s s refl (taken o) (taken p) (λ w. refusals_in fed) (λ w at. (refusals_quiet fed, subst (TakesPrefix (taken o) (taken p)) keeps.written took)))

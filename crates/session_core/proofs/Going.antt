@@ -21,7 +21,6 @@ use Rattle.session_core.specs.Inputs.{OfInput}
 use Rattle.session_core.specs.Lines.{IsGoing, GoesOn}
 use Rattle.session_core.specs.declared.bodies.Bodies.{Bodies}
 use Rattle.session_core.specs.declared.bodies.Bodies.TheVariants.{Refused}
-use Rattle.session_core.proofs.ReadInputs.{nothing_read}
 
 -- the line that was read and not taken is the first that is left
 waits : (s : Script) (kind : LineKind) (number : ℕ) (text : List ℕ) (left now : Option (List (ℕ × ScriptLine))) → next_kind s ≡ Some kind → number ≡ line_number s → text ≡ line_text s
@@ -52,10 +51,6 @@ module _ (Means : List (Option Contents) → World → Type 0) where
     pub begins : (input : Option (List ℕ)) (number : ℕ) (left : Option (List (ℕ × ScriptLine))) → number ≡ 0 → left ≡ option_map script_of input → GoesOn Means input w Refused number left h t t false
     begins None number left none e = ([], λ rest. subst (λ (n : ℕ). IsGoing Means rest w Refused (script_from (n + 1) (lines rest)) h t t false) (sym none) (all_left rest))
     begins (Some input) number left none e = subst (λ (l : Option (List (ℕ × ScriptLine))). GoesOn Means (Some input) w Refused number l h t t false) (sym e) (all_left input)
-
-    -- the run stopped before its first line
-    pub stops_first : (input : Option (List ℕ)) → OfInput input (λ bytes. Stopped Means (script_events bytes w) w h t t)
-    stops_first input = nothing_read Means input script_events w h t at
 
   -- ---- between two lines
 

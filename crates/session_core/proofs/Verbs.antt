@@ -7,10 +7,7 @@ use Rattle.std.proofs.lemmas.Slice.Eq.{bytes_eq-Decides}
 use Rattle.repl_types.specs.declared.record.SetId.{SetId}
 use Rattle.repl_commands.specs.declared.command.Command.{Command}
 use Rattle.repl_commands.specs.declared.command.Command.TheVariants.{Load, Feed, Capture, CaptureCold, Prune, PruneNormal, Step, Apply, Refresh, Stop, Generate, Rounds, Audit, StatusServer, StatusSet, ShowSource, ShowCd, ShowUow, ShowLog, ShowTarget, ShowTrail, ShowRejected}
-use Rattle.repl_model.specs.World.{World}
 use Rattle.script_text.specs.Commands.{command_words}
-use Rattle.script_text.specs.Asked.{asks}
-use Rattle.session_core.specs.Bodies.{after_asked, after_bodiless}
 use Rattle.session_core.specs.Commands.{talk_of, is_carried_out_verb, takes_no_body}
 
 -- each of these words is the first of a command that is carried out
@@ -97,53 +94,3 @@ not_carried_out (ShowLog server) bodiless other = absurd (other.log server refl)
 not_carried_out (ShowTarget server table) bodiless other = absurd (other.target server table refl)
 not_carried_out (ShowTrail server set) bodiless other = refl
 not_carried_out (ShowRejected server set) bodiless other = refl
-
--- no other command takes a body than `load` and `feed`
-pub no_body : (command : Command) → command ≢ Load → ((server : List ℕ) → command ≢ Feed server) → takes_no_body command
-no_body Load load feed = absurd (load refl)
-no_body (Feed server) load feed = absurd (feed server refl)
-no_body (Capture server units every) load feed = tt
-no_body (CaptureCold server) load feed = tt
-no_body (Prune server minutes) load feed = tt
-no_body (PruneNormal server) load feed = tt
-no_body (Step set) load feed = tt
-no_body (Apply set) load feed = tt
-no_body (Refresh set) load feed = tt
-no_body (Stop server table) load feed = tt
-no_body (Generate server table seed units changes) load feed = tt
-no_body (Rounds qual) load feed = tt
-no_body (Audit set) load feed = tt
-no_body (StatusServer server) load feed = tt
-no_body (StatusSet set) load feed = tt
-no_body (ShowSource server table) load feed = tt
-no_body (ShowCd server table) load feed = tt
-no_body (ShowUow server) load feed = tt
-no_body (ShowLog server) load feed = tt
-no_body (ShowTarget server table) load feed = tt
-no_body (ShowTrail server set) load feed = tt
-no_body (ShowRejected server set) load feed = tt
-
--- after a command that takes no body, no body is read
-pub no_body_after : (text : List ℕ) (command : Command) (w : World) → takes_no_body command → after_bodiless command text ≡ after_asked text (asks command) w
-no_body_after text Load w bodiless = absurd bodiless
-no_body_after text (Feed server) w bodiless = absurd bodiless
-no_body_after text (Capture server units every) w bodiless = refl
-no_body_after text (CaptureCold server) w bodiless = refl
-no_body_after text (Prune server minutes) w bodiless = refl
-no_body_after text (PruneNormal server) w bodiless = refl
-no_body_after text (Step set) w bodiless = refl
-no_body_after text (Apply set) w bodiless = refl
-no_body_after text (Refresh set) w bodiless = refl
-no_body_after text (Stop server table) w bodiless = refl
-no_body_after text (Generate server table seed units changes) w bodiless = refl
-no_body_after text (Rounds qual) w bodiless = refl
-no_body_after text (Audit set) w bodiless = refl
-no_body_after text (StatusServer server) w bodiless = refl
-no_body_after text (StatusSet set) w bodiless = refl
-no_body_after text (ShowSource server table) w bodiless = refl
-no_body_after text (ShowCd server table) w bodiless = refl
-no_body_after text (ShowUow server) w bodiless = refl
-no_body_after text (ShowLog server) w bodiless = refl
-no_body_after text (ShowTarget server table) w bodiless = refl
-no_body_after text (ShowTrail server set) w bodiless = refl
-no_body_after text (ShowRejected server set) w bodiless = refl

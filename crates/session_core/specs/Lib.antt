@@ -4,6 +4,7 @@ pub mod Commands
 pub mod FedLines
 pub mod Inputs
 pub mod Lines
+pub mod Reading
 pub mod Session
 pub mod Talk
 pub mod copy

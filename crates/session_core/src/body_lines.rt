@@ -1,23 +1,21 @@
 //! The body lines of a script, and the end of a body.
 
-ghost use Rattle.std.specs.Prelude.{◌≡◌, ◌≤◌, ◌+◌, drop, IfOk, IfErr, OnErr};
+ghost use Rattle.std.specs.Prelude.{◌≤◌, ◌+◌, drop, IfOk};
 ghost use Rattle.line_input.specs.Limits.{input_limit};
 ghost use Rattle.site_store.specs.Servers.{AllClosed};
 ghost use Rattle.site_store.specs.Views.{work};
-ghost use Rattle.site_store.specs.Calls.{KeepsServers};
-ghost use Rattle.run_commands.specs.parts.Causes.{PartHasCause};
-ghost use Rattle.run_commands.specs.parts.Parts.{Happened, StoppedIn};
-ghost use Rattle.session_core.specs.Answers.{Answers};
 ghost use Rattle.run_commands.specs.feed.Feeds.{IsFeed};
+ghost use Rattle.run_commands.specs.parts.Parts.{IsPart};
 ghost use Rattle.session_core.specs.Bodies.{IfFeed, KeepsBodies, after_body};
 ghost use Rattle.session_core.specs.Bodies.{after_long_body as after_long_body_lem};
 ghost use Rattle.session_core.specs.Talk.{end_events, body_events, long_body_events};
+ghost use Rattle.session_core.specs.Answers.{Follows};
 
 use crate::bodies::{Answer, Bodies, after_long_body, fed, gather, without_mark};
 use crate::fed_lines::feed_short_line;
 use keep_core::{Keeper, Sink};
 use repl_types::Refusal;
-use run_commands::feed::{end_feed, refuse_line};
+use run_commands::feed::{Feed, end_feed, refuse_line};
 use run_commands::load::load_text;
 use run_commands::parts::{RunError, refuse};
 use site_store::Sites;
@@ -33,14 +31,8 @@ pub fn end_bodies<K: Keeper, O: Sink>(
 ) -> Result<bool, RunError>
     requires closed { AllClosed (work K.kept sites.old) }
     requires bodies { IfFeed bodies.now IsFeed }
-    ensures ok { IfOk result (Happened K.kept sites.old sites.new (O.taken output.old)
-        (O.taken output.new) (end_events bodies.now)) }
-    ensures stopped { OnErr result (StoppedIn K.kept sites.old sites.new (O.taken output.old)
-        (O.taken output.new) (end_events bodies.now)) }
-    ensures servers { KeepsServers K.kept sites.old sites.new }
-    ensures cause { IfErr result (PartHasCause K.kept sites.old sites.new (O.faults output.old)
-        (O.faults output.new)) }
-    ensures counts { O.faults output.old ≤ O.faults output.new }
+    ensures { IsPart K.kept O.taken O.faults sites.old sites.new output.old output.new (end_events
+        bodies.now) (λ refused. refused) result }
 {
     match bodies {
         Bodies::Refused | Bodies::Skipped => Ok(false),
@@ -62,15 +54,10 @@ pub fn answer_body<K: Keeper, O: Sink>(
     requires closed { AllClosed (work K.kept sites.old) }
     requires bodies { KeepsBodies number bodies }
     requires few { number ≤ input_limit }
-    ensures ok { IfOk result (Answers K.kept sites.old sites.new (O.taken output.old)
-        (O.taken output.new) (body_events bodies number (drop 1 text.now))
-        (after_body bodies number (drop 1 text.now)) (number + 1)) }
-    ensures stopped { OnErr result (StoppedIn K.kept sites.old sites.new (O.taken output.old)
-        (O.taken output.new) (body_events bodies number (drop 1 text.now))) }
-    ensures servers { KeepsServers K.kept sites.old sites.new }
-    ensures cause { IfErr result (PartHasCause K.kept sites.old sites.new (O.faults output.old)
-        (O.faults output.new)) }
-    ensures counts { O.faults output.old ≤ O.faults output.new }
+    ensures part { IsPart K.kept O.taken O.faults sites.old sites.new output.old output.new
+        (body_events bodies number (drop 1 text.now)) (λ answer. answer.refused) result }
+    ensures bodies { IfOk result (Follows K.kept sites.old (after_body bodies number (drop 1
+        text.now)) (number + 1)) }
 {
     let line = without_mark(text);
     match bodies {
@@ -107,14 +94,8 @@ fn refuse_long_body<K: Keeper, O: Sink>(
 ) -> Result<bool, RunError>
     requires closed { AllClosed (work K.kept sites.old) }
     requires bodies { IfFeed bodies.now IsFeed }
-    ensures ok { IfOk result (Happened K.kept sites.old sites.new (O.taken output.old)
-        (O.taken output.new) (long_body_events bodies.now number)) }
-    ensures stopped { OnErr result (StoppedIn K.kept sites.old sites.new (O.taken output.old)
-        (O.taken output.new) (long_body_events bodies.now number)) }
-    ensures servers { KeepsServers K.kept sites.old sites.new }
-    ensures cause { IfErr result (PartHasCause K.kept sites.old sites.new (O.faults output.old)
-        (O.faults output.new)) }
-    ensures counts { O.faults output.old ≤ O.faults output.new }
+    ensures { IsPart K.kept O.taken O.faults sites.old sites.new output.old output.new
+        (long_body_events bodies.now number) (λ refused. refused) result }
 {
     match bodies {
         Bodies::Skipped => Ok(false),
@@ -123,8 +104,8 @@ fn refuse_long_body<K: Keeper, O: Sink>(
         }
         Bodies::Fed(feed) => {
             let refusal = Refusal::LineTooLong { line: number };
-            refuse_line(alloc, sites, output, feed, &refusal)?;
-            Ok(true)
+            let after: Option<Feed> = refuse_line(alloc, sites, output, feed, &refusal)?;
+            Ok(after.is_none())
         }
     }
 }
@@ -139,15 +120,10 @@ pub fn answer_long_body<K: Keeper, O: Sink>(
 ) -> Result<Answer, RunError>
     requires closed { AllClosed (work K.kept sites.old) }
     requires bodies { KeepsBodies number bodies.now }
-    ensures ok { IfOk result (Answers K.kept sites.old sites.new (O.taken output.old)
-        (O.taken output.new) (long_body_events bodies.now number)
-        (λ w. after_long_body_lem bodies.now) (number + 1)) }
-    ensures stopped { OnErr result (StoppedIn K.kept sites.old sites.new (O.taken output.old)
-        (O.taken output.new) (long_body_events bodies.now number)) }
-    ensures servers { KeepsServers K.kept sites.old sites.new }
-    ensures cause { IfErr result (PartHasCause K.kept sites.old sites.new (O.faults output.old)
-        (O.faults output.new)) }
-    ensures counts { O.faults output.old ≤ O.faults output.new }
+    ensures part { IsPart K.kept O.taken O.faults sites.old sites.new output.old output.new
+        (long_body_events bodies.now number) (λ answer. answer.refused) result }
+    ensures bodies { IfOk result (Follows K.kept sites.old (λ w. after_long_body_lem bodies.now)
+        (number + 1)) }
 {
     let refused = refuse_long_body(alloc, sites, output, bodies, number)?;
     Ok(Answer {

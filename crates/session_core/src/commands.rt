@@ -1,23 +1,21 @@
 //! The lines that ask for commands.
 
-ghost use Rattle.std.specs.Prelude.{◌≡◌, ◌≤◌, is_some, IfOk, IfErr, OnErr};
+ghost use Rattle.std.specs.Prelude.{◌≡◌, is_some, IfOk};
 ghost use Rattle.std.specs.Option.{option_map_or};
 ghost use Rattle.script_text.specs.Asked.{asked_by};
 ghost use Rattle.site_store.specs.Servers.{AllClosed};
 ghost use Rattle.site_store.specs.Views.{work};
-ghost use Rattle.site_store.specs.Calls.{KeepsServers};
-ghost use Rattle.run_commands.specs.parts.Causes.{PartHasCause};
 ghost use Rattle.session_core.specs.Commands.{begins_with_carried_out_verb as begins_with_lem};
 ghost use Rattle.session_core.specs.Commands.{bad_line_refusal as bad_line_refusal_lem};
 ghost use Rattle.session_core.specs.Commands.{command_events, command_line_events};
 ghost use Rattle.session_core.specs.Commands.{takes_no_body, talk_of};
-ghost use Rattle.session_core.specs.Answers.{Answers};
 ghost use Rattle.session_core.specs.Bodies.{after_asked, unfed as unfed_lem};
 ghost use Rattle.session_core.specs.Bodies.{after_bodiless as after_bodiless_lem};
 ghost use Rattle.session_core.specs.declared.bodies.Bodies.TheVariants.{Fed as FedBody, Skipped};
-ghost use Rattle.run_commands.specs.parts.Parts.{Happened, StoppedIn};
+ghost use Rattle.session_core.specs.Answers.{Follows};
 ghost use Rattle.run_commands.specs.parts.Refusing.{refused as refused_lem};
 ghost use Rattle.run_commands.specs.feed.FeedEvents.{begin_events, begun};
+ghost use Rattle.run_commands.specs.parts.Parts.{IsPart};
 
 use crate::bodies::{Answer, Bodies, fed, unfed};
 use keep_core::{Keeper, Sink};
@@ -117,14 +115,8 @@ fn run_command<K: Keeper, O: Sink>(
 ) -> Result<bool, RunError>
     requires closed { AllClosed (work K.kept sites.old) }
     requires bodiless { takes_no_body command }
-    ensures ok { IfOk result (Happened K.kept sites.old sites.new (O.taken output.old)
-        (O.taken output.new) (command_events number command)) }
-    ensures stopped { OnErr result (StoppedIn K.kept sites.old sites.new (O.taken output.old)
-        (O.taken output.new) (command_events number command)) }
-    ensures servers { KeepsServers K.kept sites.old sites.new }
-    ensures cause { IfErr result (PartHasCause K.kept sites.old sites.new (O.faults output.old)
-        (O.faults output.new)) }
-    ensures counts { O.faults output.old ≤ O.faults output.new }
+    ensures { IsPart K.kept O.taken O.faults sites.old sites.new output.old output.new
+        (command_events number command) (λ refused. refused) result }
 {
     match command {
         Command::Capture {
@@ -158,15 +150,10 @@ fn run_feed<K: Keeper, O: Sink>(
     server: Name,
 ) -> Result<Answer, RunError>
     requires { AllClosed (work K.kept sites.old) }
-    ensures ok { IfOk result (Answers K.kept sites.old sites.new (O.taken output.old)
-        (O.taken output.new) (begin_events server)
-        (λ w. option_map_or FedBody (begun server w) Skipped) 1) }
-    ensures stopped { OnErr result (StoppedIn K.kept sites.old sites.new (O.taken output.old)
-        (O.taken output.new) (begin_events server)) }
-    ensures servers { KeepsServers K.kept sites.old sites.new }
-    ensures cause { IfErr result (PartHasCause K.kept sites.old sites.new (O.faults output.old)
-        (O.faults output.new)) }
-    ensures counts { O.faults output.old ≤ O.faults output.new }
+    ensures part { IsPart K.kept O.taken O.faults sites.old sites.new output.old output.new
+        (begin_events server) (λ answer. answer.refused) result }
+    ensures bodies { IfOk result (Follows K.kept sites.old (λ w. option_map_or FedBody (begun server
+        w) Skipped) 1) }
 {
     let feed = begin_feed(alloc, sites, output, server)?;
     Ok(Answer {
@@ -186,15 +173,10 @@ fn run_unfed<K: Keeper, O: Sink>(
 ) -> Result<Answer, RunError>
     requires closed { AllClosed (work K.kept sites.old) }
     requires bodiless { takes_no_body command }
-    ensures ok { IfOk result (Answers K.kept sites.old sites.new (O.taken output.old)
-        (O.taken output.new) (command_events number command)
-        (λ w. after_bodiless_lem command line.now) 1) }
-    ensures stopped { OnErr result (StoppedIn K.kept sites.old sites.new (O.taken output.old)
-        (O.taken output.new) (command_events number command)) }
-    ensures servers { KeepsServers K.kept sites.old sites.new }
-    ensures cause { IfErr result (PartHasCause K.kept sites.old sites.new (O.faults output.old)
-        (O.faults output.new)) }
-    ensures counts { O.faults output.old ≤ O.faults output.new }
+    ensures part { IsPart K.kept O.taken O.faults sites.old sites.new output.old output.new
+        (command_events number command) (λ answer. answer.refused) result }
+    ensures bodies { IfOk result (Follows K.kept sites.old (λ w. after_bodiless_lem command
+        line.now) 1) }
 {
     let bodies = after_bodiless(&command, line);
     let refused = run_command(alloc, sites, output, number, command)?;
@@ -210,13 +192,9 @@ fn refuse_unfed<K: Keeper, O: Sink>(
     refusal: &Refusal,
 ) -> Result<Answer, RunError>
     requires { AllClosed (work K.kept sites.now) }
-    ensures ok { IfOk result (Answers K.kept sites.now sites.now (O.taken output.old)
-        (O.taken output.new) (λ w. refused_lem refusal.now) (λ w. unfed_lem line.now) 1) }
-    ensures stopped { OnErr result (StoppedIn K.kept sites.now sites.now (O.taken output.old)
-        (O.taken output.new) (λ w. refused_lem refusal.now)) }
-    ensures cause { IfErr result (PartHasCause K.kept sites.now sites.now (O.faults output.old)
-        (O.faults output.new)) }
-    ensures counts { O.faults output.old ≤ O.faults output.new }
+    ensures part { IsPart K.kept O.taken O.faults sites.now sites.now output.old output.new
+        (λ w. refused_lem refusal.now) (λ answer. answer.refused) result }
+    ensures bodies { IfOk result (Follows K.kept sites.now (λ w. unfed_lem line.now) 1) }
 {
     let refused = refuse(alloc, output, refusal)?;
     Ok(Answer {
@@ -235,15 +213,10 @@ pub fn run_line<K: Keeper, O: Sink>(
     line: &[u8],
 ) -> Result<Answer, RunError>
     requires { AllClosed (work K.kept sites.old) }
-    ensures ok { IfOk result (Answers K.kept sites.old sites.new (O.taken output.old)
-        (O.taken output.new) (command_line_events number line.now)
-        (after_asked line.now (asked_by line.now)) 1) }
-    ensures stopped { OnErr result (StoppedIn K.kept sites.old sites.new (O.taken output.old)
-        (O.taken output.new) (command_line_events number line.now)) }
-    ensures servers { KeepsServers K.kept sites.old sites.new }
-    ensures cause { IfErr result (PartHasCause K.kept sites.old sites.new (O.faults output.old)
-        (O.faults output.new)) }
-    ensures counts { O.faults output.old ≤ O.faults output.new }
+    ensures part { IsPart K.kept O.taken O.faults sites.old sites.new output.old output.new
+        (command_line_events number line.now) (λ answer. answer.refused) result }
+    ensures bodies { IfOk result (Follows K.kept sites.old (after_asked line.now (asked_by
+        line.now)) 1) }
 {
     match read_line(alloc, line) {
         Ok(Command::Load) => Ok(Answer {

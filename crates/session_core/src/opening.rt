@@ -1,16 +1,9 @@
 //! The run that the words ask for.
 
-ghost use Rattle.std.specs.Prelude.{◌≡◌, IfOk, IfErr, OnErr};
-ghost use Rattle.repl_model.specs.World.{World};
-ghost use Rattle.run_core.specs.Runs.{Went, Stopped, is_refused};
 ghost use Rattle.site_store.specs.Servers.{AllClosed};
-ghost use Rattle.site_store.specs.Calls.{KeepsServers};
-ghost use Rattle.site_store.specs.Views.{names, held, work};
-ghost use Rattle.run_commands.specs.parts.Causes.{BlamesServers, HasEnded};
-ghost use Rattle.run_commands.specs.parts.ExitStatus.{status_of_error};
-ghost use Rattle.world_store.specs.Stands.{Stands};
-ghost use Rattle.session_core.specs.Inputs.{OfInput};
+ghost use Rattle.site_store.specs.Views.{work};
 ghost use Rattle.session_core.specs.Session.{run_events};
+ghost use Rattle.session_core.specs.Reading.{IsReading};
 
 use crate::copy::copy_items;
 use crate::script::run_script;
@@ -30,20 +23,8 @@ pub fn run_opening<K: Keeper, I: Source, O: Sink>(
     output: &mut O,
 ) -> Result<bool, RunError>
     requires { AllClosed (work K.kept sites.old) }
-    ensures ok { IfOk result (λ refused. (w : World)
-        → Stands (names sites.old) (held K.kept sites.old) w → OfInput (I.left input.old) (λ bytes.
-        Went (Stands (names sites.old)) (run_events opening.now bytes w) w (held K.kept sites.new)
-        (O.taken output.old) (O.taken output.new)
-        × (refused ≡ is_refused (run_events opening.now bytes w)))) }
-    ensures stopped { OnErr result ((w : World)
-        → Stands (names sites.old) (held K.kept sites.old) w → OfInput (I.left input.old) (λ bytes.
-        Stopped (Stands (names sites.old)) (run_events opening.now bytes w) w
-        (held K.kept sites.new) (O.taken output.old) (O.taken output.new))) }
-    ensures ended { HasEnded (I.left input.old) (I.left input.new) (I.faults input.old)
-        (I.faults input.new) (O.faults output.old) (O.faults output.new) result }
-    ensures servers { KeepsServers K.kept sites.old sites.new }
-    ensures cause { IfErr result (λ e.
-        BlamesServers K.kept sites.old sites.new (status_of_error e)) }
+    ensures { IsReading K.kept I.left I.faults O.taken O.faults sites.old sites.new input.old
+        input.new output.old output.new (run_events opening.now) result }
 {
     match opening {
         Opening::Copy => copy_items(alloc, sites, input, output),

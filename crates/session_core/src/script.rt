@@ -1,22 +1,16 @@
 //! The run of a script, line by line.
 
-ghost use Rattle.std.specs.Prelude.{◌≡◌, ◌≤◌, ◌+◌, IfOk, IfErr, OnErr};
+ghost use Rattle.std.specs.Prelude.{◌≤◌, ◌+◌, IfOk};
 ghost use Rattle.line_input.specs.Limits.{input_limit};
-ghost use Rattle.repl_model.specs.World.{World};
-ghost use Rattle.run_core.specs.Runs.{Went, Stopped, is_refused};
 ghost use Rattle.line_input.specs.Lines.{command, long_command};
 ghost use Rattle.line_input.specs.Script.{line_of};
 ghost use Rattle.site_store.specs.Servers.{AllClosed};
-ghost use Rattle.site_store.specs.Views.{names, held, work};
-ghost use Rattle.site_store.specs.Calls.{KeepsServers};
-ghost use Rattle.world_store.specs.Stands.{Stands};
-ghost use Rattle.run_commands.specs.parts.Causes.{BlamesServers, HasEnded, PartHasCause};
-ghost use Rattle.run_commands.specs.parts.ExitStatus.{status_of_error};
-ghost use Rattle.run_commands.specs.parts.Parts.{StoppedIn};
-ghost use Rattle.session_core.specs.Answers.{Answers};
+ghost use Rattle.site_store.specs.Views.{work};
 ghost use Rattle.session_core.specs.Bodies.{KeepsBodies};
-ghost use Rattle.session_core.specs.Inputs.{OfInput};
 ghost use Rattle.session_core.specs.Talk.{line_events, bodies_after, script_events};
+ghost use Rattle.session_core.specs.Answers.{Follows};
+ghost use Rattle.session_core.specs.Reading.{IsReading};
+ghost use Rattle.run_commands.specs.parts.Parts.{IsPart};
 
 use crate::bodies::{Answer, Bodies};
 use crate::body_lines::{answer_body, answer_long_body, end_bodies};
@@ -39,15 +33,10 @@ fn answer_command<K: Keeper, O: Sink>(
 ) -> Result<Answer, RunError>
     requires closed { AllClosed (work K.kept sites.old) }
     requires bodies { KeepsBodies number bodies.now }
-    ensures ok { IfOk result (Answers K.kept sites.old sites.new (O.taken output.old)
-        (O.taken output.new) (line_events bodies.now number (command line.now))
-        (bodies_after bodies.now number (command line.now)) (number + 1)) }
-    ensures stopped { OnErr result (StoppedIn K.kept sites.old sites.new (O.taken output.old)
-        (O.taken output.new) (line_events bodies.now number (command line.now))) }
-    ensures servers { KeepsServers K.kept sites.old sites.new }
-    ensures cause { IfErr result (PartHasCause K.kept sites.old sites.new (O.faults output.old)
-        (O.faults output.new)) }
-    ensures counts { O.faults output.old ≤ O.faults output.new }
+    ensures part { IsPart K.kept O.taken O.faults sites.old sites.new output.old output.new
+        (line_events bodies.now number (command line.now)) (λ answer. answer.refused) result }
+    ensures bodies { IfOk result (Follows K.kept sites.old (bodies_after bodies.now number (command
+        line.now)) (number + 1)) }
 {
     let ended = end_bodies(alloc, sites, output, bodies)?;
     let answer = run_line(alloc, sites, output, number, line)?;
@@ -68,15 +57,10 @@ fn answer_long_command<K: Keeper, O: Sink>(
 ) -> Result<Answer, RunError>
     requires closed { AllClosed (work K.kept sites.old) }
     requires bodies { KeepsBodies number bodies.now }
-    ensures ok { IfOk result (Answers K.kept sites.old sites.new (O.taken output.old)
-        (O.taken output.new) (line_events bodies.now number long_command)
-        (bodies_after bodies.now number long_command) (number + 1)) }
-    ensures stopped { OnErr result (StoppedIn K.kept sites.old sites.new (O.taken output.old)
-        (O.taken output.new) (line_events bodies.now number long_command)) }
-    ensures servers { KeepsServers K.kept sites.old sites.new }
-    ensures cause { IfErr result (PartHasCause K.kept sites.old sites.new (O.faults output.old)
-        (O.faults output.new)) }
-    ensures counts { O.faults output.old ≤ O.faults output.new }
+    ensures part { IsPart K.kept O.taken O.faults sites.old sites.new output.old output.new
+        (line_events bodies.now number long_command) (λ answer. answer.refused) result }
+    ensures bodies { IfOk result (Follows K.kept sites.old (bodies_after bodies.now number
+        long_command) (number + 1)) }
 {
     let ended = end_bodies(alloc, sites, output, bodies)?;
     let refused = refuse(alloc, output, &Refusal::LineTooLong { line: number })?;
@@ -99,15 +83,10 @@ fn answer_line<K: Keeper, O: Sink>(
     requires closed { AllClosed (work K.kept sites.old) }
     requires bodies { KeepsBodies number bodies }
     requires few { number ≤ input_limit }
-    ensures ok { IfOk result (Answers K.kept sites.old sites.new (O.taken output.old)
-        (O.taken output.new) (line_events bodies number (line_of kind text.now))
-        (bodies_after bodies number (line_of kind text.now)) (number + 1)) }
-    ensures stopped { OnErr result (StoppedIn K.kept sites.old sites.new (O.taken output.old)
-        (O.taken output.new) (line_events bodies number (line_of kind text.now))) }
-    ensures servers { KeepsServers K.kept sites.old sites.new }
-    ensures cause { IfErr result (PartHasCause K.kept sites.old sites.new (O.faults output.old)
-        (O.faults output.new)) }
-    ensures counts { O.faults output.old ≤ O.faults output.new }
+    ensures part { IsPart K.kept O.taken O.faults sites.old sites.new output.old output.new
+        (line_events bodies number (line_of kind text.now)) (λ answer. answer.refused) result }
+    ensures bodies { IfOk result (Follows K.kept sites.old (bodies_after bodies number (line_of kind
+        text.now)) (number + 1)) }
 {
     match kind {
         LineKind::Command => answer_command(alloc, sites, output, &bodies, number, text),
@@ -126,20 +105,8 @@ pub fn run_script<K: Keeper, I: Source, O: Sink>(
     output: &mut O,
 ) -> Result<bool, RunError>
     requires { AllClosed (work K.kept sites.old) }
-    ensures ok { IfOk result (λ refused. (w : World)
-        → Stands (names sites.old) (held K.kept sites.old) w → OfInput (I.left input.old) (λ bytes.
-        Went (Stands (names sites.old)) (script_events bytes w) w (held K.kept sites.new)
-        (O.taken output.old) (O.taken output.new)
-        × (refused ≡ is_refused (script_events bytes w)))) }
-    ensures stopped { OnErr result ((w : World)
-        → Stands (names sites.old) (held K.kept sites.old) w → OfInput (I.left input.old) (λ bytes.
-        Stopped (Stands (names sites.old)) (script_events bytes w) w (held K.kept sites.new)
-        (O.taken output.old) (O.taken output.new))) }
-    ensures ended { HasEnded (I.left input.old) (I.left input.new) (I.faults input.old)
-        (I.faults input.new) (O.faults output.old) (O.faults output.new) result }
-    ensures servers { KeepsServers K.kept sites.old sites.new }
-    ensures cause { IfErr result (λ e.
-        BlamesServers K.kept sites.old sites.new (status_of_error e)) }
+    ensures { IsReading K.kept I.left I.faults O.taken O.faults sites.old sites.new input.old
+        input.new output.old output.new script_events result }
 {
     let mut script = Script::new(alloc)?;
     let mut bodies = Bodies::Refused;

@@ -1,7 +1,7 @@
 //! Any reader as the input of a run, and any writer as its output: the standard streams are.
 //!
-//! A call that a signal interrupts is made again. An error that isn't about memory counts as a
-//! fault. The bytes aren't revealed, so no clause of a run can say what it has read and written.
+//! A call that a signal interrupts is made again, 16 times in all. An error that isn't about memory
+//! counts as a fault. The bytes aren't revealed, so no clause says which were read and written.
 //!
 //! It stands on `keep_core`, whose `Source` and `Sink` these are. `sqlrep` runs over them.
 //!
@@ -21,7 +21,7 @@ use keep_core::{ReadError, Sink, Source};
 use std::io;
 use std::io::ErrorKind;
 
-/// How often a call is made that a signal interrupts.
+/// How often a call is made at most that a signal interrupts.
 const TRIES: usize = 16;
 
 /// A reader as a source. It doesn't reveal its bytes.

@@ -38,13 +38,13 @@ tagged (Abort tx) = refl
 untagged : (bytes : List ℕ) → is_tag (slice_index bytes 0) ≡ false → NoRecord bytes
 untagged bytes other x fit e = let tag = ap (λ (bs : List ℕ). is_tag (slice_index bs 0)) e ∙ tagged x in absurd cc
 
--- nothing starts of a table whose name is none
+-- a start of what is no name is no record
 no_start : (name : List ℕ) → is_name name ≡ false → NoRecord (0x16 ∷ b32 0 ++ short_text name)
 unfolding b32
 no_start name other (Change tx (Start table)) fit e = let named = ap is_name (ap (drop 6) e) ∙ fit.1 in absurd cc
 no_start name other x fit e = absurd (other_tag _ _ _ _ e refl)
 
--- nothing is deleted that is no row
+-- nor is a delete of what is no row
 no_delete : (bytes : List ℕ) → NoRow bytes → NoRecord (0x13 ∷ b32 7 ++ short_text (codes "t") ++ bytes)
 unfolding b32
 no_delete bytes none (Change tx (Delete table row)) fit e =
@@ -56,7 +56,7 @@ no_origin : (from : Option SetId) (bytes : List ℕ) → 2 ∷ bytes ≢ origin 
 no_origin None bytes e = other_tag _ _ _ _ e refl
 no_origin (Some set) bytes e = other_tag _ _ _ _ e refl
 
--- nothing is committed whose origin is none
+-- so a commit with it is no record
 no_commit : (bytes : List ℕ) → NoRecord (0x14 ∷ b32 7 ++ b64 60 ++ short_text (codes "ann") ++ 2 ∷ bytes)
 unfolding b32 b64
 no_commit bytes (Commit tx time authid from) fit e =

@@ -1,5 +1,5 @@
 -- What came of one step of a set, as a part of a run.
-use Rattle.std.specs.Prelude.{◌≡◌, ◌+◌, ℕ, List, [], Option, Some}
+use Rattle.std.specs.Prelude.{◌≡◌, ◌+◌, ℕ, Bool, true, false, List, [], Option, Some}
 use Rattle.repl_types.specs.declared.area.Area.TheVariants as areas
 use Rattle.repl_types.specs.declared.record.SetId.{SetId}
 use Rattle.repl_types.specs.declared.status.DamageCause.TheVariants as causes
@@ -9,12 +9,10 @@ use Rattle.keep_core.specs.Kept.{Kept}
 use Rattle.keep_core.specs.Revealed.{Takes}
 use Rattle.repl_model.specs.World.{World, KnownSet, known_set}
 use Rattle.reply_text.specs.Steps.{step_line}
-use Rattle.run_core.specs.Runs.{Event, Went, Stopped}
+use Rattle.run_core.specs.Runs.{Event}
 use Rattle.site_store.specs.Views.{names, held}
 use Rattle.site_store.specs.declared.sites.Sites.{Sites}
 use Rattle.world_store.specs.Stands.{Stands}
-use Rattle.set_places.specs.Places.{IsPlacedAs}
-use Rattle.set_places.specs.declared.placed_set.PlacedSet.{PlacedSet}
 use Rattle.run_commands.specs.apply.StepEvents.{Outcome, declines, rests, makes, events_of}
 use Rattle.run_commands.specs.declared.apply.steps.Progress.{Progress}
 use Rattle.run_commands.specs.declared.parts.run_error.RunError.{RunError}
@@ -27,7 +25,13 @@ progress_of (declines refusal) = Refused
 progress_of rests = Rested
 progress_of (makes v line) = Made
 
--- the same of what a step answered
+-- it was refused
+abbrev pub is_refusal : Progress → Bool
+is_refusal Refused = true
+is_refusal Rested = false
+is_refusal Made = false
+
+-- which of the three came of what a step answered
 abbrev pub progress_told : Stepped → Progress
 progress_told steps.Idle = Rested
 progress_told other = Made
@@ -62,23 +66,6 @@ TellsNoRest before now source e = Unit {0}
 abbrev pub step_of : Outcome → List (Event World)
 step_of = events_of [] (λ v. [])
 
-module _ {K : Type 0} (kept : K → Kept) (old new : Sites K) (before now : Option (List ℕ)) where
-  -- from a world on, a step came to this: its events happened, and the answer says which it was; at rest nothing was done
-  abbrev pub Progressed : World → Outcome → Progress → Type 0
-  Progressed w outcome progress = Went (Stands (names old)) (step_of outcome) w (held kept new) before now × (progress ≡ progress_of outcome)
-
-  -- it stopped on its way
-  abbrev pub StoppedStep : World → Outcome → Type 0
-  StoppedStep w outcome = Stopped (Stands (names old)) (step_of outcome) w (held kept new) before now
-
--- in each world for which servers stand, the set that was found stands as it was found
-abbrev pub IsKnown : {K : Type 0} → (K → Kept) → Sites K → PlacedSet → Type 0
-IsKnown kept sites set = (w : World) → Stands (names sites) (held kept sites) w → (k : KnownSet) × IsPlacedAs w k set
-
--- the same of what is said of the set that was found, in each such world
-abbrev pub ForKnown : {K : Type 0} → (K → Kept) → Sites K → PlacedSet → (World → KnownSet → Type 0) → Type 0
-ForKnown kept sites set says = (w : World) (k : KnownSet) → Stands (names sites) (held kept sites) w → IsPlacedAs w k set → says w k
-
--- there the set of a name is known, and makes at most so many steps
+-- in each world for which servers stand, the set of a name is known, and makes at most so many steps
 abbrev pub MayMake : {K : Type 0} → (K → Kept) → Sites K → SetId → ℕ → Type 0
 MayMake kept sites id most = (w : World) → Stands (names sites) (held kept sites) w → (k : KnownSet) × (known_set w id ≡ Some k) × (most ≡ k.source.captured + 5)

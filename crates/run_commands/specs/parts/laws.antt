@@ -1,3 +1,4 @@
+pub mod Composing
 pub mod Damage
 pub mod Exits
 pub mod Lines

@@ -1,19 +1,18 @@
 //! The steps of a set, until there is nothing to do.
 
-ghost use Rattle.std.specs.Prelude.{◌≡◌, ◌<◌, ◌≤◌, ℕ, Some, IfOk, IfErr, OnOk, OnErr, length};
+ghost use Rattle.std.specs.Prelude.{◌<◌, Some, IfErr, length, false};
 ghost use Rattle.repl_model.specs.World.{World};
+ghost use Rattle.reply_text.specs.Replies.{reply_line};
+ghost use Rattle.reply_text.specs.declared.reply.Reply.TheVariants as replies;
 ghost use Rattle.site_store.specs.Servers.{AllClosed};
 ghost use Rattle.site_store.specs.Views.{names, held, work};
-ghost use Rattle.site_store.specs.Calls.{KeepsServers};
-ghost use Rattle.site_store.specs.one_server.Calls.{Looks};
 ghost use Rattle.world_store.specs.Stands.{Stands};
 ghost use Rattle.set_places.specs.Places.{IsPlaced, IsKnownAs};
-ghost use Rattle.run_commands.specs.parts.Causes.{PartHasCause, FoundByRead};
-ghost use Rattle.run_commands.specs.parts.Parts.{Happened, StoppedIn};
-ghost use Rattle.run_commands.specs.apply.Progress.{IsKnown, MayMake, TellsNoRest};
-ghost use Rattle.apply_cycle.specs.Cycling.{MakesAtMost};
+ghost use Rattle.run_commands.specs.parts.Causes.{FoundByRead};
+ghost use Rattle.run_commands.specs.apply.Progress.{MayMake, TellsNoRest};
 ghost use Rattle.set_places.specs.declared.placed_set.PlacedSet.{PlacedSet};
 ghost use Rattle.run_commands.specs.apply.StepEvents.{apply_events};
+ghost use Rattle.run_commands.specs.parts.Parts.{IsPart, WritesLine};
 
 use crate::apply::steps::{Progress, make_step};
 use crate::parts::{RunError, error_of_fault, refuse_set, reply};
@@ -26,23 +25,14 @@ use site_store::Sites;
 use std::alloc::Global;
 use world_commits::next_actions_come_to_rest;
 
-/// How many steps a set that was found makes at most. Nothing is changed.
-fn most_of<K: Keeper>(alloc: Global, sites: &mut Sites<K>, set: &PlacedSet) -> Result<u64, RunError>
-    requires placed { IsPlaced K.kept sites.old set.now }
-    requires known { IsKnown K.kept sites.old set.now }
-    requires closed { AllClosed (work K.kept sites.old) }
-    ensures ok { OnOk result (Looks K.kept sites.old sites.new) }
-    ensures most { IfOk result (MakesAtMost K.kept sites.old set.now) }
-    ensures stopped { OnErr result (held K.kept sites.new ≡ held K.kept sites.old) }
-    ensures read { IfErr result FoundByRead }
-    ensures servers { KeepsServers K.kept sites.old sites.new }
-    ensures cause { (count : ℕ)
-        → IfErr result (PartHasCause K.kept sites.old sites.new count count) }
+/// Writes the line that says how many steps were made, and says that nothing was refused. After an
+/// error a prefix of it was taken.
+fn write_applied<O: Sink>(alloc: Global, output: &mut O, steps: u64) -> Result<bool, RunError>
+    ensures { WritesLine O.taken O.faults output.old output.new (reply_line (replies.Applied steps))
+        false result }
 {
-    match most_steps(sites, alloc, set) {
-        Ok(most) => Ok(most),
-        Err(fault) => Err(error_of_fault(fault)),
-    }
+    reply(alloc, output, &Reply::Applied { steps })?;
+    Ok(false)
 }
 
 /// Makes the steps of the set of a name, which is placed at a source and makes at most so many
@@ -59,25 +49,16 @@ fn make_steps<K: Keeper, O: Sink>(
     requires closed { AllClosed (work K.kept sites.old) }
     requires most { MayMake K.kept sites.old id.now most }
     requires source { source < length (names sites.old) }
-    ensures ok { IfOk result (Happened K.kept sites.old sites.new (O.taken output.old)
-        (O.taken output.new) (apply_events number id.now)) }
-    ensures stopped { OnErr result (StoppedIn K.kept sites.old sites.new (O.taken output.old)
-        (O.taken output.new) (apply_events number id.now)) }
+    ensures part { IsPart K.kept O.taken O.faults sites.old sites.new output.old output.new
+        (apply_events number id.now) (λ refused. refused) result }
     ensures no_rest { IfErr result (TellsNoRest (O.taken output.old) (O.taken output.new) source) }
-    ensures servers { KeepsServers K.kept sites.old sites.new }
-    ensures cause { IfErr result (PartHasCause K.kept sites.old sites.new (O.faults output.old)
-        (O.faults output.new)) }
-    ensures counts { O.faults output.old ≤ O.faults output.new }
 {
     next_actions_come_to_rest();
     for steps in 0..most {
         match make_step(alloc, sites, output, number, id)? {
             Progress::Refused => return Ok(true),
             Progress::Made => {}
-            Progress::Rested => {
-                reply(alloc, output, &Reply::Applied { steps })?;
-                return Ok(false);
-            }
+            Progress::Rested => return write_applied(alloc, output, steps),
         }
     }
     Err(RunError::Damaged {
@@ -100,18 +81,15 @@ fn apply_found<K: Keeper, O: Sink>(
     requires known { (w : World) → Stands (names sites.old) (held K.kept sites.old) w
         → IsKnownAs w id.now (Some set.now) }
     requires closed { AllClosed (work K.kept sites.old) }
-    ensures ok { IfOk result (Happened K.kept sites.old sites.new (O.taken output.old)
-        (O.taken output.new) (apply_events number id.now)) }
-    ensures stopped { OnErr result (StoppedIn K.kept sites.old sites.new (O.taken output.old)
-        (O.taken output.new) (apply_events number id.now)) }
+    ensures part { IsPart K.kept O.taken O.faults sites.old sites.new output.old output.new
+        (apply_events number id.now) (λ refused. refused) result }
     ensures no_rest { IfErr result (TellsNoRest (O.taken output.old) (O.taken output.new)
         set.now.source) }
-    ensures servers { KeepsServers K.kept sites.old sites.new }
-    ensures cause { IfErr result (PartHasCause K.kept sites.old sites.new (O.faults output.old)
-        (O.faults output.new)) }
-    ensures counts { O.faults output.old ≤ O.faults output.new }
 {
-    let most = most_of(alloc, sites, set)?;
+    let most = match most_steps(sites, alloc, set) {
+        Ok(most) => most,
+        Err(fault) => return Err(error_of_fault(fault)),
+    };
     make_steps(alloc, sites, output, number, id, set.source, most)
 }
 
@@ -127,17 +105,11 @@ pub fn apply_set<K: Keeper, O: Sink>(
     id: &SetId,
 ) -> Result<bool, RunError>
     requires { AllClosed (work K.kept sites.old) }
-    ensures ok { IfOk result (Happened K.kept sites.old sites.new (O.taken output.old)
-        (O.taken output.new) (apply_events number id.now)) }
-    ensures stopped { OnErr result (StoppedIn K.kept sites.old sites.new (O.taken output.old)
-        (O.taken output.new) (apply_events number id.now)) }
+    ensures part { IsPart K.kept O.taken O.faults sites.old sites.new output.old output.new
+        (apply_events number id.now) (λ refused. refused) result }
     ensures no_rest { IfErr result (λ e. ¬ (FoundByRead e) → (set : PlacedSet)
         × IsPlaced K.kept sites.old set
         × TellsNoRest (O.taken output.old) (O.taken output.new) set.source e) }
-    ensures servers { KeepsServers K.kept sites.old sites.new }
-    ensures cause { IfErr result (PartHasCause K.kept sites.old sites.new (O.faults output.old)
-        (O.faults output.new)) }
-    ensures counts { O.faults output.old ≤ O.faults output.new }
 {
     let found = match find_set(sites, alloc, id) {
         Ok(found) => found,

@@ -1,26 +1,26 @@
 //! One step of a set.
 
-ghost use Rattle.std.specs.Prelude.{◌≡◌, ◌≤◌, IsTrue, Some, IfOk, IfErr, OnOk, OnErr};
+ghost use Rattle.std.specs.Prelude.{◌≡◌, IsTrue, Some, IfOk, IfErr, List, false};
 ghost use Rattle.repl_types.specs.declared.refusal.Refusal.TheVariants as refusals;
 ghost use Rattle.repl_model.specs.NextActions.{next_action};
 ghost use Rattle.repl_model.specs.World.{World};
-ghost use Rattle.keep_core.specs.Revealed.{Takes, TakesPrefix};
 ghost use Rattle.reply_text.specs.Steps.{step_line};
-ghost use Rattle.run_core.specs.Runs.{lines_of};
+ghost use Rattle.repl_types.specs.declared.fault.Stepped.TheVariants as steps;
+ghost use Rattle.run_core.specs.Runs.{Event};
 ghost use Rattle.site_store.specs.Servers.{AllClosed};
 ghost use Rattle.site_store.specs.Views.{names, held, work};
-ghost use Rattle.site_store.specs.Calls.{KeepsServers};
 ghost use Rattle.world_store.specs.Stands.{Stands};
-ghost use Rattle.set_places.specs.Places.{IsPlaced, ForSet};
-ghost use Rattle.run_commands.specs.parts.Causes.{PartHasCause, FoundByRead, IsOfOutput};
-ghost use Rattle.run_commands.specs.parts.Parts.{Happened, StoppedIn};
+ghost use Rattle.set_places.specs.Places.{IsPlaced};
+ghost use Rattle.run_commands.specs.parts.Causes.{FoundByRead};
 ghost use Rattle.run_commands.specs.apply.StepEvents.{is_carried_out as is_carried_out_lem};
 ghost use Rattle.run_commands.specs.apply.StepEvents.{outcome_of, next_outcome};
 ghost use Rattle.run_commands.specs.apply.StepEvents.{outcome, step_events};
 ghost use Rattle.run_commands.specs.parts.Refusing.{refused};
 ghost use Rattle.run_commands.specs.declared.apply.steps.Progress.TheVariants.{Refused};
-ghost use Rattle.run_commands.specs.apply.Progress.{Progressed, StoppedStep, IsKnown, ForKnown};
+ghost use Rattle.run_commands.specs.apply.Progress.{step_of, progress_of, is_refusal};
 ghost use Rattle.run_commands.specs.apply.Progress.{progress_told, line_told, TakesStep};
+ghost use Rattle.run_commands.specs.parts.Parts.{IsPart, WritesLine, WritesRefusal};
+ghost use Rattle.run_commands.specs.parts.Found.{IsKnownWith, ForKnown};
 
 use crate::parts::{RunError, error_of_fault, refuse, refuse_set};
 use apply_copies::CopyTargets;
@@ -62,12 +62,8 @@ fn write_stepped<O: Sink>(
     source: &Name,
     stepped: &Stepped,
 ) -> Result<(), RunError>
-    ensures ok { OnOk result (Takes (O.taken output.old) (O.taken output.new)
-        (step_line source.now stepped.now)) }
-    ensures stopped { OnErr result (TakesPrefix (O.taken output.old) (O.taken output.new)
-        (step_line source.now stepped.now)) }
-    ensures cause { IfErr result (IsOfOutput (O.faults output.old) (O.faults output.new)) }
-    ensures counts { O.faults output.old ≤ O.faults output.new }
+    ensures { WritesLine O.taken O.faults output.old output.new (step_line source.now stepped.now)
+        tt result }
 {
     let mut line = Vec::new(alloc);
     write_step(source, stepped, &mut line)?;
@@ -83,12 +79,8 @@ fn tell_step<O: Sink>(
     source: &Name,
     stepped: &Stepped,
 ) -> Result<Progress, RunError>
-    ensures ok { IfOk result (λ progress. (progress ≡ progress_told stepped.now)
-        × Takes (O.taken output.old) (O.taken output.new) (line_told source.now stepped.now)) }
-    ensures stopped { OnErr result (TakesPrefix (O.taken output.old) (O.taken output.new)
-        (line_told source.now stepped.now)) }
-    ensures cause { IfErr result (IsOfOutput (O.faults output.old) (O.faults output.new)) }
-    ensures counts { O.faults output.old ≤ O.faults output.new }
+    ensures { WritesLine O.taken O.faults output.old output.new (line_told source.now stepped.now)
+        (progress_told stepped.now) result }
 {
     match stepped {
         Stepped::Idle => Ok(Progress::Rested),
@@ -105,12 +97,7 @@ fn refuse_step<O: Sink>(
     output: &mut O,
     refusal: &Refusal,
 ) -> Result<Progress, RunError>
-    ensures ok { IfOk result (λ progress. (progress ≡ Refused)
-        × Takes (O.taken output.old) (O.taken output.new) (lines_of (refused refusal.now))) }
-    ensures stopped { OnErr result (TakesPrefix (O.taken output.old) (O.taken output.new)
-        (lines_of (refused refusal.now))) }
-    ensures cause { IfErr result (IsOfOutput (O.faults output.old) (O.faults output.new)) }
-    ensures counts { O.faults output.old ≤ O.faults output.new }
+    ensures { WritesRefusal O.taken O.faults output.old output.new refusal.now Refused result }
 {
     refuse(alloc, output, refusal)?;
     Ok(Progress::Refused)
@@ -124,21 +111,17 @@ fn make_found<K: Keeper, O: Sink>(
     set: &PlacedSet,
 ) -> Result<Progress, RunError>
     requires placed { IsPlaced K.kept sites.old set.now }
-    requires known { IsKnown K.kept sites.old set.now }
     requires carried_out { IsTrue (is_carried_out_lem set.now.at_target.def) }
     requires closed { AllClosed (work K.kept sites.old) }
-    ensures ok { IfOk result (λ progress. ForSet K.kept sites.old set.now (λ w k.
-        Progressed K.kept sites.old sites.new (O.taken output.old) (O.taken output.new) w
-        (outcome_of w k (next_action k)) progress)) }
-    ensures stopped { OnErr result (ForSet K.kept sites.old set.now (λ w k.
-        StoppedStep K.kept sites.old sites.new (O.taken output.old) (O.taken output.new) w
-        (outcome_of w k (next_action k)))) }
+    ensures part { (events : World → List (Event World))
+        → IsKnownWith K.kept sites.old set.now
+        (λ w k. events w ≡ step_of (outcome_of w k (next_action k)))
+        → IsPart K.kept O.taken O.faults sites.old sites.new output.old output.new events is_refusal
+        result }
+    ensures progress { IfOk result (λ progress. ForKnown K.kept sites.old set.now
+        (λ w k. progress ≡ progress_of (outcome_of w k (next_action k)))) }
     ensures lines { IfOk result (TakesStep (O.taken output.old) (O.taken output.new)) }
     ensures read { IfErr result FoundByRead }
-    ensures servers { KeepsServers K.kept sites.old sites.new }
-    ensures cause { IfErr result (PartHasCause K.kept sites.old sites.new (O.faults output.old)
-        (O.faults output.new)) }
-    ensures counts { O.faults output.old ≤ O.faults output.new }
 {
     match step(sites, alloc, set, &mut CopyTargets) {
         Ok(stepped) => tell_step(alloc, output, &set.at_source.def.source, &stepped),
@@ -157,20 +140,15 @@ fn step_found<K: Keeper, O: Sink>(
     set: &PlacedSet,
 ) -> Result<Progress, RunError>
     requires placed { IsPlaced K.kept sites.old set.now }
-    requires known { IsKnown K.kept sites.old set.now }
     requires closed { AllClosed (work K.kept sites.old) }
-    ensures ok { IfOk result (λ progress. ForKnown K.kept sites.old set.now (λ w k.
-        Progressed K.kept sites.old sites.new (O.taken output.old) (O.taken output.new) w
-        (next_outcome number w k) progress)) }
-    ensures stopped { OnErr result (ForKnown K.kept sites.old set.now (λ w k.
-        StoppedStep K.kept sites.old sites.new (O.taken output.old) (O.taken output.new) w
-        (next_outcome number w k))) }
+    ensures part { (events : World → List (Event World))
+        → IsKnownWith K.kept sites.old set.now (λ w k. events w ≡ step_of (next_outcome number w k))
+        → IsPart K.kept O.taken O.faults sites.old sites.new output.old output.new events is_refusal
+        result }
+    ensures progress { IfOk result (λ progress. ForKnown K.kept sites.old set.now
+        (λ w k. progress ≡ progress_of (next_outcome number w k))) }
     ensures lines { IfOk result (TakesStep (O.taken output.old) (O.taken output.new)) }
     ensures read { IfErr result FoundByRead }
-    ensures servers { KeepsServers K.kept sites.old sites.new }
-    ensures cause { IfErr result (PartHasCause K.kept sites.old sites.new (O.faults output.old)
-        (O.faults output.new)) }
-    ensures counts { O.faults output.old ≤ O.faults output.new }
 {
     if !is_carried_out(&set.at_target.def) {
         return refuse_step(alloc, output, &Refusal::UnknownCommand { line: number });
@@ -180,13 +158,8 @@ fn step_found<K: Keeper, O: Sink>(
 
 /// Refuses a step of the set of a name, since no set has it.
 fn refuse_unknown<O: Sink>(alloc: Global, output: &mut O, id: &SetId) -> Result<Progress, RunError>
-    ensures ok { IfOk result (λ progress. (progress ≡ Refused)
-        × Takes (O.taken output.old) (O.taken output.new)
-        (lines_of (refused (refusals.NoSuchSet id.now.qual (Some id.now.name))))) }
-    ensures stopped { OnErr result (TakesPrefix (O.taken output.old) (O.taken output.new)
-        (lines_of (refused (refusals.NoSuchSet id.now.qual (Some id.now.name))))) }
-    ensures cause { IfErr result (IsOfOutput (O.faults output.old) (O.faults output.new)) }
-    ensures counts { O.faults output.old ≤ O.faults output.new }
+    ensures { WritesRefusal O.taken O.faults output.old output.new (refusals.NoSuchSet id.now.qual
+        (Some id.now.name)) Refused result }
 {
     refuse_set(alloc, output, id)?;
     Ok(Progress::Refused)
@@ -202,20 +175,13 @@ pub fn make_step<K: Keeper, O: Sink>(
     id: &SetId,
 ) -> Result<Progress, RunError>
     requires { AllClosed (work K.kept sites.old) }
-    ensures ok { IfOk result (λ progress. (w : World)
+    ensures part { IsPart K.kept O.taken O.faults sites.old sites.new output.old output.new
+        (λ w. step_of (outcome number id.now w)) is_refusal result }
+    ensures progress { IfOk result (λ progress. (w : World)
         → Stands (names sites.old) (held K.kept sites.old) w
-        → Progressed K.kept sites.old sites.new (O.taken output.old) (O.taken output.new) w
-        (outcome number id.now w) progress) }
-    ensures stopped { OnErr result ((w : World)
-        → Stands (names sites.old) (held K.kept sites.old) w
-        → StoppedStep K.kept sites.old sites.new (O.taken output.old) (O.taken output.new) w
-        (outcome number id.now w)) }
+        → progress ≡ progress_of (outcome number id.now w)) }
     ensures lines { IfOk result (TakesStep (O.taken output.old) (O.taken output.new)) }
     ensures read { IfErr result FoundByRead }
-    ensures servers { KeepsServers K.kept sites.old sites.new }
-    ensures cause { IfErr result (PartHasCause K.kept sites.old sites.new (O.faults output.old)
-        (O.faults output.new)) }
-    ensures counts { O.faults output.old ≤ O.faults output.new }
 {
     let found = match find_set(sites, alloc, id) {
         Ok(found) => found,
@@ -227,6 +193,16 @@ pub fn make_step<K: Keeper, O: Sink>(
     }
 }
 
+/// Writes the line of a step at which there was nothing to do, and says that nothing was refused.
+/// After an error a prefix of it was taken.
+fn write_idle<O: Sink>(alloc: Global, output: &mut O, source: &Name) -> Result<bool, RunError>
+    ensures { WritesLine O.taken O.faults output.old output.new (step_line source.now steps.Idle)
+        false result }
+{
+    write_stepped(alloc, output, source, &Stepped::Idle)?;
+    Ok(false)
+}
+
 /// Makes the next step of the set of a name, and writes its line. Says whether it was refused.
 pub fn step_set<K: Keeper, O: Sink>(
     alloc: Global,
@@ -236,22 +212,13 @@ pub fn step_set<K: Keeper, O: Sink>(
     id: &SetId,
 ) -> Result<bool, RunError>
     requires { AllClosed (work K.kept sites.old) }
-    ensures ok { IfOk result (Happened K.kept sites.old sites.new (O.taken output.old)
-        (O.taken output.new) (step_events number id.now)) }
-    ensures stopped { OnErr result (StoppedIn K.kept sites.old sites.new (O.taken output.old)
-        (O.taken output.new) (step_events number id.now)) }
-    ensures servers { KeepsServers K.kept sites.old sites.new }
-    ensures cause { IfErr result (PartHasCause K.kept sites.old sites.new (O.faults output.old)
-        (O.faults output.new)) }
-    ensures counts { O.faults output.old ≤ O.faults output.new }
+    ensures { IsPart K.kept O.taken O.faults sites.old sites.new output.old output.new (step_events
+        number id.now) (λ refused. refused) result }
 {
     let progress = make_step(alloc, sites, output, number, id)?;
     match progress {
         Progress::Refused => Ok(true),
         Progress::Made => Ok(false),
-        Progress::Rested => {
-            write_stepped(alloc, output, &id.name, &Stepped::Idle)?;
-            Ok(false)
-        }
+        Progress::Rested => write_idle(alloc, output, &id.name),
     }
 }

@@ -1,19 +1,14 @@
 //! The records of a feed that wait for their commit.
 
-ghost use Rattle.std.specs.Prelude.{◌≡◌, ◌≤◌, IfOk, IfErr, IfSome, OnErr};
-ghost use Rattle.std.specs.Prelude.{is_none, slice_index_or, true};
-ghost use Rattle.keep_core.specs.Revealed.{Takes, TakesPrefix};
+ghost use Rattle.std.specs.Prelude.{◌≡◌, IfOk, IfSome};
+ghost use Rattle.std.specs.Prelude.{is_none, slice_index_or, None};
 ghost use Rattle.repl_model.specs.World.{World};
-ghost use Rattle.run_core.specs.Runs.{lines_of};
-ghost use Rattle.run_commands.specs.parts.Causes.{IsOfOutput, PartHasCause};
-ghost use Rattle.run_commands.specs.parts.Parts.{Happened, StoppedIn};
-ghost use Rattle.run_commands.specs.parts.Refusing.{refused as refused_lem};
-ghost use Rattle.site_store.specs.Calls.{KeepsServers};
 ghost use Rattle.site_store.specs.Servers.{AllClosed};
 ghost use Rattle.site_store.specs.Views.{names, held, work};
 ghost use Rattle.world_store.specs.Stands.{Stands};
 ghost use Rattle.run_commands.specs.feed.Feeds.{IsFeed};
 ghost use Rattle.run_commands.specs.feed.FeedEvents.{batch_events, last_position};
+ghost use Rattle.run_commands.specs.parts.Parts.{IsPart, WritesRefusal};
 
 use crate::feed::feed::Feed;
 use crate::parts::{RunError, error_of_fault, refuse};
@@ -33,17 +28,27 @@ fn line_at(lines: &[u64], place: u64) -> u64
     }
 }
 
-/// Writes the line of a refusal as `refuse` does. It takes the refusal, so that its caller has none
-/// to drop at each exit.
-pub fn refuse_by<O: Sink>(alloc: Global, output: &mut O, refusal: Refusal) -> Result<bool, RunError>
-    ensures ok { IfOk result (λ refused. (refused ≡ true) × Takes (O.taken output.old)
-        (O.taken output.new) (lines_of (refused_lem refusal))) }
-    ensures stopped { OnErr result (TakesPrefix (O.taken output.old) (O.taken output.new)
-        (lines_of (refused_lem refusal))) }
-    ensures cause { IfErr result (IsOfOutput (O.faults output.old) (O.faults output.new)) }
-    ensures counts { O.faults output.old ≤ O.faults output.new }
+/// Writes the line of a refusal as `refuse` does, and answers `None`.
+pub fn refuse_none<T, O: Sink>(
+    alloc: Global,
+    output: &mut O,
+    refusal: &Refusal,
+) -> Result<Option<T>, RunError>
+    ensures { WritesRefusal O.taken O.faults output.old output.new refusal.now None result }
 {
-    refuse(alloc, output, &refusal)
+    refuse(alloc, output, refusal)?;
+    Ok(None)
+}
+
+/// Does the same. It takes the refusal, so that its caller has none to drop at each exit.
+pub fn refuse_by<T, O: Sink>(
+    alloc: Global,
+    output: &mut O,
+    refusal: Refusal,
+) -> Result<Option<T>, RunError>
+    ensures { WritesRefusal O.taken O.faults output.old output.new refusal None result }
+{
+    refuse_none(alloc, output, &refusal)
 }
 
 /// Commits the records that wait, and answers the last position of the log, or `None` if one was
@@ -56,32 +61,23 @@ pub fn commit_batch<K: Keeper, O: Sink>(
 ) -> Result<Option<u64>, RunError>
     requires closed { AllClosed (work K.kept sites.old) }
     requires feed { IsFeed feed.now }
-    ensures ok { IfOk result (λ last. Happened K.kept sites.old sites.new (O.taken output.old)
-        (O.taken output.new) (batch_events feed.now) (is_none last)) }
+    ensures part { IsPart K.kept O.taken O.faults sites.old sites.new output.old output.new
+        (batch_events feed.now) is_none result }
     ensures last { IfOk result (λ last. IfSome last (λ position. (w : World)
         → Stands (names sites.old) (held K.kept sites.old) w
         → position ≡ last_position feed.now w)) }
-    ensures stopped { OnErr result (StoppedIn K.kept sites.old sites.new (O.taken output.old)
-        (O.taken output.new) (batch_events feed.now)) }
-    ensures servers { KeepsServers K.kept sites.old sites.new }
-    ensures cause { IfErr result (PartHasCause K.kept sites.old sites.new (O.faults output.old)
-        (O.faults output.new)) }
-    ensures counts { O.faults output.old ≤ O.faults output.new }
 {
     let Some(server) = sites.find(&feed.server) else {
-        refuse_by(alloc, output, Refusal::NoSuchServer(feed.server.clone()?))?;
-        return Ok(None);
+        return refuse_by(alloc, output, Refusal::NoSuchServer(feed.server.clone()?));
     };
     match append(sites, alloc, server, feed.records.as_slice()) {
         Ok(last) => Ok(Some(last)),
         Err(AppendError::NotApplicable(place)) => {
             let line = line_at(feed.lines.as_slice(), place);
-            refuse_by(alloc, output, Refusal::NotApplicable { line })?;
-            Ok(None)
+            refuse_by(alloc, output, Refusal::NotApplicable { line })
         }
         Err(AppendError::LogFull(_)) => {
-            refuse_by(alloc, output, Refusal::LogFull(feed.server.clone()?))?;
-            Ok(None)
+            refuse_by(alloc, output, Refusal::LogFull(feed.server.clone()?))
         }
         Err(AppendError::Fault(fault)) => Err(error_of_fault(fault)),
     }

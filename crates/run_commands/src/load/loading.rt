@@ -1,14 +1,11 @@
 //! The text of a load is read and loaded.
 
-ghost use Rattle.std.specs.Prelude.{◌≡◌, ◌≤◌, false, IfOk, IfErr, OnErr};
-ghost use Rattle.keep_core.specs.Revealed.{Takes, TakesPrefix};
+ghost use Rattle.std.specs.Prelude.{false};
 ghost use Rattle.site_store.specs.Servers.{AllClosed};
 ghost use Rattle.site_store.specs.Views.{work};
-ghost use Rattle.site_store.specs.Calls.{KeepsServers};
 ghost use Rattle.load_laws.specs.texts.Texts.{IsWhole};
-ghost use Rattle.run_commands.specs.parts.Causes.{IsOfOutput, PartHasCause};
 ghost use Rattle.run_commands.specs.load.LoadEvents.{counts_line, raw_events, load_text_events};
-ghost use Rattle.run_commands.specs.parts.Parts.{Happened, StoppedIn};
+ghost use Rattle.run_commands.specs.parts.Parts.{IsPart, WritesLine};
 
 use crate::load::kinds::{bad_text, has_carried_out_sets};
 use crate::parts::{RunError, error_of_fault, refuse, reply};
@@ -24,12 +21,7 @@ use std::alloc::Global;
 
 /// Writes the line that says how many items were new. After an error a prefix of it was taken.
 fn write_counts<O: Sink>(alloc: Global, output: &mut O, loaded: Loaded) -> Result<bool, RunError>
-    ensures ok { IfOk result (λ refused. (refused ≡ false) × Takes (O.taken output.old)
-        (O.taken output.new) (counts_line loaded)) }
-    ensures stopped { OnErr result (TakesPrefix (O.taken output.old) (O.taken output.new)
-        (counts_line loaded)) }
-    ensures cause { IfErr result (IsOfOutput (O.faults output.old) (O.faults output.new)) }
-    ensures counts { O.faults output.old ≤ O.faults output.new }
+    ensures { WritesLine O.taken O.faults output.old output.new (counts_line loaded) false result }
 {
     let counts = Reply::Loaded {
         tables: u64::from(loaded.tables),
@@ -49,14 +41,8 @@ fn load_raw<K: Keeper, O: Sink>(
 ) -> Result<bool, RunError>
     requires closed { AllClosed (work K.kept sites.old) }
     requires raw { IsWhole raw.now }
-    ensures ok { IfOk result (Happened K.kept sites.old sites.new (O.taken output.old)
-        (O.taken output.new) (raw_events raw.now)) }
-    ensures stopped { OnErr result (StoppedIn K.kept sites.old sites.new (O.taken output.old)
-        (O.taken output.new) (raw_events raw.now)) }
-    ensures servers { KeepsServers K.kept sites.old sites.new }
-    ensures cause { IfErr result (PartHasCause K.kept sites.old sites.new (O.faults output.old)
-        (O.faults output.new)) }
-    ensures counts { O.faults output.old ≤ O.faults output.new }
+    ensures { IsPart K.kept O.taken O.faults sites.old sites.new output.old output.new (raw_events
+        raw.now) (λ refused. refused) result }
 {
     if !has_carried_out_sets(raw) {
         return refuse(alloc, output, &bad_text());
@@ -77,14 +63,8 @@ pub fn load_text<K: Keeper, O: Sink>(
     text: &Option<List<u8>>,
 ) -> Result<bool, RunError>
     requires { AllClosed (work K.kept sites.old) }
-    ensures ok { IfOk result (Happened K.kept sites.old sites.new (O.taken output.old)
-        (O.taken output.new) (load_text_events text.now)) }
-    ensures stopped { OnErr result (StoppedIn K.kept sites.old sites.new (O.taken output.old)
-        (O.taken output.new) (load_text_events text.now)) }
-    ensures servers { KeepsServers K.kept sites.old sites.new }
-    ensures cause { IfErr result (PartHasCause K.kept sites.old sites.new (O.faults output.old)
-        (O.faults output.new)) }
-    ensures counts { O.faults output.old ≤ O.faults output.new }
+    ensures { IsPart K.kept O.taken O.faults sites.old sites.new output.old output.new
+        (load_text_events text.now) (λ refused. refused) result }
 {
     let Some(text) = text else {
         return refuse(alloc, output, &Refusal::LimitReached(LimitKind::LoadBody));

@@ -1,12 +1,9 @@
 //! The lines that a run of a script writes.
 
-ghost use Rattle.std.specs.Prelude.{◌≡◌, ◌≤◌, IfOk, IfErr, OnOk, OnErr, Some, true};
+ghost use Rattle.std.specs.Prelude.{Some, true};
 ghost use Rattle.repl_types.specs.declared.refusal.Refusal.TheVariants as refusals;
 ghost use Rattle.reply_text.specs.Replies.{reply_line};
-ghost use Rattle.keep_core.specs.Revealed.{Takes, TakesPrefix};
-ghost use Rattle.run_core.specs.Runs.{lines_of};
-ghost use Rattle.run_commands.specs.parts.Refusing.{refused as refused_lem};
-ghost use Rattle.run_commands.specs.parts.Causes.{IsOfOutput};
+ghost use Rattle.run_commands.specs.parts.Parts.{WritesLine, WritesRefusal};
 
 use crate::parts::run_error::RunError;
 use keep_core::{Sink, write_line};
@@ -18,12 +15,7 @@ use std::alloc::Global;
 /// Writes the line of a refusal, and says that something was refused. After an error a prefix of
 /// the line was taken.
 pub fn refuse<O: Sink>(alloc: Global, output: &mut O, refusal: &Refusal) -> Result<bool, RunError>
-    ensures ok { IfOk result (λ refused. (refused ≡ true) × Takes (O.taken output.old)
-        (O.taken output.new) (lines_of (refused_lem refusal.now))) }
-    ensures stopped { OnErr result (TakesPrefix (O.taken output.old) (O.taken output.new)
-        (lines_of (refused_lem refusal.now))) }
-    ensures cause { IfErr result (IsOfOutput (O.faults output.old) (O.faults output.new)) }
-    ensures counts { O.faults output.old ≤ O.faults output.new }
+    ensures { WritesRefusal O.taken O.faults output.old output.new refusal.now true result }
 {
     let mut line = Vec::new(alloc);
     write_refusal(refusal, &mut line)?;
@@ -34,13 +26,8 @@ pub fn refuse<O: Sink>(alloc: Global, output: &mut O, refusal: &Refusal) -> Resu
 /// Writes the line that refuses the name of no set, and says that something was refused. After an
 /// error a prefix of the line was taken.
 pub fn refuse_set<O: Sink>(alloc: Global, output: &mut O, id: &SetId) -> Result<bool, RunError>
-    ensures ok { IfOk result (λ refused. (refused ≡ true) × Takes (O.taken output.old)
-        (O.taken output.new)
-        (lines_of (refused_lem (refusals.NoSuchSet id.now.qual (Some id.now.name))))) }
-    ensures stopped { OnErr result (TakesPrefix (O.taken output.old) (O.taken output.new)
-        (lines_of (refused_lem (refusals.NoSuchSet id.now.qual (Some id.now.name))))) }
-    ensures cause { IfErr result (IsOfOutput (O.faults output.old) (O.faults output.new)) }
-    ensures counts { O.faults output.old ≤ O.faults output.new }
+    ensures { WritesRefusal O.taken O.faults output.old output.new (refusals.NoSuchSet id.now.qual
+        (Some id.now.name)) true result }
 {
     let refusal = unknown_set(id)?;
     refuse(alloc, output, &refusal)
@@ -48,12 +35,7 @@ pub fn refuse_set<O: Sink>(alloc: Global, output: &mut O, id: &SetId) -> Result<
 
 /// Writes the line of a reply. After an error a prefix of the line was taken.
 pub fn reply<O: Sink>(alloc: Global, output: &mut O, reply: &Reply) -> Result<(), RunError>
-    ensures ok { OnOk result (Takes (O.taken output.old) (O.taken output.new)
-        (reply_line reply.now)) }
-    ensures stopped { OnErr result (TakesPrefix (O.taken output.old) (O.taken output.new)
-        (reply_line reply.now)) }
-    ensures cause { IfErr result (IsOfOutput (O.faults output.old) (O.faults output.new)) }
-    ensures counts { O.faults output.old ≤ O.faults output.new }
+    ensures { WritesLine O.taken O.faults output.old output.new (reply_line reply.now) tt result }
 {
     let mut line = Vec::new(alloc);
     write_reply(reply, &mut line)?;

@@ -1,17 +1,9 @@
 //! The run of `copy` at its servers.
 
-ghost use Rattle.std.specs.Prelude.{◌≡◌, ◌≤◌, IfOk, IfErr, OnErr};
-ghost use Rattle.repl_model.specs.World.{World};
-ghost use Rattle.run_core.specs.Runs.{Went, Stopped, is_refused};
 ghost use Rattle.site_store.specs.Servers.{AllClosed};
-ghost use Rattle.site_store.specs.Views.{names, held, work};
-ghost use Rattle.site_store.specs.Calls.{KeepsServers};
-ghost use Rattle.world_store.specs.Stands.{Stands};
-ghost use Rattle.run_commands.specs.parts.Causes.{BlamesServers, HasEnded};
-ghost use Rattle.run_commands.specs.parts.ExitStatus.{status_of_error};
-ghost use Rattle.session_core.specs.Inputs.{OfInput};
+ghost use Rattle.site_store.specs.Views.{work};
 ghost use Rattle.session_core.specs.copy.CopyEvents.{fed_events, brought_events, copy_events};
-ghost use Rattle.session_core.specs.copy.Reading.{ReadsAll, StopsReading};
+ghost use Rattle.session_core.specs.Reading.{IsReading};
 
 use crate::copy::fed::feed_input;
 use crate::copy::given::source_name;
@@ -32,21 +24,13 @@ fn feed_copy<K: Keeper, I: Source, O: Sink>(
     output: &mut O,
 ) -> Result<bool, RunError>
     requires { AllClosed (work K.kept sites.old) }
-    ensures ok { IfOk result (ReadsAll K.kept sites.old sites.new (I.left input.old)
-        (O.taken output.old) (O.taken output.new) fed_events) }
-    ensures stopped { OnErr result (StopsReading K.kept sites.old sites.new (I.left input.old)
-        (O.taken output.old) (O.taken output.new) fed_events) }
-    ensures ended { HasEnded (I.left input.old) (I.left input.new) (I.faults input.old)
-        (I.faults input.new) (O.faults output.old) (O.faults output.new) result }
-    ensures servers { KeepsServers K.kept sites.old sites.new }
-    ensures cause { IfErr result (λ e.
-        BlamesServers K.kept sites.old sites.new (status_of_error e)) }
+    ensures { IsReading K.kept I.left I.faults O.taken O.faults sites.old sites.new input.old
+        input.new output.old output.new fed_events result }
 {
     let source = source_name(alloc)?;
     let mut lines = KeptLines::new(alloc);
     let refused = feed_input(alloc, sites, input, &mut lines, source)?;
-    let any = show_fed(alloc, sites, output, lines.bytes(), refused)?;
-    Ok(any)
+    show_fed(alloc, sites, output, lines.bytes(), refused)
 }
 
 /// Applies the copy once before the feed, and then does the rest of `copy`.
@@ -57,19 +41,11 @@ fn bring_copy<K: Keeper, I: Source, O: Sink>(
     output: &mut O,
 ) -> Result<bool, RunError>
     requires { AllClosed (work K.kept sites.old) }
-    ensures ok { IfOk result (ReadsAll K.kept sites.old sites.new (I.left input.old)
-        (O.taken output.old) (O.taken output.new) brought_events) }
-    ensures stopped { OnErr result (StopsReading K.kept sites.old sites.new (I.left input.old)
-        (O.taken output.old) (O.taken output.new) brought_events) }
-    ensures ended { HasEnded (I.left input.old) (I.left input.new) (I.faults input.old)
-        (I.faults input.new) (O.faults output.old) (O.faults output.new) result }
-    ensures servers { KeepsServers K.kept sites.old sites.new }
-    ensures cause { IfErr result (λ e.
-        BlamesServers K.kept sites.old sites.new (status_of_error e)) }
+    ensures { IsReading K.kept I.left I.faults O.taken O.faults sites.old sites.new input.old
+        input.new output.old output.new brought_events result }
 {
     apply_items(alloc, sites)?;
-    let any = feed_copy(alloc, sites, input, output)?;
-    Ok(any)
+    feed_copy(alloc, sites, input, output)
 }
 
 /// Carries out `copy` at the servers, and says whether something was refused. After an error the
@@ -81,21 +57,9 @@ pub fn copy_items<K: Keeper, I: Source, O: Sink>(
     output: &mut O,
 ) -> Result<bool, RunError>
     requires { AllClosed (work K.kept sites.old) }
-    ensures ok { IfOk result (λ refused. (w : World)
-        → Stands (names sites.old) (held K.kept sites.old) w → OfInput (I.left input.old) (λ bytes.
-        Went (Stands (names sites.old)) (copy_events bytes w) w (held K.kept sites.new)
-        (O.taken output.old) (O.taken output.new) × (refused ≡ is_refused (copy_events bytes w)))) }
-    ensures stopped { OnErr result ((w : World)
-        → Stands (names sites.old) (held K.kept sites.old) w → OfInput (I.left input.old) (λ bytes.
-        Stopped (Stands (names sites.old)) (copy_events bytes w) w (held K.kept sites.new)
-        (O.taken output.old) (O.taken output.new))) }
-    ensures ended { HasEnded (I.left input.old) (I.left input.new) (I.faults input.old)
-        (I.faults input.new) (O.faults output.old) (O.faults output.new) result }
-    ensures servers { KeepsServers K.kept sites.old sites.new }
-    ensures cause { IfErr result (λ e.
-        BlamesServers K.kept sites.old sites.new (status_of_error e)) }
+    ensures { IsReading K.kept I.left I.faults O.taken O.faults sites.old sites.new input.old
+        input.new output.old output.new copy_events result }
 {
     load_items(alloc, sites)?;
-    let any = bring_copy(alloc, sites, input, output)?;
-    Ok(any)
+    bring_copy(alloc, sites, input, output)
 }

@@ -1,16 +1,13 @@
 //! After the feed: what was fed is captured and applied, and the copy and what was refused are
 //! written.
 
-ghost use Rattle.std.specs.Prelude.{◌≡◌, ◌≤◌, List, codes, IfOk, IfErr, OnOk, OnErr};
-ghost use Rattle.keep_core.specs.Revealed.{Takes, TakesPrefix};
+ghost use Rattle.std.specs.Prelude.{List, codes};
 ghost use Rattle.repl_model.specs.World.{World};
 ghost use Rattle.run_core.specs.Runs.{Event};
 ghost use Rattle.site_store.specs.Servers.{AllClosed};
 ghost use Rattle.site_store.specs.Views.{work};
-ghost use Rattle.site_store.specs.Calls.{KeepsServers};
-ghost use Rattle.run_commands.specs.parts.Causes.{IsOfOutput, PartHasCause};
-ghost use Rattle.run_commands.specs.parts.Parts.{Happened, StoppedIn};
 ghost use Rattle.run_commands.specs.target.TargetEvents.{target_events};
+ghost use Rattle.run_commands.specs.parts.Parts.{IsPart, WritesLine};
 ghost use Rattle.session_core.specs.copy.CopyEvents.{written_events, applied_events, shown_events};
 ghost use Rattle.session_core.specs.copy.Showing.{lines_if, KeepsRefusals};
 
@@ -29,35 +26,24 @@ fn show_items<K: Keeper, O: Sink>(
     output: &mut O,
 ) -> Result<bool, RunError>
     requires { AllClosed (work K.kept sites.old) }
-    ensures ok { IfOk result (Happened K.kept sites.old sites.new (O.taken output.old)
-        (O.taken output.new) (target_events 0 (codes "dst") (codes "items_copy"))) }
-    ensures stopped { OnErr result (StoppedIn K.kept sites.old sites.new (O.taken output.old)
-        (O.taken output.new) (target_events 0 (codes "dst") (codes "items_copy"))) }
-    ensures servers { KeepsServers K.kept sites.old sites.new }
-    ensures cause { IfErr result (PartHasCause K.kept sites.old sites.new (O.faults output.old)
-        (O.faults output.new)) }
-    ensures counts { O.faults output.old ≤ O.faults output.new }
+    ensures { IsPart K.kept O.taken O.faults sites.old sites.new output.old output.new
+        (target_events 0 (codes "dst") (codes "items_copy")) (λ refused. refused) result }
 {
     let target = target_name(alloc)?;
     let copy = copy_name(alloc)?;
     show_target_rows(alloc, sites, output, 0, target, copy)
 }
 
-/// Writes the lines of what was refused, if something was. After an error a prefix of them was
-/// taken.
-fn write_refused<O: Sink>(output: &mut O, lines: &[u8], refused: bool) -> Result<(), RunError>
-    ensures ok { OnOk result (Takes (O.taken output.old) (O.taken output.new)
-        (lines_if refused lines.now)) }
-    ensures stopped { OnErr result (TakesPrefix (O.taken output.old) (O.taken output.new)
-        (lines_if refused lines.now)) }
-    ensures cause { IfErr result (IsOfOutput (O.faults output.old) (O.faults output.new)) }
-    ensures counts { O.faults output.old ≤ O.faults output.new }
+/// Writes the lines of what was refused, if something was, and says whether it was. After an error a
+/// prefix of them was taken.
+fn write_refused<O: Sink>(output: &mut O, lines: &[u8], refused: bool) -> Result<bool, RunError>
+    ensures { WritesLine O.taken O.faults output.old output.new (lines_if refused lines.now) refused
+        result }
 {
-    if !refused {
-        return Ok(());
+    if refused {
+        write_line(output, lines)?;
     }
-    write_line(output, lines)?;
-    Ok(())
+    Ok(refused)
 }
 
 /// Writes the rows of the copy, and then the lines of what the feed refused. Says whether something
@@ -70,20 +56,13 @@ fn write_copy<K: Keeper, O: Sink>(
     refused: bool,
 ) -> Result<bool, RunError>
     requires { AllClosed (work K.kept sites.old) }
-    ensures ok { IfOk result (λ any. (fed : List (Event World))
-        → KeepsRefusals fed lines.now refused → Happened K.kept sites.old sites.new
-        (O.taken output.old) (O.taken output.new) (written_events fed) any) }
-    ensures stopped { OnErr result ((fed : List (Event World))
-        → KeepsRefusals fed lines.now refused → StoppedIn K.kept sites.old sites.new
-        (O.taken output.old) (O.taken output.new) (written_events fed)) }
-    ensures servers { KeepsServers K.kept sites.old sites.new }
-    ensures cause { IfErr result (PartHasCause K.kept sites.old sites.new (O.faults output.old)
-        (O.faults output.new)) }
-    ensures counts { O.faults output.old ≤ O.faults output.new }
+    ensures { (fed : List (Event World)) → KeepsRefusals fed lines.now refused → IsPart K.kept
+        O.taken O.faults sites.old sites.new output.old output.new (written_events fed) (λ any. any)
+        result }
 {
     let shown = show_items(alloc, sites, output)?;
-    write_refused(output, lines, refused)?;
-    Ok(shown | refused)
+    let written = write_refused(output, lines, refused)?;
+    Ok(shown | written)
 }
 
 /// Applies the copy, and writes it and what the feed refused. Says whether something was refused.
@@ -95,20 +74,12 @@ fn apply_copy<K: Keeper, O: Sink>(
     refused: bool,
 ) -> Result<bool, RunError>
     requires { AllClosed (work K.kept sites.old) }
-    ensures ok { IfOk result (λ any. (fed : List (Event World))
-        → KeepsRefusals fed lines.now refused → Happened K.kept sites.old sites.new
-        (O.taken output.old) (O.taken output.new) (applied_events fed) any) }
-    ensures stopped { OnErr result ((fed : List (Event World))
-        → KeepsRefusals fed lines.now refused → StoppedIn K.kept sites.old sites.new
-        (O.taken output.old) (O.taken output.new) (applied_events fed)) }
-    ensures servers { KeepsServers K.kept sites.old sites.new }
-    ensures cause { IfErr result (PartHasCause K.kept sites.old sites.new (O.faults output.old)
-        (O.faults output.new)) }
-    ensures counts { O.faults output.old ≤ O.faults output.new }
+    ensures { (fed : List (Event World)) → KeepsRefusals fed lines.now refused → IsPart K.kept
+        O.taken O.faults sites.old sites.new output.old output.new (applied_events fed) (λ any. any)
+        result }
 {
     apply_items(alloc, sites)?;
-    let any = write_copy(alloc, sites, output, lines, refused)?;
-    Ok(any)
+    write_copy(alloc, sites, output, lines, refused)
 }
 
 /// Captures and applies what was fed, and writes the copy and what the feed refused. Says whether
@@ -121,18 +92,10 @@ pub fn show_fed<K: Keeper, O: Sink>(
     refused: bool,
 ) -> Result<bool, RunError>
     requires { AllClosed (work K.kept sites.old) }
-    ensures ok { IfOk result (λ any. (fed : List (Event World))
-        → KeepsRefusals fed lines.now refused → Happened K.kept sites.old sites.new
-        (O.taken output.old) (O.taken output.new) (shown_events fed) any) }
-    ensures stopped { OnErr result ((fed : List (Event World))
-        → KeepsRefusals fed lines.now refused → StoppedIn K.kept sites.old sites.new
-        (O.taken output.old) (O.taken output.new) (shown_events fed)) }
-    ensures servers { KeepsServers K.kept sites.old sites.new }
-    ensures cause { IfErr result (PartHasCause K.kept sites.old sites.new (O.faults output.old)
-        (O.faults output.new)) }
-    ensures counts { O.faults output.old ≤ O.faults output.new }
+    ensures { (fed : List (Event World)) → KeepsRefusals fed lines.now refused → IsPart K.kept
+        O.taken O.faults sites.old sites.new output.old output.new (shown_events fed) (λ any. any)
+        result }
 {
     capture_items(alloc, sites)?;
-    let any = apply_copy(alloc, sites, output, lines, refused)?;
-    Ok(any)
+    apply_copy(alloc, sites, output, lines, refused)
 }

@@ -1,15 +1,12 @@
 //! The parts of `copy` whose lines aren't written.
 
-ghost use Rattle.std.specs.Prelude.{◌≡◌, ℕ, List, Option, Some, None, codes, false};
-ghost use Rattle.std.specs.Prelude.{IfErr, OnOk, OnErr};
+ghost use Rattle.std.specs.Prelude.{ℕ, List, Option, Some, None, codes, false};
 ghost use Rattle.site_store.specs.Servers.{AllClosed};
 ghost use Rattle.site_store.specs.Views.{work};
-ghost use Rattle.site_store.specs.Calls.{KeepsServers};
-ghost use Rattle.run_commands.specs.parts.Causes.{PartHasCause};
-ghost use Rattle.run_commands.specs.parts.Parts.{Happened, StoppedIn};
 ghost use Rattle.run_commands.specs.load.LoadEvents.{load_text_events};
 ghost use Rattle.run_commands.specs.capture.CaptureEvents.{capture_events};
 ghost use Rattle.run_commands.specs.apply.StepEvents.{apply_events};
+ghost use Rattle.run_commands.specs.parts.Parts.{IsPart};
 ghost use Rattle.session_core.specs.copy.CopyEvents.{copy_text as copy_text_lem};
 ghost use Rattle.session_core.specs.copy.CopyEvents.{copy_set as copy_set_lem, silent};
 
@@ -26,13 +23,8 @@ use std::alloc::Global;
 /// Loads the definitions of the copy.
 pub fn load_items<K: Keeper>(alloc: Global, sites: &mut Sites<K>) -> Result<(), RunError>
     requires { AllClosed (work K.kept sites.old) }
-    ensures ok { OnOk result ((t : Option (List ℕ)) → Happened K.kept sites.old sites.new t t
-        (silent (load_text_events (Some copy_text_lem))) false) }
-    ensures stopped { OnErr result ((t : Option (List ℕ)) → StoppedIn K.kept sites.old sites.new t t
-        (silent (load_text_events (Some copy_text_lem)))) }
-    ensures servers { KeepsServers K.kept sites.old sites.new }
-    ensures cause { (count : ℕ)
-        → IfErr result (PartHasCause K.kept sites.old sites.new count count) }
+    ensures { (bytes : Option (List ℕ)) (count : ℕ) → IsPart K.kept (λ taken. taken) (λ _. count)
+        sites.old sites.new bytes bytes (silent (load_text_events (Some copy_text_lem))) (λ _. false) result }
 {
     let text = copy_text(alloc)?;
     let mut output = Unwritten;
@@ -43,13 +35,8 @@ pub fn load_items<K: Keeper>(alloc: Global, sites: &mut Sites<K>) -> Result<(), 
 /// Applies the copy until there is nothing to do.
 pub fn apply_items<K: Keeper>(alloc: Global, sites: &mut Sites<K>) -> Result<(), RunError>
     requires { AllClosed (work K.kept sites.old) }
-    ensures ok { OnOk result ((t : Option (List ℕ)) → Happened K.kept sites.old sites.new t t
-        (silent (apply_events 0 copy_set_lem)) false) }
-    ensures stopped { OnErr result ((t : Option (List ℕ)) → StoppedIn K.kept sites.old sites.new t t
-        (silent (apply_events 0 copy_set_lem))) }
-    ensures servers { KeepsServers K.kept sites.old sites.new }
-    ensures cause { (count : ℕ)
-        → IfErr result (PartHasCause K.kept sites.old sites.new count count) }
+    ensures { (bytes : Option (List ℕ)) (count : ℕ) → IsPart K.kept (λ taken. taken) (λ _. count)
+        sites.old sites.new bytes bytes (silent (apply_events 0 copy_set_lem)) (λ _. false) result }
 {
     let set = copy_set(alloc)?;
     let mut output = Unwritten;
@@ -60,13 +47,8 @@ pub fn apply_items<K: Keeper>(alloc: Global, sites: &mut Sites<K>) -> Result<(),
 /// Captures what was fed.
 pub fn capture_items<K: Keeper>(alloc: Global, sites: &mut Sites<K>) -> Result<(), RunError>
     requires { AllClosed (work K.kept sites.old) }
-    ensures ok { OnOk result ((t : Option (List ℕ)) → Happened K.kept sites.old sites.new t t
-        (silent (capture_events (codes "src") None None)) false) }
-    ensures stopped { OnErr result ((t : Option (List ℕ)) → StoppedIn K.kept sites.old sites.new t t
-        (silent (capture_events (codes "src") None None))) }
-    ensures servers { KeepsServers K.kept sites.old sites.new }
-    ensures cause { (count : ℕ)
-        → IfErr result (PartHasCause K.kept sites.old sites.new count count) }
+    ensures { (bytes : Option (List ℕ)) (count : ℕ) → IsPart K.kept (λ taken. taken) (λ _. count)
+        sites.old sites.new bytes bytes (silent (capture_events (codes "src") None None)) (λ _. false) result }
 {
     let source = source_name(alloc)?;
     let mut output = Unwritten;

@@ -1,40 +1,42 @@
+use Rattle.std.proofs.Common.{refl, rules}
 use Rattle.std.specs.Prelude.{map}
-use Rattle.repl_types.specs.declared.refusal.Refusal.TheVariants as refusals
 use Rattle.run_core.specs.Runs.{writes}
-use Rattle.run_commands.specs.parts.Refusing.{refused}
-use Rattle.run_commands.specs.parts.laws.Exits.{err_also, ok_also}
-use Rattle.run_commands.specs.parts.laws.Parts.{happened_as, stopped_as, refusal_written, refusal_begun}
 use Rattle.shows.specs.tables.Replies.{unit_lines}
 use Rattle.shows.specs.tables.Rules.{unit_reads}
 use Rattle.run_commands.specs.show.ShowEvents.{units_events}
+use Rattle.run_commands.specs.parts.laws.Composing.{part_as, part_refused}
 use Rattle.run_commands.proofs.ShowEvents.{at_none, all_written, all_begun, fails_holds, show_cause}
 use Rattle.run_commands.proofs.show.show_unit_rows.Goals as goal
 
-pub returns-in_default-clause-ok : goal.returns-in_default-clause-ok
-returns-in_default-clause-ok g c =
+pub returns-in_default : goal.returns-in_default
+returns-in_default g c =
+    let name = c.args.name in
+    part_as (units_events name) (at_none g.K.Keeper.kept c.args.sites.now c.requires name (λ server. map writes (unit_lines server)) c.in_default.ensures) (part_refused (λ refused. refused) c.requires refl c.refuse.ensures)
+
+pub returns-in-Ok : goal.returns-in-Ok
+returns-in-Ok g c = record {
+  ok = all_written g.K.Keeper.kept c.args.sites.now c.requires c.args.name c.in-Some.server c.in-Some.ensures c.show_units.new.sites c.in-Ok.ensures.stays.held (g.O.Sink.taken c.args.output.now) (g.O.Sink.taken c.show_units.new.output) unit_lines c.in-Ok.ensures.ok;
+  stopped = tt;
+  servers = search rules;
+  cause = tt;
+  counts = search rules;
+}
+
+pub returns : goal.returns
+returns g c =
     let kept = g.K.Keeper.kept in
-    let sites = c.args.sites.now in
-    let before = g.O.Sink.taken c.args.output.now in
-    let now = g.O.Sink.taken c.refuse.new.output in
-    let refusal = refusals.NoSuchServer c.args.name in
-    ok_also c.refuse.result (λ answer wrote. happened_as kept sites sites before now (λ w. refused refusal) (units_events c.args.name) (at_none kept sites c.requires c.args.name (λ server. map writes (unit_lines server)) c.in_default.ensures) answer (refusal_written kept sites before now refusal answer wrote)) c.refuse.ensures.ok
-
-pub returns-in_default-clause-stopped : goal.returns-in_default-clause-stopped
-returns-in_default-clause-stopped g c =
-    let kept = g.K.Keeper.kept in
-    let sites = c.args.sites.now in
-    let before = g.O.Sink.taken c.args.output.now in
-    let now = g.O.Sink.taken c.refuse.new.output in
-    let refusal = refusals.NoSuchServer c.args.name in
-    err_also c.refuse.result (λ wrote. stopped_as kept sites sites before now (λ w. refused refusal) (units_events c.args.name) (at_none kept sites c.requires c.args.name (λ server. map writes (unit_lines server)) c.in_default.ensures) (refusal_begun kept sites before now refusal wrote)) c.refuse.ensures.stopped
-
-pub returns-in-Ok-clause-ok : goal.returns-in-Ok-clause-ok
-returns-in-Ok-clause-ok g c = all_written g.K.Keeper.kept c.args.sites.now c.requires c.args.name c.in-Some.server c.in-Some.ensures c.show_units.new.sites c.in-Ok.ensures.stays.held (g.O.Sink.taken c.args.output.now) (g.O.Sink.taken c.show_units.new.output) unit_lines c.in-Ok.ensures.ok
-
-pub returns-clause-stopped : goal.returns-clause-stopped
-returns-clause-stopped g c =
-    let fails = fails_holds g.K.Keeper.kept c.args.sites.now c.requires c.args.name c.show_units.new.sites (unit_reads c.in-Some.server) (g.O.Sink.faults c.args.output.now) (g.O.Sink.faults c.show_units.new.output) c.in-Err.error c.in-Err.ensures.fault in
-    all_begun g.K.Keeper.kept c.args.sites.now c.requires c.args.name c.in-Some.server c.in-Some.ensures c.show_units.new.sites fails (g.O.Sink.taken c.args.output.now) (g.O.Sink.taken c.show_units.new.output) unit_lines c.in-Err.ensures.err
-
-pub returns-clause-cause : goal.returns-clause-cause
-returns-clause-cause g c = show_cause g.K.Keeper.kept c.args.sites.now c.requires c.args.name c.show_units.new.sites (unit_reads c.in-Some.server) (g.O.Sink.faults c.args.output.now) (g.O.Sink.faults c.show_units.new.output) c.in-Err.error c.error_of_reply.result c.error_of_reply.ensures c.in-Err.ensures.fault c.in-Err.ensures.undamaged
+    let s0 = c.args.sites.now in
+    let s1 = c.show_units.new.sites in
+    let name = c.args.name in
+    let n = c.in-Some.server in
+    let before = g.O.Sink.faults c.args.output.now in
+    let now = g.O.Sink.faults c.show_units.new.output in
+    let error = c.in-Err.error in
+    let fails = c.in-Err.ensures.fault in
+    record {
+      ok = tt;
+      stopped = all_begun kept s0 c.requires name n c.in-Some.ensures s1 (fails_holds kept s0 c.requires name s1 (unit_reads n) before now error fails) (g.O.Sink.taken c.args.output.now) (g.O.Sink.taken c.show_units.new.output) unit_lines c.in-Err.ensures.err;
+      servers = search rules;
+      cause = show_cause kept s0 c.requires name s1 (unit_reads n) before now error c.error_of_reply.result c.error_of_reply.ensures fails c.in-Err.ensures.undamaged;
+      counts = search rules;
+    }

@@ -1,32 +1,20 @@
-use Rattle.std.proofs.Common.{◌∙◌, not, ap, sym}
-use Rattle.repl_types.specs.declared.refusal.Refusal.TheVariants as refusals
-use Rattle.run_commands.specs.parts.laws.Exits.{err_also, ok_also, if_err_also}
+use Rattle.std.proofs.Common.{◌≡◌, ◌∙◌, List, false, not, ap, refl, subst, sym}
+use Rattle.repl_model.specs.World.{World}
+use Rattle.run_core.specs.Runs.{Event, Went, Stopped, is_refused}
+use Rattle.site_store.specs.Views.{names, held}
+use Rattle.world_store.specs.Stands.{Stands}
+use Rattle.run_commands.specs.parts.laws.Composing.{part_as, part_refused}
 use Rattle.run_commands.specs.parts.laws.Looking.{looked_keeps}
-use Rattle.site_store.specs.laws.Counts.{keeps_itself}
-use Rattle.run_commands.specs.parts.laws.Parts.{output_cause}
-use Rattle.run_commands.specs.target.TargetEvents.{known_set_events}
-use Rattle.run_commands.proofs.AfterReads.{read_only, refusal_as, prefix_as, set_written, set_begun}
+use Rattle.run_commands.proofs.AfterReads.{read_only, set_written, set_begun}
 use Rattle.run_commands.proofs.TargetEvents.{replica_refused, fails_run, fails_held, fails_keeps, show_cause}
 use Rattle.run_commands.proofs.target.show_found_set.Goals as goal
 
 -- it is a replica set
 pub returns-then-is_replica_set : goal.returns-then-is_replica_set
 returns-then-is_replica_set g c =
-    let kept = g.K.Keeper.kept in
-    let s = c.args.sites.now in
-    let number = c.args.number in
     let set = c.args.set.now in
-    let refusal = refusals.UnknownCommand number in
-    let t = g.O.Sink.taken c.args.output.now in
-    let u = g.O.Sink.taken c.refuse.new.output in
     let is = sym c.is_replica_set.ensures ∙ c.if-is_replica_set.true in
-    record {
-      ok = ok_also c.refuse.result (λ answer wrote w k stands placed. refusal_as kept s t u refusal w stands (known_set_events number k) (replica_refused number w k set placed is) answer wrote) c.refuse.ensures.ok;
-      stopped = err_also c.refuse.result (λ wrote w k stands placed. prefix_as kept s t u refusal w stands (known_set_events number k) (replica_refused number w k set placed is) wrote) c.refuse.ensures.stopped;
-      servers = keeps_itself kept s c.requires.closed;
-      cause = if_err_also c.refuse.result (output_cause kept s s (g.O.Sink.faults c.args.output.now) (g.O.Sink.faults c.refuse.new.output)) c.refuse.ensures.cause;
-      counts = c.refuse.ensures.counts;
-    }
+    λ events known. part_as events (λ w stands. let one = known w stands in replica_refused c.args.number w one.0 set one.1 is ∙ sym one.2) (part_refused (λ refused. refused) c.requires.closed refl c.refuse.ensures)
 
 -- its line was written
 pub show_set-requires : goal.show_set-requires
@@ -45,8 +33,10 @@ returns-in-Ok g c =
     let t = g.O.Sink.taken c.args.output.now in
     let u = g.O.Sink.taken c.show_set.new.output in
     let is = sym c.is_replica_set.ensures ∙ c.if-is_replica_set.false in
-    record {
-      ok = set_written kept s0 s1 shown.stays.held t u c.args.number c.args.set.now is c.in-Ok.ensures.ok;
+    λ events known. record {
+      ok = λ w stands.
+          let one = known w stands in
+          subst (λ (es : List (Event World)). Went (Stands (names s0)) es w (held kept s1) t u × (false ≡ is_refused es)) (sym one.2) (set_written kept s0 s1 shown.stays.held t u c.args.number c.args.set.now is c.in-Ok.ensures.ok w one.0 stands one.1);
       stopped = tt;
       servers = looked_keeps kept s0 s1 shown c.requires.closed;
       cause = tt;
@@ -69,11 +59,15 @@ returns-in-Err g c =
     let u = g.O.Sink.taken c.show_set.new.output in
     let before = g.O.Sink.faults c.args.output.now in
     let now = g.O.Sink.faults c.show_set.new.output in
+    let set = c.args.set.now in
     let is = sym c.is_replica_set.ensures ∙ c.if-is_replica_set.false in
-    record {
+    let begun = set_begun kept s0 s1 (fails_held kept s0 s1 closed before now error fails) t u c.args.number set is c.in-Err.ensures.err in
+    λ events known. record {
       ok = tt;
-      stopped = set_begun kept s0 s1 (fails_held kept s0 s1 closed before now error fails) t u c.args.number c.args.set.now is c.in-Err.ensures.err;
+      stopped = λ w stands.
+          let one = known w stands in
+          subst (λ (es : List (Event World)). Stopped (Stands (names s0)) es w (held kept s1) t u) (sym one.2) (begun w one.0 stands one.1);
       servers = fails_keeps kept s0 s1 closed before now error fails;
-      cause = show_cause kept s0 s1 closed before now error c.error_of_reply.result c.error_of_reply.ensures fails (λ w stands. let one = c.requires.known w stands in c.in-Err.ensures.undamaged w one.0 stands one.1 (read_only w one.0 c.args.set.now one.1 (ap not is)));
+      cause = show_cause kept s0 s1 closed before now error c.error_of_reply.result c.error_of_reply.ensures fails (λ w stands. let one = known w stands in c.in-Err.ensures.undamaged w one.0 stands one.1 (read_only w one.0 set one.1 (ap not is)));
       counts = c.show_set.ensures.counts;
     }

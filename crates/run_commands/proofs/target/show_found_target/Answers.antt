@@ -1,10 +1,11 @@
-use Rattle.repl_types.specs.declared.refusal.Refusal.TheVariants as refusals
-use Rattle.run_commands.specs.parts.laws.Exits.{err_also, ok_also, if_err_also}
+use Rattle.std.proofs.Common.{◌≡◌, ◌∙◌, List, false, refl, subst, sym}
+use Rattle.repl_model.specs.World.{World}
+use Rattle.run_core.specs.Runs.{Event, Went, Stopped, is_refused}
+use Rattle.site_store.specs.Views.{names, held}
+use Rattle.world_store.specs.Stands.{Stands}
+use Rattle.run_commands.specs.parts.laws.Composing.{part_as, part_refused}
 use Rattle.run_commands.specs.parts.laws.Looking.{looked_keeps}
-use Rattle.site_store.specs.laws.Counts.{keeps_itself}
-use Rattle.run_commands.specs.parts.laws.Parts.{output_cause}
-use Rattle.run_commands.specs.target.TargetEvents.{member_events}
-use Rattle.run_commands.proofs.AfterReads.{read_only, fails_test, refusal_as, prefix_as, copy_written, copy_begun}
+use Rattle.run_commands.proofs.AfterReads.{read_only, fails_test, copy_written, copy_begun}
 use Rattle.run_commands.proofs.TargetEvents.{other_refused, fails_run, fails_held, fails_keeps, show_cause}
 use Rattle.run_commands.proofs.target.show_found_target.Goals as goal
 
@@ -14,21 +15,8 @@ is_user_copy-requires g c = c.requires.there.member
 
 pub returns-then-not-is_user_copy : goal.returns-then-not-is_user_copy
 returns-then-not-is_user_copy g c =
-    let kept = g.K.Keeper.kept in
-    let s = c.args.sites.now in
-    let number = c.args.number in
-    let target = c.args.target.now in
-    let refusal = refusals.UnknownCommand number in
-    let t = g.O.Sink.taken c.args.output.now in
-    let u = g.O.Sink.taken c.refuse.new.output in
     let other = fails_test c.is_user_copy.result c.is_user_copy.ensures c.if-not-is_user_copy.true in
-    record {
-      ok = ok_also c.refuse.result (λ answer wrote w k member stands placed at. refusal_as kept s t u refusal w stands (member_events number w k member) (other_refused number w k member target placed at other) answer wrote) c.refuse.ensures.ok;
-      stopped = err_also c.refuse.result (λ wrote w k member stands placed at. prefix_as kept s t u refusal w stands (member_events number w k member) (other_refused number w k member target placed at other) wrote) c.refuse.ensures.stopped;
-      servers = keeps_itself kept s c.requires.closed;
-      cause = if_err_also c.refuse.result (output_cause kept s s (g.O.Sink.faults c.args.output.now) (g.O.Sink.faults c.refuse.new.output)) c.refuse.ensures.cause;
-      counts = c.refuse.ensures.counts;
-    }
+    λ events known. part_as events (λ w stands. let one = known w stands in let at = one.2 in other_refused c.args.number w one.0 at.0 c.args.target.now one.1 at.1 other ∙ sym at.2) (part_refused (λ refused. refused) c.requires.closed refl c.refuse.ensures)
 
 -- its rows were written
 pub show_copy-requires : goal.show_copy-requires
@@ -47,8 +35,12 @@ returns-in-Ok g c =
     let t = g.O.Sink.taken c.args.output.now in
     let u = g.O.Sink.taken c.show_copy.new.output in
     let copy = c.is_user_copy.ensures.0 c.if-not-is_user_copy.false in
-    record {
-      ok = copy_written kept s0 s1 shown.stays.held t u c.args.number c.args.target.now c.requires.there.read_only copy c.in-Ok.ensures.ok;
+    let written = copy_written kept s0 s1 shown.stays.held t u c.args.number c.args.target.now c.requires.there.read_only copy c.in-Ok.ensures.ok in
+    λ events known. record {
+      ok = λ w stands.
+          let one = known w stands in
+          let at = one.2 in
+          subst (λ (es : List (Event World)). Went (Stands (names s0)) es w (held kept s1) t u × (false ≡ is_refused es)) (sym at.2) (written w one.0 at.0 stands one.1 at.1);
       stopped = tt;
       servers = looked_keeps kept s0 s1 shown c.requires.closed;
       cause = tt;
@@ -74,10 +66,14 @@ returns-in-Err g c =
     let before = g.O.Sink.faults c.args.output.now in
     let now = g.O.Sink.faults c.show_copy.new.output in
     let copy = c.is_user_copy.ensures.0 c.if-not-is_user_copy.false in
-    record {
+    let begun = copy_begun kept s0 s1 (fails_held kept s0 s1 closed before now error fails) t u c.args.number target is copy c.in-Err.ensures.err in
+    λ events known. record {
       ok = tt;
-      stopped = copy_begun kept s0 s1 (fails_held kept s0 s1 closed before now error fails) t u c.args.number target is copy c.in-Err.ensures.err;
+      stopped = λ w stands.
+          let one = known w stands in
+          let at = one.2 in
+          subst (λ (es : List (Event World)). Stopped (Stands (names s0)) es w (held kept s1) t u) (sym at.2) (begun w one.0 at.0 stands one.1 at.1);
       servers = fails_keeps kept s0 s1 closed before now error fails;
-      cause = show_cause kept s0 s1 closed before now error c.error_of_reply.result c.error_of_reply.ensures fails (λ w stands. let one = c.requires.known w stands in c.in-Err.ensures.undamaged w one.0 stands one.1 (read_only w one.0 target.set one.1 is));
+      cause = show_cause kept s0 s1 closed before now error c.error_of_reply.result c.error_of_reply.ensures fails (λ w stands. let one = known w stands in c.in-Err.ensures.undamaged w one.0 stands one.1 (read_only w one.0 target.set one.1 is));
       counts = c.show_copy.ensures.counts;
     }

@@ -1,17 +1,7 @@
 -- Facts at the exits of a function.
-use Rattle.std.specs.Prelude.{Result, Ok, Err, OnErr, IfOk, IfErr}
+use Rattle.std.specs.Prelude.{Result, Ok, Err, IfOk, IfErr}
 
--- what holds in any case holds at an error
-pub on_err : {T E P : Type 0} (r : Result T E) → P → OnErr r P
-on_err (Ok x) p = tt
-on_err (Err e) p = p
-
--- what holds at an error, if something that follows from it is asked
-pub err_also : {T E P Q : Type 0} (r : Result T E) → (P → Q) → OnErr r P → OnErr r Q
-err_also (Ok x) also p = tt
-err_also (Err e) also p = also p
-
--- the same of what holds of the value
+-- what holds of a value, if something that follows from it is asked
 pub ok_also : {T E : Type 0} {P Q : T → Type 0} (r : Result T E) → ((x : T) → P x → Q x) → IfOk r P → IfOk r Q
 ok_also (Ok x) also p = also x p
 ok_also (Err e) also p = tt

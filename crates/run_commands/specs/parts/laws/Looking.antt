@@ -1,14 +1,12 @@
 -- Parts of a run that begin with reads.
-use Rattle.std.proofs.Common.{◌≡◌, inl, ℕ, ◌<◌, List, length, Bool, true, refl, sym, subst, arith}
+use Rattle.std.proofs.Common.{◌≡◌, inl, ℕ, ◌<◌, List, length, Bool, refl, sym, subst, arith}
 use Rattle.std.specs.Prelude.{Option, Some, IsSome}
-use Rattle.repl_types.specs.declared.refusal.Refusal.{Refusal}
 use Rattle.repl_types.specs.declared.fault.Fault.{Fault}
 use Rattle.repl_types.specs.declared.fault.Fault.TheVariants as faults
 use Rattle.keep_core.specs.Contents.{Contents}
 use Rattle.keep_core.specs.Kept.{Kept}
-use Rattle.keep_core.specs.Revealed.{Takes, TakesPrefix}
 use Rattle.repl_model.specs.World.{World}
-use Rattle.run_core.specs.Runs.{Event, Went, Stopped, lines_of}
+use Rattle.run_core.specs.Runs.{Event, Went, Stopped}
 use Rattle.run_core.specs.laws.Runs.{stopped_before}
 use Rattle.site_store.specs.Servers.{AllClosed}
 use Rattle.site_store.specs.Views.{names, held, work, sees}
@@ -20,11 +18,10 @@ use Rattle.site_store.specs.one_server.Calls.{Looks, Stops}
 use Rattle.world_store.specs.Stands.{Stands}
 use Rattle.run_commands.specs.parts.Causes.{PartHasCause, FoundByRead}
 use Rattle.run_commands.specs.parts.Parts.{Happened, StoppedIn}
-use Rattle.run_commands.specs.parts.Refusing.{refused}
 use Rattle.run_commands.specs.parts.RunErrors.{error_of_fault}
 use Rattle.run_commands.specs.declared.parts.run_error.RunError.{RunError}
 use Rattle.run_commands.specs.parts.laws.Damage.{IsShown, fault_reads, fault_cause}
-use Rattle.run_commands.specs.parts.laws.Parts.{happened_as, stopped_as, refusal_written, refusal_begun, later_cause}
+use Rattle.run_commands.specs.parts.laws.Parts.{later_cause}
 
 module _ {K : Type 0} (kept : K → Kept) (s0 s1 : Sites K) where
   -- ---- reads
@@ -66,15 +63,6 @@ module _ {K : Type 0} (kept : K → Kept) (s0 s1 : Sites K) where
       -- so it is with one that stopped
       pub stopped_looked : (events : World → List (Event World)) → StoppedIn kept s1 s2 t u events → StoppedIn kept s0 s2 t u events
       stopped_looked events stopped = λ w stands. ended_looked w (events w) (stopped w (looked_stands w stands))
-
-    module _ (t u : Option (List ℕ)) (refusal : Refusal) (events : World → List (Event World)) (same : (w : World) → Stands (names s0) (held kept s0) w → refused refusal ≡ events w) where
-      -- the line of a refusal was written after them, which is all that was to be done
-      pub refused_after : (answer : Bool) → (answer ≡ true) × Takes t u (lines_of (refused refusal)) → Happened kept s0 s1 t u events answer
-      refused_after answer wrote = happened_as kept s0 s1 t u (λ w. refused refusal) events same answer (happened_looked s1 t u (λ w. refused refusal) answer (refusal_written kept s1 t u refusal answer wrote))
-
-      -- a prefix of it was
-      pub begun_after : TakesPrefix t u (lines_of (refused refusal)) → StoppedIn kept s0 s1 t u events
-      begun_after wrote = stopped_as kept s0 s1 t u (λ w. refused refusal) events same (stopped_looked s1 t u (λ w. refused refusal) (refusal_begun kept s1 t u refusal wrote))
 
     -- why a part after them ended
     pub cause_looked : AllClosed (work kept s0) → (s2 : Sites K) (before now : ℕ) (e : RunError) → PartHasCause kept s1 s2 before now e → PartHasCause kept s0 s2 before now e

@@ -89,6 +89,15 @@ module _ {K : Type 0} (kept : K → Kept) (s0 s1 : Sites K) where
   output_cause before now (errors.KeeperFailed n) h = absurd h
   output_cause before now (errors.Damaged n a cause) h = absurd h
 
+-- it failed as it wrote also if it wrote something else before
+pub output_later : (before now later : ℕ) (e : RunError) → before ≤ now → IsOfOutput now later e → IsOfOutput before later e
+output_later before now later errors.Memory le h = tt
+output_later before now later errors.InputFailed le h = absurd h
+output_later before now later errors.InputTooLong le h = absurd h
+output_later before now later errors.OutputFailed le h = λ lt. omega (arith, h (omega (arith, lt, le)), le)
+output_later before now later (errors.KeeperFailed n) le h = absurd h
+output_later before now later (errors.Damaged n a cause) le h = absurd h
+
 -- it found no damage
 pub output_reads : (before now : ℕ) (e : RunError) → IsOfOutput before now e → FoundByRead e
 output_reads before now errors.Memory h = tt

@@ -1,39 +1,34 @@
-use Rattle.std.proofs.Common.{◌≡◌, rules, sym, subst}
-use Rattle.std.specs.Prelude.{IfOk, OnErr}
-use Rattle.repl_types.specs.declared.refusal.Refusal.{Refusal}
-use Rattle.script_text.specs.Asked.{Asked, asked_by, bad}
-use Rattle.run_commands.specs.parts.Parts.{StoppedIn}
+use Rattle.std.proofs.Common.{◌≡◌, ◌∙◌, ap, rules, sym, subst}
+use Rattle.std.specs.Prelude.{IfOk}
+use Rattle.script_text.specs.Asked.{Asked, asked_by, unknown, bad}
 use Rattle.run_commands.specs.parts.Refusing.{refused}
-use Rattle.run_commands.specs.parts.laws.Parts.{nothing_done}
-use Rattle.session_core.specs.Answers.{Answers}
-use Rattle.session_core.specs.Bodies.{after_asked, unfed}
+use Rattle.run_commands.specs.parts.laws.Composing.{no_memory, part_as}
+use Rattle.session_core.specs.Answers.{Follows}
+use Rattle.session_core.specs.Bodies.{after_asked}
 use Rattle.session_core.specs.Commands.{asked_events, command_line_events}
 use Rattle.session_core.proofs.commands.run_line.Goals as goal
 
 -- nothing was done at a line for which there was no memory
-pub returns-in-Err-Memory-clause-stopped : goal.returns-in-Err-Memory-clause-stopped
-returns-in-Err-Memory-clause-stopped g c = nothing_done g.K.Keeper.kept c.args.sites.now (g.O.Sink.taken c.args.output.now) (command_line_events c.args.number c.args.line.now)
+pub returns-in-Err-Memory : goal.returns-in-Err-Memory
+returns-in-Err-Memory g c = record { part = no_memory (command_line_events c.args.number c.args.line.now) c.requires; bodies = tt }
 
-pub returns-in-Err-BadLine-clause-ok : goal.returns-in-Err-BadLine-clause-ok
-returns-in-Err-BadLine-clause-ok g c =
-    let kept = g.K.Keeper.kept in
-    let sites = c.args.sites.now in
+-- a line that asks for no command was refused
+pub returns-in-Err-UnknownCommand-clause-part : goal.returns-in-Err-UnknownCommand-clause-part
+returns-in-Err-UnknownCommand-clause-part g c =
+    let number = c.args.number in
     let line = c.args.line.now in
-    let t = g.O.Sink.taken c.args.output.now in
-    let u = g.O.Sink.taken c.refuse_unfed-in-Err-BadLine.new.output in
-    let result = c.refuse_unfed-in-Err-BadLine.result in
-    let is : asked_by line ≡ bad = search rules in
-    subst (λ (asked : Asked). IfOk result (Answers kept sites sites t u (asked_events c.args.number line asked) (after_asked line asked) 1)) (sym is)
-    (subst (λ (refusal : Refusal). IfOk result (Answers kept sites sites t u (λ w. refused refusal) (λ w. unfed line) 1)) c.bad_line_refusal-refusal.ensures c.refuse_unfed-in-Err-BadLine.ensures.ok)
+    let is : asked_by line ≡ unknown = search rules in
+    part_as (command_line_events number line) (λ w stands. ap (λ (asked : Asked). asked_events number line asked w) (sym is)) c.refuse_unfed.ensures.part
 
-pub returns-in-Err-BadLine-clause-stopped : goal.returns-in-Err-BadLine-clause-stopped
-returns-in-Err-BadLine-clause-stopped g c =
-    let kept = g.K.Keeper.kept in
-    let sites = c.args.sites.now in
+-- a line that isn't of the form of its command was refused
+pub returns-in-Err-BadLine : goal.returns-in-Err-BadLine
+returns-in-Err-BadLine g c =
+    let number = c.args.number in
     let line = c.args.line.now in
-    let t = g.O.Sink.taken c.args.output.now in
-    let u = g.O.Sink.taken c.refuse_unfed-in-Err-BadLine.new.output in
-    let result = c.refuse_unfed-in-Err-BadLine.result in
+    let r = c.refuse_unfed-in-Err-BadLine.result in
+    let answers = c.refuse_unfed-in-Err-BadLine.ensures in
     let is : asked_by line ≡ bad = search rules in
-    subst (λ (asked : Asked). OnErr result (StoppedIn kept sites sites t u (asked_events c.args.number line asked))) (sym is)
-    (subst (λ (refusal : Refusal). OnErr result (StoppedIn kept sites sites t u (λ w. refused refusal))) c.bad_line_refusal-refusal.ensures c.refuse_unfed-in-Err-BadLine.ensures.stopped)
+    record {
+      part = part_as (command_line_events number line) (λ w stands. ap refused c.bad_line_refusal-refusal.ensures ∙ ap (λ (asked : Asked). asked_events number line asked w) (sym is)) answers.part;
+      bodies = subst (λ (asked : Asked). IfOk r (Follows g.K.Keeper.kept c.args.sites.now (after_asked line asked) 1)) (sym is) answers.bodies;
+    }

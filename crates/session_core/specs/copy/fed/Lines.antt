@@ -1,12 +1,12 @@
 -- What is done at what is read of an input: a line within the limit, one over it, or the end.
-use Rattle.std.specs.Prelude.{◌≡◌, ◌≤◌, ℕ, ◌+◌, Bool, true, false, ◌||◌, List, [], length, Option, Some, None, is_none}
+use Rattle.std.specs.Prelude.{◌≡◌, ◌≤◌, ℕ, ◌+◌, Bool, true, false, List, [], length, Option, Some, None, is_none}
 use Rattle.std.specs.Option.{IfSome}
 use Rattle.keep_core.specs.Kept.{Kept}
 use Rattle.line_input.specs.declared.input.Next.{Next}
 use Rattle.line_input.specs.declared.input.Next.TheVariants.{End, Line, LongLine}
 use Rattle.repl_types.specs.declared.refusal.Refusal.TheVariants as refusals
 use Rattle.repl_model.specs.World.{World}
-use Rattle.run_core.specs.Runs.{Event, Went, is_refused}
+use Rattle.run_core.specs.Runs.{Event}
 use Rattle.site_store.specs.Views.{names, held}
 use Rattle.site_store.specs.declared.sites.Sites.{Sites}
 use Rattle.world_store.specs.Stands.{Stands}
@@ -54,14 +54,12 @@ end_events (Some feed) w = feed_end_events feed w
 
 -- ---- an answer
 
-module _ {K : Type 0} (kept : K → Kept) (old new : Sites K) (before now : Option (List ℕ)) (was : Bool) (events : World → List (Event World)) where
-  -- All of this happened, and the answer says whether something was refused, in it or before.
-  abbrev pub HappenedAfter : Bool → Type 0
-  HappenedAfter refused = (w : World) → Stands (names old) (held kept old) w → Went (Stands (names old)) (events w) w (held kept new) before now × (refused ≡ (was || is_refused (events w)))
+-- what was refused at a line, if something may have been refused before
+abbrev pub refuses_now : Option Feed → Option Feed → Bool
+refuses_now None after = false
+refuses_now (Some feed) after = is_none after
 
-  -- All of this happened at a line, and this is the feed after it, which has read no more records than there were lines: None
-  -- if something was refused.
-  pub record Feeds (after : World → Option Feed) (number : ℕ) (feed : Option Feed) : Type 0 where
-    pub happened : HappenedAfter (is_none feed)
-    pub after_it : (w : World) → Stands (names old) (held kept old) w → feed ≡ after w
-    pub fed : IfSome feed (λ f. IsFeed f × (f.fed + length f.records ≤ number))
+-- This is the feed after a line, None if something was refused, and it has read no more records than there were lines.
+pub record FeedsOn {K : Type 0} (kept : K → Kept) (old : Sites K) (after : World → Option Feed) (number : ℕ) (feed : Option Feed) : Type 0 where
+  pub after_it : (w : World) → Stands (names old) (held kept old) w → feed ≡ after w
+  pub fed : IfSome feed (λ f. IsFeed f × (f.fed + length f.records ≤ number))

@@ -1,16 +1,9 @@
 //! The lines of an input, fed one after another.
 
-ghost use Rattle.std.specs.Prelude.{◌≡◌, ◌≤◌, IfOk, IfErr, OnErr};
-ghost use Rattle.repl_model.specs.World.{World};
-ghost use Rattle.run_core.specs.Runs.{Went, Stopped, is_refused};
 ghost use Rattle.site_store.specs.Servers.{AllClosed};
-ghost use Rattle.site_store.specs.Views.{names, held, work};
-ghost use Rattle.site_store.specs.Calls.{KeepsServers};
-ghost use Rattle.world_store.specs.Stands.{Stands};
-ghost use Rattle.run_commands.specs.parts.Causes.{BlamesServers, HasEnded};
-ghost use Rattle.run_commands.specs.parts.ExitStatus.{status_of_error};
-ghost use Rattle.session_core.specs.Inputs.{OfInput};
+ghost use Rattle.site_store.specs.Views.{work};
 ghost use Rattle.session_core.specs.copy.fed.FedInput.{input_events};
+ghost use Rattle.session_core.specs.Reading.{IsReading};
 
 use crate::copy::fed::lines::{end_lines, feed_next, is_end};
 use keep_core::{Keeper, Sink, Source};
@@ -32,21 +25,8 @@ pub fn feed_input<K: Keeper, I: Source, O: Sink>(
     server: Name,
 ) -> Result<bool, RunError>
     requires { AllClosed (work K.kept sites.old) }
-    ensures ok { IfOk result (λ refused. (w : World)
-        → Stands (names sites.old) (held K.kept sites.old) w → OfInput (I.left input.old) (λ bytes.
-        Went (Stands (names sites.old)) (input_events server bytes w) w (held K.kept sites.new)
-        (O.taken output.old) (O.taken output.new)
-        × (refused ≡ is_refused (input_events server bytes w)))) }
-    ensures stopped { OnErr result ((w : World)
-        → Stands (names sites.old) (held K.kept sites.old) w → OfInput (I.left input.old) (λ bytes.
-        Stopped (Stands (names sites.old)) (input_events server bytes w) w
-        (held K.kept sites.new) (O.taken output.old) (O.taken output.new))) }
-    ensures ended { HasEnded (I.left input.old) (I.left input.new) (I.faults input.old)
-        (I.faults input.new) (O.faults output.old) (O.faults output.new) result }
-    ensures servers { KeepsServers K.kept sites.old sites.new }
-    ensures cause { IfErr result (λ e.
-        BlamesServers K.kept sites.old sites.new (status_of_error e)) }
-    ensures counts { O.faults output.old ≤ O.faults output.new }
+    ensures { IsReading K.kept I.left I.faults O.taken O.faults sites.old sites.new input.old
+        input.new output.old output.new (input_events server) result }
 {
     let mut lines = Input::new(alloc)?;
     let mut line = Vec::new(alloc);
@@ -60,6 +40,7 @@ pub fn feed_input<K: Keeper, I: Source, O: Sink>(
         feed = feed_next(alloc, sites, output, feed, number, next, &line)?;
         number += 1;
     }
+    let before = feed.is_none();
     let refused = end_lines(alloc, sites, output, feed)?;
-    Ok(refused)
+    Ok(before | refused)
 }

@@ -1,19 +1,17 @@
 //! One line of an input, and its end.
 
-ghost use Rattle.std.specs.Prelude.{◌≡◌, ◌<◌, ◌≤◌, ◌+◌, length, IfOk, IfErr, IfSome, OnErr, OnOk};
-ghost use Rattle.std.specs.Prelude.{true, false, is_none};
+ghost use Rattle.std.specs.Prelude.{◌≡◌, ◌<◌, ◌≤◌, ◌+◌, length, IfOk, IfSome, None};
+ghost use Rattle.std.specs.Prelude.{is_none};
 ghost use Rattle.line_input.specs.Limits.{input_limit};
 ghost use Rattle.repl_types.specs.declared.refusal.Refusal.TheVariants.{LineTooLong};
-ghost use Rattle.run_commands.specs.parts.Causes.{PartHasCause};
-ghost use Rattle.run_commands.specs.parts.Parts.{Happened, StoppedIn};
-ghost use Rattle.site_store.specs.Calls.{KeepsServers};
 ghost use Rattle.site_store.specs.Servers.{AllClosed};
 ghost use Rattle.site_store.specs.Views.{work};
 ghost use Rattle.run_commands.specs.feed.Feeds.{IsFeed};
 ghost use Rattle.run_commands.specs.feed.FeedEvents.{refused_events};
-ghost use Rattle.session_core.specs.copy.fed.Lines.{read_events, read_after};
+ghost use Rattle.run_commands.specs.parts.Parts.{IsPart};
+ghost use Rattle.session_core.specs.copy.fed.Lines.{read_events, read_after, FeedsOn, refuses_now};
 ghost use Rattle.session_core.specs.copy.fed.Lines.{next_events, next_after, end_events};
-ghost use Rattle.session_core.specs.copy.fed.Lines.{HappenedAfter, Feeds, is_end as is_end_lem};
+ghost use Rattle.session_core.specs.copy.fed.Lines.{is_end as is_end_lem};
 
 use crate::fed_lines::feed_short_line;
 use keep_core::{Keeper, Sink};
@@ -31,24 +29,19 @@ pub fn is_end(next: Next) -> bool
     matches!(next, Next::End)
 }
 
-/// Refuses a line over the limit, after the records before it are committed.
+/// Refuses a line over the limit, after the records before it are committed, and answers `None`.
 fn refuse_long_line<K: Keeper, O: Sink>(
     alloc: Global,
     sites: &mut Sites<K>,
     output: &mut O,
     feed: &Feed,
     number: u64,
-) -> Result<(), RunError>
+) -> Result<Option<Feed>, RunError>
     requires closed { AllClosed (work K.kept sites.old) }
     requires feed { IsFeed feed.now }
-    ensures ok { OnOk result (Happened K.kept sites.old sites.new (O.taken output.old)
-        (O.taken output.new) (refused_events feed.now (LineTooLong number)) true) }
-    ensures stopped { OnErr result (StoppedIn K.kept sites.old sites.new (O.taken output.old)
-        (O.taken output.new) (refused_events feed.now (LineTooLong number))) }
-    ensures servers { KeepsServers K.kept sites.old sites.new }
-    ensures cause { IfErr result (PartHasCause K.kept sites.old sites.new (O.faults output.old)
-        (O.faults output.new)) }
-    ensures counts { O.faults output.old ≤ O.faults output.new }
+    ensures part { IsPart K.kept O.taken O.faults sites.old sites.new output.old output.new
+        (refused_events feed.now (LineTooLong number)) is_none result }
+    ensures none { IfOk result (λ after. after ≡ None) }
 {
     refuse_line(
         alloc,
@@ -74,23 +67,15 @@ fn feed_read<K: Keeper, O: Sink>(
     requires feed { IsFeed feed }
     requires later { feed.fed + length feed.records < number }
     requires few { number ≤ input_limit }
-    ensures ok { IfOk result (Feeds K.kept sites.old sites.new (O.taken output.old)
-        (O.taken output.new) false (read_events feed number next line.now)
+    ensures part { IsPart K.kept O.taken O.faults sites.old sites.new output.old output.new
+        (read_events feed number next line.now) is_none result }
+    ensures after { IfOk result (FeedsOn K.kept sites.old
         (read_after feed number next line.now) number) }
-    ensures stopped { OnErr result (StoppedIn K.kept sites.old sites.new (O.taken output.old)
-        (O.taken output.new) (read_events feed number next line.now)) }
-    ensures servers { KeepsServers K.kept sites.old sites.new }
-    ensures cause { IfErr result (PartHasCause K.kept sites.old sites.new (O.faults output.old)
-        (O.faults output.new)) }
-    ensures counts { O.faults output.old ≤ O.faults output.new }
 {
     match next {
         Next::End => Ok(Some(feed)),
         Next::Line => feed_short_line(alloc, sites, output, feed, number, line),
-        Next::LongLine => {
-            refuse_long_line(alloc, sites, output, &feed, number)?;
-            Ok(None)
-        }
+        Next::LongLine => refuse_long_line(alloc, sites, output, &feed, number),
     }
 }
 
@@ -107,15 +92,10 @@ pub fn feed_next<K: Keeper, O: Sink>(
     requires closed { AllClosed (work K.kept sites.old) }
     requires feed { IfSome feed (λ f. IsFeed f × (f.fed + length f.records < number)) }
     requires few { number ≤ input_limit }
-    ensures ok { IfOk result (Feeds K.kept sites.old sites.new (O.taken output.old)
-        (O.taken output.new) (is_none feed) (next_events feed number next line.now)
+    ensures part { IsPart K.kept O.taken O.faults sites.old sites.new output.old output.new
+        (next_events feed number next line.now) (refuses_now feed) result }
+    ensures after { IfOk result (FeedsOn K.kept sites.old
         (next_after feed number next line.now) number) }
-    ensures stopped { OnErr result (StoppedIn K.kept sites.old sites.new (O.taken output.old)
-        (O.taken output.new) (next_events feed number next line.now)) }
-    ensures servers { KeepsServers K.kept sites.old sites.new }
-    ensures cause { IfErr result (PartHasCause K.kept sites.old sites.new (O.faults output.old)
-        (O.faults output.new)) }
-    ensures counts { O.faults output.old ≤ O.faults output.new }
 {
     match feed {
         Some(feed) => feed_read(alloc, sites, output, feed, number, next, line),
@@ -124,7 +104,7 @@ pub fn feed_next<K: Keeper, O: Sink>(
 }
 
 /// Ends the feed at the end of the input, unless something was refused before. Says whether
-/// something was refused.
+/// something is refused now.
 pub fn end_lines<K: Keeper, O: Sink>(
     alloc: Global,
     sites: &mut Sites<K>,
@@ -133,17 +113,11 @@ pub fn end_lines<K: Keeper, O: Sink>(
 ) -> Result<bool, RunError>
     requires closed { AllClosed (work K.kept sites.old) }
     requires feed { IfSome feed IsFeed }
-    ensures ok { IfOk result (HappenedAfter K.kept sites.old sites.new (O.taken output.old)
-        (O.taken output.new) (is_none feed) (end_events feed)) }
-    ensures stopped { OnErr result (StoppedIn K.kept sites.old sites.new (O.taken output.old)
-        (O.taken output.new) (end_events feed)) }
-    ensures servers { KeepsServers K.kept sites.old sites.new }
-    ensures cause { IfErr result (PartHasCause K.kept sites.old sites.new (O.faults output.old)
-        (O.faults output.new)) }
-    ensures counts { O.faults output.old ≤ O.faults output.new }
+    ensures { IsPart K.kept O.taken O.faults sites.old sites.new output.old output.new
+        (end_events feed) (λ refused. refused) result }
 {
     match feed {
         Some(feed) => end_feed(alloc, sites, output, &feed),
-        None => Ok(true),
+        None => Ok(false),
     }
 }

@@ -1,6 +1,6 @@
 -- Laws of parts of a run whose lines aren't written: proofs, and nothing to believe.
-use Rattle.std.proofs.Common.{◌≡◌, ◌∙◌, ℕ, List, [], ◌∷◌, ◌++◌, Bool, false, refl, sym, ap, subst}
-use Rattle.std.specs.Prelude.{Option}
+use Rattle.std.proofs.Common.{◌≡◌, ◌∙◌, ℕ, List, [], ◌∷◌, ◌++◌, Bool, false, refl, sym, ap, subst, arith}
+use Rattle.std.specs.Prelude.{Option, Ok, Err}
 use Rattle.keep_core.specs.Contents.{Contents}
 use Rattle.keep_core.specs.Kept.{Kept}
 use Rattle.keep_core.specs.Revealed.{Takes}
@@ -11,7 +11,9 @@ use Rattle.run_core.specs.laws.Runs.{no_part}
 use Rattle.site_store.specs.Views.{names, held}
 use Rattle.site_store.specs.declared.sites.Sites.{Sites}
 use Rattle.world_store.specs.Stands.{Stands}
-use Rattle.run_commands.specs.parts.Parts.{Happened, StoppedIn}
+use Rattle.run_commands.specs.parts.Parts.{IsPart}
+use Rattle.run_commands.specs.declared.parts.run_error.RunError.{RunError}
+use Rattle.session_core.specs.copy.unwritten.laws.Causes.{cause_unwritten}
 use Rattle.session_core.specs.copy.unwritten.Unwritten.{unwritten}
 
 -- ---- events without their lines
@@ -70,11 +72,24 @@ module _ {W : Type 0} (Means : List (Option Contents) → W → Type 0) (events 
     is_part = no_part (unwritten stopped.rest);
   }
 
-module _ {K : Type 0} (kept : K → Kept) (s0 s1 : Sites K) (before now t : Option (List ℕ)) (events : World → List (Event World)) where
-  -- so did a part at servers, and then nothing was refused
-  pub happened_unwritten : (answer : Bool) → Happened kept s0 s1 before now events answer → Happened kept s0 s1 t t (λ w. unwritten (events w)) false
-  happened_unwritten answer happened = λ w stands. (went_unwritten (Stands (names s0)) (events w) w (held kept s1) before now t (happened w stands).0, sym (unwritten_refused (events w)))
+module _ {K O : Type 0} {kept : K → Kept} {taken : O → Option (List ℕ)} {faults : O → ℕ} {s0 s1 : Sites K} {o p : O} {events : World → List (Event World)} {T : Type 0} {refuses : T → Bool} (bytes : Option (List ℕ)) (count : ℕ) where
+  -- so did a part at servers, which refuses nothing then
+  pub part_unwritten : {U : Type 0} {x : T} (y : U) → IsPart kept taken faults s0 s1 o p events refuses (Ok x) → IsPart kept (λ (b : Option (List ℕ)). b) (λ b. count) s0 s1 bytes bytes (λ w. unwritten (events w)) (λ (z : U). false) (Ok y)
+  part_unwritten y part = record {
+    ok = λ w stands. (went_unwritten (Stands (names s0)) (events w) w (held kept s1) (taken o) (taken p) bytes (part.ok w stands).0, sym (unwritten_refused (events w)));
+    stopped = tt;
+    servers = part.servers;
+    cause = tt;
+    counts = omega arith;
+  }
 
-  -- or it stopped
-  pub stopped_in_unwritten : StoppedIn kept s0 s1 before now events → StoppedIn kept s0 s1 t t (λ w. unwritten (events w))
-  stopped_in_unwritten stopped = λ w stands. stopped_unwritten (Stands (names s0)) (events w) w (held kept s1) before now t (stopped w stands)
+module _ {K O : Type 0} {kept : K → Kept} {taken : O → Option (List ℕ)} {s0 s1 : Sites K} {o p : O} {events : World → List (Event World)} {T : Type 0} {refuses : T → Bool} (bytes : Option (List ℕ)) (count : ℕ) where
+  -- or it failed, if its sink never does
+  pub failed_unwritten : {U : Type 0} {e : RunError} → IsPart kept taken (λ _. 0) s0 s1 o p events refuses (Err e) → IsPart kept (λ (b : Option (List ℕ)). b) (λ b. count) s0 s1 bytes bytes (λ w. unwritten (events w)) (λ (z : U). false) (Err e)
+  failed_unwritten {e = e} part = record {
+    ok = tt;
+    stopped = λ w stands. stopped_unwritten (Stands (names s0)) (events w) w (held kept s1) (taken o) (taken p) bytes (part.stopped w stands);
+    servers = part.servers;
+    cause = cause_unwritten kept s0 s1 count count e part.cause;
+    counts = omega arith;
+  }
