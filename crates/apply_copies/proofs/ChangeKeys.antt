@@ -1,31 +1,17 @@
 -- The order of the keys of change rows, and their numbers: proofs.
-use Rattle.std.proofs.Common.{◌≡◌, ℕ, ◌+◌, ◌-◌, ◌*◌, ◌^◌, ◌<◌, ◌≤◌, false, refl, sym, ap, ◌∙◌, arith}
-use Rattle.std.proofs.Math.Nat.{mul-le-mul_left}
-use Rattle.std.specs.Prelude.{nat_lt}
+use Rattle.std.proofs.Common.{◌≡◌, ℕ, ◌+◌, ◌-◌, ◌*◌, ◌^◌, ◌<◌, ◌≤◌, false, refl, sym, ap, ◌∙◌, arith, mul-le-mul_left, nat_lt, Ordering, Less, Equal, Greater, lt-ltb, le-ltb}
 use Rattle.std.specs.Ordering.{nat_cmp, ordering_then, is_lt}
 use Rattle.std.specs.Cmp.{ranked}
-use Rattle.std.specs.declared.cmp.Ordering.{Ordering}
-use Rattle.std.specs.declared.cmp.Ordering.TheVariants.{Less, Equal, Greater}
-use Rattle.std.proofs.lemmas.Bool.{lt-ltb, le-ltb}
-use Rattle.repl_types.specs.Bytes.{bytes_cmp}
-use Rattle.repl_types.specs.Sequence.{sequence_cmp}
-use Rattle.repl_types.specs.declared.sequence.Sequence.{Sequence}
-use Rattle.row_codec.specs.laws.Orders.{whole_order}
-use Rattle.repl_records.specs.RecordKeys.{IsChangeKey, change_key_spelling, change_key_cmp}
-use Rattle.repl_records.specs.laws.RecordKeys.{order_change_key}
-use Rattle.repl_records.specs.declared.record_keys.CdKey.{CdKey}
-use Rattle.rows_in_order.specs.Rows.{is_before}
+use Rattle.world_store.specs.Words.{IsChangeKey, change_key_spelling, change_key_cmp, CdKey, is_before}
+use Rattle.repl_model.specs.Words.{bytes_cmp, sequence_cmp, Sequence}
 use Rattle.apply_copies.specs.Changing.{start_of, IsLaterChange}
+use Rattle.stored_commits.specs.laws.CapturedPuts.{keys_in_order}
 
 -- ---- order
 
--- the order of the bytes is the order of the keys
-bytes_in_order : (k l : CdKey) → IsChangeKey k → IsChangeKey l → bytes_cmp (change_key_spelling k) (change_key_spelling l) ≡ change_key_cmp k l
-bytes_in_order = whole_order IsChangeKey change_key_spelling change_key_cmp order_change_key
-
 -- a later row isn't of an earlier unit
 pub units_rise : (k l : CdKey) → IsChangeKey k → IsChangeKey l → bytes_cmp (change_key_spelling k) (change_key_spelling l) ≡ Less → k.commitseq ≤ l.commitseq
-units_rise k l fk fl less = pick (nat_cmp k.commitseq l.commitseq) refl (sym (bytes_in_order k l fk fl) ∙ less)
+units_rise k l fk fl less = pick (nat_cmp k.commitseq l.commitseq) refl (sym (keys_in_order k l fk fl) ∙ less)
   where
     pick : (o : Ordering) → nat_cmp k.commitseq l.commitseq ≡ o → ordering_then o (sequence_cmp k.intentseq l.intentseq) ≡ Less → k.commitseq ≤ l.commitseq
     pick Less e h = omega (arith, ranked k.commitseq l.commitseq Less (sym e))
@@ -49,7 +35,7 @@ none_after s few small = pick (nat_cmp (2 ^ 64 - 1) s.position) refl (nat_cmp (2
 
 -- a change row stands after the start of a point if its unit is after the point
 pub starts_at : (point : ℕ) (k : CdKey) → IsChangeKey (start_of point) → IsChangeKey k → is_before (change_key_spelling (start_of point)) (change_key_spelling k) ≡ nat_lt point k.commitseq
-starts_at point k fits fit = ap is_lt (bytes_in_order (start_of point) k fits fit) ∙ pick (nat_cmp point k.commitseq) refl
+starts_at point k fits fit = ap is_lt (keys_in_order (start_of point) k fits fit) ∙ pick (nat_cmp point k.commitseq) refl
   where
     pick : (o : Ordering) → nat_cmp point k.commitseq ≡ o → is_lt (ordering_then o (sequence_cmp (start_of point).intentseq k.intentseq)) ≡ nat_lt point k.commitseq
     pick Less e = sym (lt-ltb point k.commitseq (ranked point k.commitseq Less (sym e)))
@@ -82,7 +68,7 @@ rank_rises k l fk later =
     let s = k.intentseq in
     let t = l.intentseq in
     let small : s.position * 2 ^ 16 + s.sub < 2 ^ 80 = omega (arith, fk.1.0, fk.1.1) in
-    let order : change_key_cmp k l ≡ Less = sym (bytes_in_order k l fk later.fits) ∙ later.above in
+    let order : change_key_cmp k l ≡ Less = sym (keys_in_order k l fk later.fits) ∙ later.above in
     ranks_pair (2 ^ 80) k.commitseq l.commitseq (s.position * 2 ^ 16 + s.sub) (t.position * 2 ^ 16 + t.sub) (sequence_cmp s t) small order (λ h. ranks_pair (2 ^ 16) s.position t.position s.sub t.sub (nat_cmp s.sub t.sub) fk.1.1 h (λ e. ranked s.sub t.sub Less (sym e)))
 
 -- no number is above the number of keys

@@ -1,13 +1,10 @@
 -- How often change rows are read: proofs.
-use Rattle.std.proofs.Common.{◌≡◌, ℕ, ◌≤◌, Bool, true, false, cond, sym, subst, arith}
-use Rattle.std.specs.Prelude.{◌==◌}
-use Rattle.repl_types.specs.declared.area.Area.TheVariants as areas
-use Rattle.repl_types.specs.declared.change_row.Op.{Op}
-use Rattle.repl_types.specs.declared.change_row.Op.TheVariants.{I, U, D}
-use Rattle.repl_types.specs.declared.fault.Counts.{Counts}
-use Rattle.keep_core.specs.Kept.{Kept}
+use Rattle.std.proofs.Common.{◌≡◌, ℕ, ◌≤◌, Bool, true, false, cond, sym, subst, arith, ◌==◌}
+use Rattle.site_store.specs.Words.{Kept, reads_of_one, Reads}
 use Rattle.site_store.specs.declared.sites.Sites.{Sites}
-use Rattle.site_store.specs.Calls.{reads_of_one, Reads}
+use Rattle.repl_model.specs.Words.{Op, Counts}
+use Rattle.repl_types.specs.declared.area.Area.TheVariants as areas
+use Rattle.repl_types.specs.declared.change_row.Op.TheVariants.{I, U, D}
 use Rattle.target_steps.specs.Taking.{change_reads, ReadsCounted}
 use Rattle.apply_copies.specs.Changing.{counted, ReadsOnce}
 

@@ -1,34 +1,16 @@
 -- A target takes change rows, one after another: proofs.
-use Rattle.std.proofs.Common.{◌≡◌, ℕ, ◌+◌, ◌^◌, ◌<◌, ◌≤◌, Bool, true, false, cond, List, [], ◌∷◌, ◌++◌, length, map, append_assoc, append-nil, length-append, inl, inr, refl, sym, ap, subst, ◌∙◌, arith}
-use Rattle.std.specs.Prelude.{◌&&◌, nat_lt, nat_le, filter, Option, Some, None, IfSome}
+use Rattle.std.proofs.Common.{◌≡◌, ℕ, ◌+◌, ◌^◌, ◌<◌, ◌≤◌, Bool, true, false, cond, List, [], ◌∷◌, ◌++◌, length, map, append_assoc, append-nil, length-append, inl, inr, refl, sym, ap, subst, ◌∙◌, arith, ◌&&◌, nat_lt, nat_le, filter, Option, Some, None, IfSome}
 use Rattle.std.specs.List.{AllByRecursion}
 use Rattle.std.proofs.lemmas.Bool.{le-leb, lt-leb}
 use Rattle.std.proofs.lemmas.List.{length-map, map-append}
 use Rattle.std.proofs.lemmas.List.Elements.{filter-append}
 use Rattle.std.proofs.lemmas.List.Sums.{count_by-le-length, sum_by-append}
-use Rattle.repl_types.specs.declared.area.Area.{Area}
+use Rattle.world_store.specs.Words.{IsChangeRow, change_row_spelling, IsChangeKey, change_key_spelling, CdKey, ChangeRow, is_before, rows_after, AllAfter, NextRow, after_first, after_next, fits_next, no_row, RowFits, count_op, is_insert, is_update, is_delete, filter_few}
+use Rattle.site_store.specs.Words.{Contents, Table, IsLastKey, IsNextKey, ShownBefore, any_seen, if_seen, if_both_seen}
+use Rattle.repl_model.specs.Words.{Area, CdRow, Op, all_append, all_filter, all_weaker, filter_all, filter_alike, filter_none, Counts, Member, SourceTable}
 use Rattle.repl_types.specs.declared.area.Area.TheVariants as areas
-use Rattle.repl_types.specs.declared.change_row.CdRow.{CdRow}
-use Rattle.repl_types.specs.declared.change_row.Op.{Op}
 use Rattle.repl_types.specs.declared.change_row.Op.TheVariants.{I, U, D}
-use Rattle.repl_types.specs.laws.Lists.{all_append, all_filter, all_weaker, filter_all, filter_alike, filter_none}
-use Rattle.repl_types.specs.declared.fault.Counts.{Counts}
-use Rattle.keep_core.specs.Contents.{Contents, Table, IsLastKey, IsNextKey}
-use Rattle.repl_definitions.specs.declared.member.Member.{Member}
-use Rattle.repl_records.specs.Capture.{IsChangeRow, change_row_spelling}
-use Rattle.repl_records.specs.RecordKeys.{IsChangeKey, change_key_spelling}
-use Rattle.repl_records.specs.declared.record_keys.CdKey.{CdKey}
-use Rattle.repl_records.specs.declared.capture.ChangeRow.{ChangeRow}
-use Rattle.repl_model.specs.Selection.{SourceTable}
-use Rattle.rows_in_order.specs.Rows.{is_before, rows_after, AllAfter, NextRow}
-use Rattle.rows_in_order.specs.laws.After.{after_first, after_next}
-use Rattle.rows_in_order.specs.laws.Fitting.{fits_next}
-use Rattle.rows_in_order.specs.laws.Rising.{no_row}
-use Rattle.site_store.specs.Damage.{ShownBefore}
-use Rattle.world_store.specs.SpelledRows.{RowFits}
-use Rattle.site_store.specs.laws.Passing.{any_seen, if_seen, if_both_seen}
 use Rattle.stored_commits.specs.units.StoredChanges.{stored_change}
-use Rattle.world_store.specs.TargetRows.{count_op, is_insert, is_update, is_delete}
 use Rattle.cd_tables.specs.StoredRows.{change_of}
 use Rattle.cd_tables.specs.laws.SoundChanges.{ChangeRowFits}
 use Rattle.stored_commits.specs.copies.ChangedCopies.{with_change, with_changes}
@@ -37,7 +19,6 @@ use Rattle.apply_copies.specs.Loading.{is_target}
 use Rattle.apply_copies.specs.Rules.{target_rules}
 use Rattle.target_steps.specs.Taking.{counts_of}
 use Rattle.apply_copies.specs.laws.ChangesUndamaged.{changes_apart}
-use Rattle.world_store.specs.laws.FewRows.{filter_few}
 use Rattle.apply_copies.proofs.ChangeKeys.{units_rise, starts_at}
 
 -- ---- counts

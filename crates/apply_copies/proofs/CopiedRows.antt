@@ -1,37 +1,16 @@
 -- Rows of a source are copied, one after another: proofs.
-use Rattle.std.proofs.Common.{◌≡◌, ℕ, ◌+◌, ◌-◌, ◌^◌, ◌≤◌, min, Bool, true, false, cond, List, [], ◌∷◌, ◌++◌, length, map, append_assoc, append-nil, length-append, refl, sym, ap, subst, ◌∙◌, arith}
-use Rattle.std.specs.Prelude.{◌&&◌, ◌==◌, Option, Some, None, IfSome}
-use Rattle.std.specs.declared.cmp.Ordering.TheVariants.{Less}
+use Rattle.std.proofs.Common.{◌≡◌, ℕ, ◌+◌, ◌-◌, ◌^◌, ◌≤◌, min, Bool, true, false, cond, List, [], ◌∷◌, ◌++◌, length, map, append_assoc, append-nil, length-append, refl, sym, ap, subst, ◌∙◌, arith, ◌&&◌, ◌==◌, Option, Some, None, IfSome, Less}
 use Rattle.std.proofs.lemmas.Bool.Decides.{nat_tests}
 use Rattle.std.proofs.lemmas.List.{map-append}
 use Rattle.std.proofs.lemmas.List.Elements.{filter-append}
-use Rattle.repl_types.specs.Area.{same_area}
-use Rattle.repl_types.specs.Bytes.{bytes_cmp}
-use Rattle.repl_types.specs.Value.{Values}
-use Rattle.repl_types.specs.declared.area.Area.{Area}
+use Rattle.world_store.specs.Words.{IsKey, IsRow, key_spelling, row_spelling, copy_spelling, CopyRow, is_before, table_from_rows, rows_after, AllBefore, AllAfter, IsRising, NextRow, after_all, after_first, after_next, fits_next, no_row, written_last, RowFits, no_rows, filter_few}
+use Rattle.site_store.specs.Words.{Contents, Table, IsNextKey, IsLastKey, set_key, put_at, ShownBefore, adds_put, shown_before, any_seen, if_seen, if_both_seen}
+use Rattle.repl_model.specs.Words.{same_area, bytes_cmp, Values, Area, all_filter, filter_none, Member, is_selected, target_row}
 use Rattle.repl_types.specs.declared.area.Area.TheVariants as areas
-use Rattle.repl_types.specs.laws.Lists.{all_filter, filter_none}
-use Rattle.keep_core.specs.Contents.{Contents, Table, IsNextKey, IsLastKey, set_key, put_at}
-use Rattle.row_codec.specs.Spelling.{IsKey, IsRow, key_spelling, row_spelling}
-use Rattle.repl_definitions.specs.declared.member.Member.{Member}
-use Rattle.repl_records.specs.TargetSide.{copy_spelling}
-use Rattle.repl_records.specs.declared.target_side.CopyRow.{CopyRow}
-use Rattle.repl_model.specs.Selection.{is_selected, target_row}
-use Rattle.rows_in_order.specs.Rows.{is_before, table_from_rows, rows_after, AllBefore, AllAfter, IsRising, NextRow}
-use Rattle.rows_in_order.specs.laws.After.{after_all, after_first, after_next}
-use Rattle.rows_in_order.specs.laws.Fitting.{fits_next}
-use Rattle.rows_in_order.specs.laws.Rising.{no_row}
-use Rattle.rows_in_order.specs.laws.Written.{written_last}
 use Rattle.stored_commits.specs.records.laws.StandingRows.{rows_apart}
-use Rattle.site_store.specs.Damage.{ShownBefore}
-use Rattle.site_store.specs.laws.Damage.{adds_put, shown_before}
-use Rattle.world_store.specs.SpelledRows.{RowFits}
-use Rattle.site_store.specs.laws.Passing.{any_seen, if_seen, if_both_seen}
-use Rattle.world_store.specs.Tables.{no_rows}
 use Rattle.apply_copies.specs.Copying.{CanBeCopied, LoadsSelected, LoadsRow, HasRows, selected, copied, LoadsNext, LoadsAll}
 use Rattle.apply_copies.specs.Loading.{is_target}
 use Rattle.apply_copies.specs.Rules.{target_rules}
-use Rattle.world_store.specs.laws.FewRows.{filter_few}
 use Rattle.apply_copies.specs.laws.Values.{target_row_fits}
 
 -- ---- one row

@@ -1,16 +1,11 @@
 -- A step of a copy shows no damage of the source of copies that wasn't shown before: proofs.
-use Rattle.std.proofs.Common.{◌≡◌, ℕ, zero, suc, false, List, inl, inr, refl, sym, ap, ◌∙◌}
-use Rattle.std.specs.Prelude.{Some}
-use Rattle.repl_types.specs.declared.area.Area.{Area}
+use Rattle.std.proofs.Common.{◌≡◌, ℕ, zero, suc, false, List, inl, inr, refl, sym, ap, ◌∙◌, Some}
+use Rattle.world_store.specs.Words.{short_text}
+use Rattle.site_store.specs.Words.{Contents, Table, Rules, Shows, ShownBefore}
+use Rattle.repl_model.specs.Words.{Area, DamageCause, DefinedRegistration, DefinedTable}
 use Rattle.repl_types.specs.declared.area.Area.TheVariants as areas
-use Rattle.repl_types.specs.declared.status.DamageCause.{DamageCause}
 use Rattle.repl_types.specs.declared.status.DamageCause.TheVariants as causes
-use Rattle.keep_core.specs.Contents.{Contents, Table}
-use Rattle.site_store.specs.Damage.{Rules, Shows, ShownBefore}
 use Rattle.apply_copies.specs.Loading.{is_target}
-use Rattle.row_codec.specs.Spelling.{short_text}
-use Rattle.repl_definitions.specs.declared.defined.DefinedRegistration.{DefinedRegistration}
-use Rattle.repl_definitions.specs.declared.defined.DefinedTable.{DefinedTable}
 use Rattle.set_places.specs.Members.{member_rules}
 use Rattle.apply_copies.specs.ChangeRules.{calls_for_table, IsRegisteredIn, change_source_rules}
 use Rattle.apply_copies.specs.Rules.{source_rules}

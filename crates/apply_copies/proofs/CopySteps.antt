@@ -1,25 +1,11 @@
 -- The load of a copy, and its change rows, take a member through a step: proofs.
-use Rattle.std.proofs.Common.{◌≡◌, ℕ, ◌<◌, true, false, [], length, inl, inr, sym, ap, ◌∙◌}
-use Rattle.std.specs.Prelude.{Some, None}
-use Rattle.repl_types.specs.declared.area.Area.{Area}
-use Rattle.repl_types.specs.declared.area.Area.TheVariants as areas
-use Rattle.repl_types.specs.declared.status.DamageCause.{DamageCause}
-use Rattle.repl_types.specs.declared.fault.Counts.{Counts}
-use Rattle.keep_core.specs.Contents.{Contents, Table}
-use Rattle.keep_core.specs.Kept.{Kept}
-use Rattle.repl_definitions.specs.declared.member.Member.{Member}
-use Rattle.repl_definitions.specs.declared.member.TargetKind.{TargetKind}
-use Rattle.repl_definitions.specs.declared.member.TargetKind.TheVariants.{UserCopy, PointInTime, BaseAggregate, ChangeAggregate, Ccd, Replica}
-use Rattle.repl_model.specs.NextActions.{member_gap}
-use Rattle.repl_model.specs.Rules.{is_copy}
-use Rattle.repl_model.specs.Trails.{refresh, block}
-use Rattle.repl_model.specs.Units.{last_commit}
-use Rattle.world_store.specs.TargetRows.{rows_refreshed}
-use Rattle.lists.specs.laws.Numbered.{at_place_in}
-use Rattle.lists.specs.laws.Members.{at_one}
-use Rattle.stored_commits.specs.records.SourceTables.{KeysOfRowsFit, TypedChangesHaveRows, RowsStayStanding}
+use Rattle.std.proofs.Common.{◌≡◌, ℕ, ◌<◌, true, false, [], length, inl, inr, sym, ap, ◌∙◌, Some, None}
+use Rattle.world_store.specs.Words.{rows_refreshed}
+use Rattle.site_store.specs.Words.{Contents, Table, Kept, ShownBefore}
 use Rattle.site_store.specs.declared.sites.Sites.{Sites}
-use Rattle.site_store.specs.Damage.{ShownBefore}
+use Rattle.repl_model.specs.Words.{Area, DamageCause, Counts, Member, TargetKind, member_gap, is_copy, refresh, block, last_commit, at_place_in, at_one}
+use Rattle.repl_types.specs.declared.area.Area.TheVariants as areas
+use Rattle.repl_definitions.specs.declared.member.TargetKind.TheVariants.{UserCopy, PointInTime, BaseAggregate, ChangeAggregate, Ccd, Replica}
 use Rattle.stored_commits.specs.copies.ChangedCopies.{copy_table}
 use Rattle.set_places.specs.declared.placed_set.PlacedSet.{PlacedSet}
 use Rattle.target_steps.specs.declared.step.Step.TheVariants.{Refresh, Block}
@@ -48,13 +34,13 @@ copy_shown number c d others targets a cause (inr h) = inr (h.0, targets h.0 a c
 
 module _ {K : Type 0} (kept : K → Kept) (sites : Sites K) (set : PlacedSet) (place : ℕ) (counts : Counts) (c d : Contents) (within : place < length set.at_source.def.members) where
   -- if a target became the copy of its source, the member was taken through a refresh
-  pub loads_member : (point : ℕ) → KeysOfRowsFit → TypedChangesHaveRows → RowsStayStanding → HasOnlyRows counts → LoadsCopy kept sites set place counts.rows c d → TakesMember kept is_user_copy sites set place (Refresh point) ShowsCopyDamage counts c d
-  loads_member point keys typed stay only load = record {
+  pub loads_member : (point : ℕ) → HasOnlyRows counts → LoadsCopy kept sites set place counts.rows c d → TakesMember kept is_user_copy sites set place (Refresh point) ShowsCopyDamage counts c d
+  loads_member point only load = record {
     others = λ w k sound placed a n other. load.others a n (rw (number_is w k set place sound placed within) other);
     shown = copy_shown (target_number set.at_target.number place) c d load.others load.shown;
     taken = λ w k sound placed reveals member source read_only can at named copy was q.
         let number = number_is w k set place sound placed within in
-        let empty : c areas.Target (target_number set.at_target.number place) [] ≡ None = ap (λ (n : ℕ). c areas.Target n []) number ∙ ap (λ (t : Table). t []) (was ∙ table_is source member copy k.at_target.trail) ∙ copies_keyed keys typed stay w k.source sound (at_place_in w set.source k.source placed.source) member.source source member k.at_target.trail named in
+        let empty : c areas.Target (target_number set.at_target.number place) [] ≡ None = ap (λ (n : ℕ). c areas.Target n []) number ∙ ap (λ (t : Table). t []) (was ∙ table_is source member copy k.at_target.trail) ∙ copies_keyed w k.source sound (at_place_in w set.source k.source placed.source) member.source source member k.at_target.trail named in
         let made = load.copies w k sound placed reveals member source at named empty in (
           ap (λ (n : ℕ). d areas.Target n) (sym number) ∙ made.0 ∙ ap (copy_table source member) (sym can) ∙ sym (table_after source member copy k.at_target.trail (refresh point q)),
           λ i. record { rows = (made.1 ∙ sym (rows_are source member copy (last_commit k.source.log) q) ∙ ap (λ (p : ℕ). rows_refreshed source p q member) (sym can)) i; inserts = only.0 i; updates = only.1 i; deletes = only.2 i },

@@ -1,33 +1,11 @@
 -- The target of a user copy: its number, its rows, and that none has the empty key: proofs.
-use Rattle.std.proofs.Common.{◌≡◌, ℕ, ◌+◌, ◌*◌, ◌<◌, ◌≤◌, true, List, [], ◌∷◌, ◌++◌, length, refl, sym, ap, subst, ◌∙◌, arith}
-use Rattle.std.specs.Prelude.{min, Option, Some, None}
+use Rattle.std.proofs.Common.{◌≡◌, ℕ, ◌+◌, ◌*◌, ◌<◌, ◌≤◌, true, List, [], ◌∷◌, ◌++◌, length, refl, sym, ap, subst, ◌∙◌, arith, min, Option, Some, None, Less}
 use Rattle.std.specs.FinMap.{entries}
-use Rattle.std.specs.declared.cmp.Ordering.TheVariants.{Less}
 use Rattle.std.proofs.Math.Nat.{min-eq_left}
 use Rattle.std.proofs.lemmas.List.Sums.{fold-append}
-use Rattle.repl_types.specs.Bytes.{bytes_cmp}
-use Rattle.repl_types.specs.Value.{Values}
-use Rattle.repl_types.specs.laws.Lists.{all_filter}
-use Rattle.row_codec.specs.Spelling.{key_spelling}
-use Rattle.repl_definitions.specs.declared.member.Member.{Member}
-use Rattle.repl_definitions.specs.declared.member.TargetKind.{TargetKind}
+use Rattle.world_store.specs.Words.{key_spelling, copy_spelling, CopyRow, table_from_rows, AllAfter, found_after, member_table, copy_rows, rows_refreshed}
+use Rattle.repl_model.specs.Words.{bytes_cmp, Values, all_filter, Member, TargetKind, SetDef, SourceTable, is_selected, selected_rows, target_row, IsSound, KeepsTable, ServerKeepsRules, LogIsSound, source_at, Entry, Trail, point_after, synchpoint, Server, World, KnownSet, source_named, In, at_one, each_image}
 use Rattle.repl_definitions.specs.declared.member.TargetKind.TheVariants.{UserCopy, PointInTime, BaseAggregate, ChangeAggregate, Ccd, Replica}
-use Rattle.repl_definitions.specs.declared.set.SetDef.{SetDef}
-use Rattle.repl_records.specs.TargetSide.{copy_spelling}
-use Rattle.repl_records.specs.declared.target_side.CopyRow.{CopyRow}
-use Rattle.rows_in_order.specs.Rows.{table_from_rows, AllAfter}
-use Rattle.rows_in_order.specs.laws.Rising.{found_after}
-use Rattle.repl_model.specs.Selection.{SourceTable, is_selected, selected_rows, target_row}
-use Rattle.repl_model.specs.Sound.{IsSound}
-use Rattle.repl_model.specs.SoundDefinitions.{KeepsTable, ServerKeepsRules}
-use Rattle.repl_model.specs.SoundLogs.{LogIsSound}
-use Rattle.repl_model.specs.SourceAt.{source_at}
-use Rattle.repl_model.specs.Trails.{Entry, Trail, point_after, synchpoint}
-use Rattle.repl_model.specs.World.{Server, World, KnownSet, source_named}
-use Rattle.world_store.specs.Tables.{member_table}
-use Rattle.world_store.specs.TargetRows.{copy_rows, rows_refreshed}
-use Rattle.lists.specs.laws.Members.{In, at_one, each_image}
-use Rattle.stored_commits.specs.records.SourceTables.{KeysOfRowsFit, TypedChangesHaveRows, RowsStayStanding}
 use Rattle.stored_commits.specs.records.laws.StandingRows.{standing_some}
 use Rattle.stored_commits.specs.copies.ChangedCopies.{copy_table}
 use Rattle.set_places.specs.declared.placed_set.PlacedSet.{PlacedSet}
@@ -93,7 +71,7 @@ none_empty rows after = pick (table_from_rows key_spelling copy_spelling rows []
         none_less : bytes_cmp [] [] ≡ Less → ⊥
         none_less e = cc
 
-module _ (keys : KeysOfRowsFit) (typed : TypedChangesHaveRows) (stay : RowsStayStanding) (w : World) (server : Server) (sound : IsSound w) (i : In server w) where
+module _ (w : World) (server : Server) (sound : IsSound w) (i : In server w) where
   -- no row of a user copy of a registered table stands at the empty key
   pub copies_keyed : (name : List ℕ) (source : SourceTable) (member : Member) (trail : Trail) → source_named name server ≡ Some source → table_from_rows key_spelling copy_spelling (copy_rows source member trail) [] ≡ None
   copies_keyed name source member trail named = none_empty (copy_rows source member trail) (subst (AllAfter key_spelling []) (sym (copied_are source member (synchpoint trail))) after)
@@ -107,7 +85,7 @@ module _ (keys : KeysOfRowsFit) (typed : TypedChangesHaveRows) (stay : RowsStayS
           rw is.def (table_keyed is.table (at_one KeepsTable server.tables is.table (at_one (ServerKeepsRules w) w server sound.definitions.servers i).tables is.among))
 
       all : AllAfter key_spelling [] rows
-      all = standing_some keys source.def (source_at source.def source.log (synchpoint trail)) (rw (source_is_of name server source named).log (rows_stand_at typed stay server source.def (synchpoint trail) (at_one LogIsSound w server sound.logs i))) keyed
+      all = standing_some source.def (source_at source.def source.log (synchpoint trail)) (rw (source_is_of name server source named).log (rows_stand_at server source.def (synchpoint trail) (at_one LogIsSound w server sound.logs i))) keyed
 
       after : AllAfter key_spelling [] (copied member rows)
       after = each_image (λ (r : Values × CopyRow). bytes_cmp [] (key_spelling r.0) ≡ Less) (λ (r : Values × Values). (r.0, record { row = target_row member r.1 })) (selected member rows) (all_filter (λ (r : Values × Values). bytes_cmp [] (key_spelling r.0) ≡ Less) (λ (r : Values × Values). is_selected member r.1) rows all)

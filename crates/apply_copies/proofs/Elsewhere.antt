@@ -1,17 +1,8 @@
 -- What one server is seen to have, while calls go on at another: proofs.
-use Rattle.std.proofs.Common.{◌≡◌, ◌≢◌, ℕ, List, get_or, ap, sym, subst}
-use Rattle.std.specs.Prelude.{Option, Some, None, IsSome}
-use Rattle.repl_types.specs.declared.fault.Fault.{Fault}
-use Rattle.keep_core.specs.Contents.{Contents}
-use Rattle.keep_core.specs.Kept.{Kept, seen_of}
+use Rattle.std.proofs.Common.{◌≡◌, ◌≢◌, ℕ, List, get_or, ap, sym, subst, Option, Some, None, IsSome}
+use Rattle.site_store.specs.Words.{Contents, Kept, seen_of, work, sees, IsOpenAt, IsClosedAt, other_work, Rules, Shows, Damages, Looks, GoesOn, Breaks, stops_as, stops_after, goes_saw, saw_then, any_seen}
 use Rattle.site_store.specs.declared.sites.Sites.{Sites}
-use Rattle.site_store.specs.Views.{work, sees, IsOpenAt, IsClosedAt}
-use Rattle.site_store.specs.laws.Transactions.{other_work}
-use Rattle.site_store.specs.Damage.{Rules, Shows, Damages}
-use Rattle.site_store.specs.one_server.Calls.{Looks, GoesOn, Breaks}
-use Rattle.site_store.specs.one_server.laws.Faults.{stops_as, stops_after}
-use Rattle.site_store.specs.one_server.laws.Steps.{goes_saw, saw_then}
-use Rattle.site_store.specs.laws.Passing.{any_seen}
+use Rattle.repl_model.specs.Words.{Fault}
 
 -- a server at which a transaction is open isn't one at which none is
 pub open_elsewhere : (w : List (Option (Option Contents))) (s q : ℕ) → IsOpenAt w s → IsClosedAt w q → q ≢ s

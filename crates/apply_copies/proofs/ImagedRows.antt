@@ -1,16 +1,10 @@
 -- The row that after-images make, and its key: proofs.
-use Rattle.std.proofs.Common.{◌≡◌, ℕ, ◌<◌, ◌^◌, true, false, List, length, arith}
-use Rattle.std.specs.Prelude.{◌==◌, ◌&&◌, nat_lt, nat_le}
+use Rattle.std.proofs.Common.{◌≡◌, ℕ, ◌<◌, ◌^◌, true, false, List, length, arith, ◌==◌, ◌&&◌, nat_lt, nat_le}
 use Rattle.std.specs.List.{position_or_len, range_with_len}
 use Rattle.std.proofs.lemmas.Bool.{le-leb, leb-true, lt-ltb, ltb-true, and_parts}
 use Rattle.std.proofs.lemmas.List.FromFn.{length-map-range_with_len}
-use Rattle.lists.specs.laws.Members.{each_image}
-use Rattle.repl_types.specs.Sizes.{IsKeySize, key_limit}
-use Rattle.repl_types.specs.ValueText.{IsValue}
-use Rattle.repl_types.specs.declared.change_row.CdRow.{CdRow}
-use Rattle.row_codec.specs.Spelling.{IsRow}
-use Rattle.repl_model.specs.Selection.{SourceTable, imaged_row}
-use Rattle.rows_in_order.specs.laws.Before.{not_both}
+use Rattle.world_store.specs.Words.{IsRow, not_both}
+use Rattle.repl_model.specs.Words.{each_image, IsKeySize, key_limit, IsValue, CdRow, SourceTable, imaged_row}
 use Rattle.cd_tables.specs.laws.InOrder.{all_always}
 use Rattle.stored_commits.specs.copies.ChangedCopies.{image_of}
 use Rattle.apply_copies.specs.laws.Values.{value_at}

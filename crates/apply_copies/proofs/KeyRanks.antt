@@ -1,24 +1,14 @@
 -- Keys of rows by numbers, which rise with the keys and are bounded: proofs.
-use Rattle.std.proofs.Common.{◌≡◌, ◌⊎◌, ℕ, zero, suc, ◌+◌, ◌*◌, ◌/◌, ◌<◌, ◌≤◌, ltb, Bool, true, false, cond, List, [], ◌∷◌, length, inl, inr, refl, sym, ap, subst, arith}
-use Rattle.std.proofs.Math.Nat.{mul-le-mul_left}
+use Rattle.std.proofs.Common.{◌≡◌, ◌⊎◌, ℕ, zero, suc, ◌+◌, ◌*◌, ◌/◌, ◌<◌, ◌≤◌, ltb, Bool, true, false, cond, List, [], ◌∷◌, length, inl, inr, refl, sym, ap, subst, arith, mul-le-mul_left, ◌==◌, Option, Some, None, IfSome, IsUtf8, Ordering, Less, Equal, Greater}
 use Rattle.std.proofs.Math.Utf8.{encode, encodes, next, scalar, scalars, scalar_cases}
-use Rattle.std.specs.Prelude.{◌==◌, Option, Some, None, IfSome}
 use Rattle.std.specs.List.{AllByRecursion}
 use Rattle.std.specs.Ordering.{nat_cmp, ordering_then}
 use Rattle.std.specs.Cmp.{ranked}
-use Rattle.std.specs.Str.{IsUtf8}
-use Rattle.std.specs.declared.cmp.Ordering.{Ordering}
-use Rattle.std.specs.declared.cmp.Ordering.TheVariants.{Less, Equal, Greater}
 use Rattle.std.proofs.lemmas.Bool.{and_parts, ltb-true}
-use Rattle.repl_types.specs.Bytes.{bytes_cmp}
-use Rattle.repl_types.specs.Sizes.{key_limit}
-use Rattle.repl_types.specs.Value.{Values}
-use Rattle.repl_types.specs.ValueText.{IsValue}
-use Rattle.repl_types.specs.declared.value.Value.{Value}
+use Rattle.world_store.specs.Words.{b64, shifted, marked_byte, zeros_marked, value_spelling, key_spelling, IsKey}
+use Rattle.site_store.specs.Words.{after_key}
+use Rattle.repl_model.specs.Words.{bytes_cmp, key_limit, Values, IsValue, Value, all_append}
 use Rattle.repl_types.specs.declared.value.Value.TheVariants.{Null, Int, Text}
-use Rattle.repl_types.specs.laws.Lists.{all_append}
-use Rattle.row_codec.specs.Spelling.{b64, shifted, marked_byte, zeros_marked, value_spelling, key_spelling, IsKey}
-use Rattle.site_store.specs.Records.{after_key}
 use Rattle.apply_copies.specs.Keys.{IsStoredKey}
 
 -- ---- bytes

@@ -1,28 +1,12 @@
 -- Why the load of a member failed: proofs.
-use Rattle.std.proofs.Common.{◌≡◌, ℕ, ◌<◌, List, [], length, get_or, inl, inr, refl, sym, ap, subst, ◌∙◌, arith}
-use Rattle.std.specs.Prelude.{Option, Some, None, IfSome, slice_get}
+use Rattle.std.proofs.Common.{◌≡◌, ℕ, ◌<◌, List, [], length, get_or, inl, inr, refl, sym, ap, subst, ◌∙◌, arith, Option, Some, None, IfSome, slice_get}
 use Rattle.std.proofs.lemmas.Option.{slice_get-get_or}
-use Rattle.repl_types.specs.Sizes.{row_limit}
-use Rattle.repl_types.specs.declared.area.Area.{Area}
-use Rattle.repl_types.specs.declared.area.Area.TheVariants as areas
-use Rattle.repl_types.specs.declared.status.DamageCause.{DamageCause}
-use Rattle.repl_types.specs.declared.status.DamageCause.TheVariants as causes
-use Rattle.repl_types.specs.declared.fault.Fault.{Fault}
-use Rattle.repl_types.specs.declared.fault.Fault.TheVariants as faults
-use Rattle.keep_core.specs.Contents.{Contents}
-use Rattle.keep_core.specs.Kept.{Kept}
-use Rattle.repl_definitions.specs.Sets.{source_set_spelling}
-use Rattle.repl_definitions.specs.declared.member.Member.{Member}
+use Rattle.site_store.specs.Words.{Contents, Kept, Bounds, no_access, both, Passes, Reads, ClosesAll, Blames, IsMemoryOr, Rules, Damages, sees, at_most_itself, passes_then, shown_first, Stops, Breaks, unfit_breaks, stops_as}
 use Rattle.site_store.specs.declared.sites.Sites.{Sites}
-use Rattle.site_store.specs.Calls.{Bounds, no_access, both, Passes, Reads, ClosesAll, Blames, IsMemoryOr}
-use Rattle.site_store.specs.Damage.{Rules, Damages}
-use Rattle.site_store.specs.Views.{sees}
-use Rattle.site_store.specs.laws.Counts.{at_most_itself, passes_then}
-use Rattle.site_store.specs.laws.Damage.{shown_first}
-use Rattle.site_store.specs.one_server.Calls.{Stops, Breaks}
-use Rattle.site_store.specs.one_server.laws.Damage.{unfit_breaks}
-use Rattle.site_store.specs.one_server.laws.Faults.{stops_as}
-use Rattle.lists.specs.laws.Numbered.{at_place_in}
+use Rattle.repl_model.specs.Words.{row_limit, Area, DamageCause, Fault, source_set_spelling, Member, at_place_in}
+use Rattle.repl_types.specs.declared.area.Area.TheVariants as areas
+use Rattle.repl_types.specs.declared.status.DamageCause.TheVariants as causes
+use Rattle.repl_types.specs.declared.fault.Fault.TheVariants as faults
 use Rattle.set_places.specs.declared.placed_set.PlacedSet.{PlacedSet}
 use Rattle.set_places.specs.Members.{member_rules}
 use Rattle.set_places.specs.Places.{HasSourceRow, IsPlacedAtSource}

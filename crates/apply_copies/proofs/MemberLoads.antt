@@ -1,34 +1,12 @@
 -- The target of a member is cleared, and gets the rows of its source: proofs.
-use Rattle.std.proofs.Common.{◌≡◌, ℕ, Bool, false, cond, List, [], ◌∷◌, length, map, eq-eqb, refl, sym, ap, subst, ◌∙◌}
-use Rattle.std.specs.Prelude.{◌&&◌, Option, Some, None, IfSome, slice_get}
+use Rattle.std.proofs.Common.{◌≡◌, ℕ, Bool, false, cond, List, length, map, eq-eqb, refl, sym, ap, subst, ◌∙◌, ◌&&◌, Option, Some, IfSome, slice_get, option_map, option_and_then}
 use Rattle.std.specs.FinMap.{entries}
-use Rattle.std.specs.Option.{option_map, option_and_then}
 use Rattle.std.proofs.lemmas.Option.{same_Some}
-use Rattle.repl_types.specs.Area.{same_area}
-use Rattle.repl_types.specs.Value.{Values}
-use Rattle.repl_types.specs.declared.area.Area.{Area}
-use Rattle.repl_types.specs.declared.area.Area.TheVariants as areas
-use Rattle.keep_core.specs.Contents.{Contents, Table}
-use Rattle.keep_core.specs.Kept.{Kept}
-use Rattle.row_codec.specs.Spelling.{key_spelling}
-use Rattle.repl_definitions.specs.declared.defined.DefinedRegistration.{DefinedRegistration}
-use Rattle.repl_definitions.specs.declared.member.Member.{Member}
-use Rattle.repl_definitions.specs.declared.set.SetDef.{SetDef}
-use Rattle.repl_records.specs.TargetSide.{copy_spelling}
-use Rattle.repl_model.specs.MemberCopies.{user_copy}
-use Rattle.repl_model.specs.Selection.{SourceTable, selected_rows}
-use Rattle.repl_model.specs.Sound.{IsSound}
-use Rattle.repl_model.specs.SourceAt.{source_at, table_after}
-use Rattle.repl_model.specs.Units.{last_commit}
-use Rattle.repl_model.specs.World.{Registered, ServerTable, World, KnownSet, source_named, server_table, as_source}
-use Rattle.rows_in_order.specs.Rows.{table_from_rows}
+use Rattle.world_store.specs.Words.{key_spelling, copy_spelling, table_from_rows, Reveals, no_rows}
+use Rattle.site_store.specs.Words.{Contents, Table, Kept, sees}
 use Rattle.site_store.specs.declared.sites.Sites.{Sites}
-use Rattle.site_store.specs.Views.{sees}
-use Rattle.world_store.specs.Stands.{Reveals}
-use Rattle.world_store.specs.Tables.{no_rows}
-use Rattle.lists.specs.laws.Numbered.{at_place_in}
-use Rattle.stored_commits.specs.records.SourceLogs.{SourceRowsStand}
-use Rattle.stored_commits.specs.records.SourceTables.{KeysOfRowsFit}
+use Rattle.repl_model.specs.Words.{same_area, Values, Area, DefinedRegistration, Member, SetDef, user_copy, SourceTable, selected_rows, IsSound, source_at, table_after, last_commit, Registered, ServerTable, World, KnownSet, source_named, server_table, as_source, at_place_in}
+use Rattle.repl_types.specs.declared.area.Area.TheVariants as areas
 use Rattle.set_places.specs.declared.placed_set.PlacedSet.{PlacedSet}
 use Rattle.set_places.specs.Members.{ForSource, IsRegistrationOf}
 use Rattle.set_places.specs.Places.{IsPlacedAs}
@@ -38,16 +16,9 @@ use Rattle.apply_copies.specs.Loading.{target_number, is_target, LoadsCopy}
 use Rattle.apply_copies.specs.laws.CopyRows.{copied_are}
 use Rattle.apply_copies.specs.laws.SourceRows.{has_committed}
 use Rattle.apply_copies.proofs.CopiedRows.{other_number}
+use Rattle.stored_commits.specs.laws.EmptyKeys.{cleared_empty}
 
 -- ---- the table
-
--- a table that has nothing at the empty key has no rows once it is cleared
-cleared_empty : (t : Table) → t [] ≡ None → cleared t ≡ no_rows
-cleared_empty t empty = λ i k. at k i
-  where
-    at : (k : List ℕ) → cleared t k ≡ None
-    at [] = empty
-    at (b ∷ k) = refl
 
 -- the cleared table
 clears_here : (number : ℕ) (c d : Contents) → Clears number c d → d areas.Target number ≡ cleared (c areas.Target number)
@@ -59,7 +30,7 @@ clears_others number c d clears a n other = ap (λ (f : Contents). f a n) clears
 
 -- ---- the member
 
-module _ {K : Type 0} (kept : K → Kept) (s0 : Sites K) (set : PlacedSet) (place : ℕ) (own : Member) (reg : DefinedRegistration) (keys : KeysOfRowsFit) (stand : SourceRowsStand) (at : slice_get set.at_source.def.members place ≡ Some own) (registered : ForSource kept s0 set (λ w k. IsRegistrationOf k place reg)) where
+module _ {K : Type 0} (kept : K → Kept) (s0 : Sites K) (set : PlacedSet) (place : ℕ) (own : Member) (reg : DefinedRegistration) (at : slice_get set.at_source.def.members place ≡ Some own) (registered : ForSource kept s0 set (λ w k. IsRegistrationOf k place reg)) where
   -- the target has the copy, and so many rows
   abbrev IsCopyOf : KnownSet → Member → ℕ → Table → SourceTable → Type 0
   IsCopyOf k member rows t source = (t ≡ table_from_rows key_spelling copy_spelling (map (λ r. (r.0, record { row = r.1 })) (user_copy source member (last_commit k.source.log)))) × (rows ≡ length (selected_rows source member (last_commit k.source.log)))
@@ -73,7 +44,7 @@ module _ {K : Type 0} (kept : K → Kept) (s0 : Sites K) (set : PlacedSet) (plac
       let reg_is : r.own ≡ member = same_Some r.own member (sym r.at_place ∙ member_at) in
       let found : source_named member.source k.source ≡ Some (as_it_is r.table r.registered) = ap (option_and_then (as_source k.source)) (subst (λ (m : Member). server_table m.source k.source ≡ Some r.table) reg_is r.named) ∙ ap (option_map (as_it_is_of r.table)) r.is in
       let source_is : as_it_is r.table r.registered ≡ source = same_Some (as_it_is r.table r.registered) source (sym found ∙ named) in
-      let has = has_committed keys stand w k.source reveals.0 sound (at_place_in w set.source k.source placed.source) reveals.2 reg.number r.table r.number in
+      let has = has_committed w k.source reveals.0 sound (at_place_in w set.source k.source placed.source) reveals.2 reg.number r.table r.number in
       let all = entries (source_at r.table.def k.source.log (last_commit k.source.log)) in
       let made = (subst (λ (o : Option Contents). IfSome o (λ s. (rs : List (Values × Values)) → HasRows reg.number rs s → d areas.Target (target_number set.at_target.number place) ≡ no_rows → (e areas.Target (target_number set.at_target.number place) ≡ table_from_rows key_spelling copy_spelling (copied own rs)) × (rows ≡ length (selected own rs)))) reveals.1 loads.copies) all has empty in
       subst (IsCopyOf k member rows (e areas.Target (target_number set.at_target.number place))) source_is (

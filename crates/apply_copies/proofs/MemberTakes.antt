@@ -1,37 +1,18 @@
 -- The target of a member takes the change rows of its source: proofs.
-use Rattle.std.proofs.Common.{◌≡◌, ℕ, ◌≤◌, Bool, true, false, cond, not, List, [], ◌∷◌, refl, sym, ap, subst, ◌∙◌}
-use Rattle.std.specs.Prelude.{nat_lt, Option, Some, None, IfSome, slice_get}
-use Rattle.std.specs.Option.{option_map, option_and_then}
-use Rattle.std.proofs.lemmas.Bool.{ltb-false}
+use Rattle.std.proofs.Common.{◌≡◌, ℕ, ◌≤◌, Bool, true, false, cond, not, List, [], ◌∷◌, refl, sym, ap, subst, ◌∙◌, nat_lt, Option, Some, None, IfSome, slice_get, option_map, option_and_then, ltb-false}
 use Rattle.std.proofs.lemmas.Option.{same_Some}
-use Rattle.repl_types.specs.declared.area.Area.TheVariants as areas
-use Rattle.repl_types.specs.declared.change_row.CdRow.{CdRow}
-use Rattle.repl_types.specs.declared.refusal.GapPlace.{GapPlace}
-use Rattle.repl_types.specs.declared.refusal.GapPlace.TheVariants as gaps
-use Rattle.repl_types.specs.declared.fault.Counts.{Counts}
-use Rattle.keep_core.specs.Contents.{Contents, Table}
-use Rattle.keep_core.specs.Kept.{Kept}
-use Rattle.repl_definitions.specs.declared.member.Member.{Member}
-use Rattle.repl_definitions.specs.declared.set.SetDef.{SetDef}
-use Rattle.repl_records.specs.declared.record_keys.CdKey.{CdKey}
-use Rattle.repl_records.specs.declared.capture.ChangeRow.{ChangeRow}
-use Rattle.repl_model.specs.ChangeRows.{changes_between}
-use Rattle.repl_model.specs.NextActions.{Gap, place_of_gap, member_gap}
-use Rattle.repl_model.specs.Rules.{is_copy}
-use Rattle.repl_model.specs.Selection.{SourceTable}
-use Rattle.repl_model.specs.Sound.{IsSound}
-use Rattle.repl_model.specs.SourceAt.{table_after}
-use Rattle.repl_model.specs.World.{KnownSet, Registered, ServerTable, World, as_source, server_table, source_named}
+use Rattle.world_store.specs.Words.{CdKey, ChangeRow, Reveals}
+use Rattle.site_store.specs.Words.{Contents, Table, Kept, sees}
 use Rattle.site_store.specs.declared.sites.Sites.{Sites}
-use Rattle.site_store.specs.Views.{sees}
-use Rattle.world_store.specs.Stands.{Reveals}
-use Rattle.lists.specs.laws.Numbered.{at_place_in}
+use Rattle.repl_model.specs.Words.{CdRow, GapPlace, Counts, Member, SetDef, changes_between, Gap, place_of_gap, member_gap, is_copy, SourceTable, IsSound, table_after, KnownSet, Registered, ServerTable, World, as_source, server_table, source_named, at_place_in}
+use Rattle.repl_types.specs.declared.area.Area.TheVariants as areas
+use Rattle.repl_types.specs.declared.refusal.GapPlace.TheVariants as gaps
 use Rattle.set_places.specs.declared.placed_set.PlacedSet.{PlacedSet}
 use Rattle.set_places.specs.Members.{ForSource, IsRegistrationOf}
 use Rattle.set_places.specs.Places.{IsPlacedAs, IsReadOnly}
 use Rattle.set_places.specs.laws.Known.{is_among, same_def}
 use Rattle.cd_tables.specs.Captured.{captured_changes}
-use Rattle.stored_commits.specs.copies.ChangedCopies.{copy_table, with_change, with_changes, CopyTakesChanges}
+use Rattle.stored_commits.specs.copies.ChangedCopies.{copy_table, with_change, with_changes}
 use Rattle.apply_copies.specs.declared.source.Source.{Source}
 use Rattle.apply_copies.specs.ChangeRules.{source_of, IsRegisteredIn}
 use Rattle.apply_copies.specs.Changing.{source_as, HasChanges, TakesAll, rows_between}
@@ -40,6 +21,7 @@ use Rattle.target_steps.specs.Taking.{counts_of}
 use Rattle.apply_copies.specs.Taking.{IsKept, TakesChanges}
 use Rattle.apply_copies.specs.laws.HeldChanges.{IsRegisteredAt, registration_held, table_held, changes_held}
 use Rattle.apply_copies.specs.laws.Intervals.{interval_rows}
+use Rattle.stored_commits.specs.laws.KnownMembers.{copies_take_changes}
 
 -- ---- gaps
 
@@ -85,7 +67,7 @@ same_changes source member (change ∷ changes) t = same_changes source member c
 
 -- ---- the member
 
-module _ {K : Type 0} (kept : K → Kept) (s0 : Sites K) (set : PlacedSet) (place low high : ℕ) (own : Member) (source : Source) (law : CopyTakesChanges) (at : slice_get set.at_source.def.members place ≡ Some own) (registered : ForSource kept s0 set (λ w k. IsRegistrationOf k place source.reg)) (stands : IfSome (sees kept s0 set.source) (IsRegisteredIn source.reg source.table)) where
+module _ {K : Type 0} (kept : K → Kept) (s0 : Sites K) (set : PlacedSet) (place low high : ℕ) (own : Member) (source : Source) (at : slice_get set.at_source.def.members place ≡ Some own) (registered : ForSource kept s0 set (λ w k. IsRegistrationOf k place source.reg)) (stands : IfSome (sees kept s0 set.source) (IsRegisteredIn source.reg source.table)) where
   -- what was taken is what the changes of each world that stands make of the copy
   is_taken : (counts : Counts) (c d : Contents) → TakesAll (sees kept s0 set.source) source.reg.number (target_number set.at_target.number place) (source_as source) own low high counts c d
       → (w : World) (k : KnownSet) → IsSound w → IsPlacedAs w k set → Reveals w k.source (sees kept s0 set.source) → (member : Member) (table : SourceTable) → IsReadOnly k → slice_get k.at_source.def.members place ≡ Some member → source_named member.source k.source ≡ Some table → is_copy member.kind ≡ true
@@ -108,7 +90,7 @@ module _ {K : Type 0} (kept : K → Kept) (s0 : Sites K) (set : PlacedSet) (plac
       let interval : rows_between low high rows ≡ changes_between k.source.log r.registered.reg low high = interval_rows k.source r.registered low high gap.0 gap.1 gap.2 whole.captured in
       let made = (subst (λ (o : Option Contents). IfSome o (λ s. (rs : List (CdKey × ChangeRow)) → HasChanges source.reg.number rs s → (d areas.Target n ≡ with_changes (source_as source) own (rows_between low high rs) (c areas.Target n)) × (counts ≡ counts_of (rows_between low high rs)))) reveals.1 takes.takes) rows (changes_held w k.source reveals.0 sound i reveals.2 source.reg.number r.table r.registered here) in
       let log : changes_between k.source.log r.registered.reg low high ≡ changes_between table.log table.reg low high = ap (λ (q : SourceTable). changes_between q.log q.reg low high) table_is in
-      let taken = law w k place member table low high sound (is_among w k set placed read_only) (ap (λ (q : SetDef). slice_get q.members place) (sym (same_def w k sound placed.known)) ∙ member_at) named copies whole.rises in (
+      let taken = copies_take_changes w k place member table low high sound (is_among w k set placed read_only) (ap (λ (q : SetDef). slice_get q.members place) (sym (same_def w k sound placed.known)) ∙ member_at) named copies whole.rises in (
         made.0
             ∙ ap (λ (l : List CdRow). with_changes (source_as source) own l (c areas.Target n)) (interval ∙ log)
             ∙ (λ j. with_changes (source_of (def j) (r.def j)) (own_is j) (changes_between table.log table.reg low high) (before j))

@@ -1,38 +1,22 @@
 -- Why a step of a copy failed: proofs.
-use Rattle.std.proofs.Common.{◌≡◌, ◌⊎◌, ℕ, ◌<◌, length, inl, inr, ap, subst, ◌∙◌}
-use Rattle.std.specs.Prelude.{Option}
+use Rattle.std.proofs.Common.{◌≡◌, ◌⊎◌, ℕ, ◌<◌, length, inl, inr, ap, subst, ◌∙◌, Option}
 use Rattle.std.specs.List.{AllByRecursion}
-use Rattle.repl_types.specs.declared.area.Area.{Area}
-use Rattle.repl_types.specs.declared.area.Area.TheVariants as areas
-use Rattle.repl_types.specs.declared.status.DamageCause.{DamageCause}
-use Rattle.repl_types.specs.declared.fault.Fault.{Fault}
-use Rattle.repl_types.specs.declared.fault.Fault.TheVariants as faults
-use Rattle.keep_core.specs.Contents.{Contents}
-use Rattle.keep_core.specs.Kept.{Kept}
-use Rattle.repl_definitions.specs.Members.{IsMember}
-use Rattle.repl_definitions.specs.declared.set.SetDef.{SetDef}
-use Rattle.repl_model.specs.Sound.{IsSound}
-use Rattle.repl_model.specs.SoundLogs.{LogIsSound}
-use Rattle.repl_model.specs.Trails.{synchpoint}
-use Rattle.repl_model.specs.World.{Server, World}
-use Rattle.world_store.specs.Stands.{Holds}
-use Rattle.lists.specs.laws.Numbered.{at_place_in}
-use Rattle.lists.specs.laws.Members.{In, at_one}
+use Rattle.world_store.specs.Words.{Holds}
+use Rattle.site_store.specs.Words.{Contents, Kept, Blames, Rules, Shows, Damages, IsUndamaged, IsNoDamage, sees, Stops, stops_as}
 use Rattle.site_store.specs.declared.sites.Sites.{Sites}
-use Rattle.site_store.specs.Calls.{Blames}
-use Rattle.site_store.specs.Damage.{Rules, Shows, Damages, IsUndamaged, IsNoDamage}
-use Rattle.site_store.specs.Views.{sees}
-use Rattle.site_store.specs.one_server.Calls.{Stops}
-use Rattle.site_store.specs.one_server.laws.Faults.{stops_as}
+use Rattle.repl_model.specs.Words.{Area, DamageCause, Fault, IsMember, SetDef, IsSound, LogIsSound, synchpoint, Server, World, at_place_in, In, at_one}
+use Rattle.repl_types.specs.declared.area.Area.TheVariants as areas
+use Rattle.repl_types.specs.declared.fault.Fault.TheVariants as faults
 use Rattle.set_places.specs.declared.placed_set.PlacedSet.{PlacedSet}
 use Rattle.set_places.specs.Places.{IsPlacedAtSource}
 use Rattle.set_places.specs.laws.Sources.{source_is_of}
 use Rattle.target_steps.specs.declared.step.Step.{Step}
 use Rattle.target_steps.specs.Taking.{ShowsAtEnds, ForMember}
 use Rattle.apply_copies.specs.Loading.{target_number}
-use Rattle.apply_copies.specs.Rules.{target_rules, TargetIsUndamaged}
+use Rattle.apply_copies.specs.Rules.{target_rules}
 use Rattle.apply_copies.specs.Copies.{is_user_copy, ShowsCopyDamage}
 use Rattle.apply_copies.proofs.CopyTables.{number_is, table_is}
+use Rattle.apply_copies.specs.laws.CopyRows.{copied_undamaged}
 
 module _ {K : Type 0} (kept : K → Kept) (rules : Rules) (shown : (a : Area) (cause : DamageCause) (saw : Option Contents) → Shows rules a cause saw → ShowsCopyDamage a cause saw) (s0 : Sites K) (set : PlacedSet) where
   -- what the source was seen to have shows damage by its rules, or the target with a number by its own
@@ -48,14 +32,14 @@ module _ {K : Type 0} (kept : K → Kept) (rules : Rules) (shown : (a : Area) (c
       at_end s a cause (inr target) = (inr target.0, inr (number, target.1))
 
   -- a set whose servers have what a world calls for shows no damage, so none was reported
-  pub no_damage : (place : ℕ) (step : Step) (s1 : Sites K) (e : Fault) → ((w : World) (server : Server) (c : Contents) → IsSound w → In server w → Holds w server c → IsUndamaged rules c) → TargetIsUndamaged → IsPlacedAtSource kept s0 set → place < length set.at_source.def.members → Stops kept s0 s1 (ShowsByRules (target_number set.at_target.number place)) e → ForMember kept is_user_copy s0 set place step (IsNoDamage e)
-  no_damage place step s1 e source_sound target_sound placed_at within stops = λ c saw w k sound placed reveals member source read_only can at named copy was.
+  pub no_damage : (place : ℕ) (step : Step) (s1 : Sites K) (e : Fault) → ((w : World) (server : Server) (c : Contents) → IsSound w → In server w → Holds w server c → IsUndamaged rules c) → IsPlacedAtSource kept s0 set → place < length set.at_source.def.members → Stops kept s0 s1 (ShowsByRules (target_number set.at_target.number place)) e → ForMember kept is_user_copy s0 set place step (IsNoDamage e)
+  no_damage place step s1 e source_sound placed_at within stops = λ c saw w k sound placed reveals member source read_only can at named copy was.
       let i = at_place_in w set.source k.source placed.source in
       let fits : IsMember member = at_one IsMember k.at_source.def.members member (subst (λ (def : SetDef). AllByRecursion IsMember def.members) placed.source_def placed_at.fits.1.5.1) (at_place_in k.at_source.def.members place member at) in
       let here = ap (λ (n : ℕ). c areas.Target n) (number_is w k set place sound placed within) ∙ was ∙ table_is source member copy k.at_target.trail in
       none (target_number set.at_target.number place) e
       (λ a cause h. source_sound w k.source reveals.0 sound i reveals.2 a cause (subst (Shows rules a cause) reveals.1 h))
-      (λ a cause h. target_sound k.source source member (synchpoint k.at_target.trail) (target_number set.at_target.number place) c (at_one LogIsSound w k.source sound.logs i) (source_is_of member.source k.source source named).log fits here a cause (subst (Shows (target_rules (target_number set.at_target.number place)) a cause) saw h))
+      (λ a cause h. copied_undamaged k.source source member (synchpoint k.at_target.trail) (target_number set.at_target.number place) c (at_one LogIsSound w k.source sound.logs i) (source_is_of member.source k.source source named).log fits here a cause (subst (Shows (target_rules (target_number set.at_target.number place)) a cause) saw h))
       stops.blames
     where
       none : (number : ℕ) (e : Fault) → ((a : Area) (cause : DamageCause) → Shows rules a cause (sees kept s0 set.source) → ⊥) → ((a : Area) (cause : DamageCause) → Shows (target_rules number) a cause (sees kept s0 set.target) → ⊥) → Blames kept s0 s1 (ShowsByRules number) e → IsNoDamage e

@@ -1,20 +1,10 @@
 -- A target takes one change row: proofs.
-use Rattle.std.proofs.Common.{◌≡◌, ℕ, Bool, true, false, cond, List, inl, inr, refl, sym, ap, subst, ◌∙◌}
-use Rattle.std.specs.Prelude.{Option, Some, None}
-use Rattle.repl_types.specs.Value.{Values}
-use Rattle.repl_types.specs.declared.area.Area.{Area}
+use Rattle.std.proofs.Common.{◌≡◌, ℕ, Bool, true, false, cond, List, inl, inr, refl, sym, ap, subst, ◌∙◌, Option, Some, None}
+use Rattle.world_store.specs.Words.{key_spelling, row_spelling, copy_spelling, put_here}
+use Rattle.site_store.specs.Words.{Contents, Table, same_key, set_key, put_at, Shows, ShownBefore, adds_remove, shown_before}
+use Rattle.repl_model.specs.Words.{Values, Area, CdRow, Op, Member, SourceTable, imaged_row, is_selected, target_row}
 use Rattle.repl_types.specs.declared.area.Area.TheVariants as areas
-use Rattle.repl_types.specs.declared.change_row.CdRow.{CdRow}
-use Rattle.repl_types.specs.declared.change_row.Op.{Op}
 use Rattle.repl_types.specs.declared.change_row.Op.TheVariants.{I, U, D}
-use Rattle.keep_core.specs.Contents.{Contents, Table, same_key, set_key, put_at}
-use Rattle.row_codec.specs.Spelling.{key_spelling, row_spelling}
-use Rattle.repl_definitions.specs.declared.member.Member.{Member}
-use Rattle.repl_records.specs.TargetSide.{copy_spelling}
-use Rattle.repl_model.specs.Selection.{SourceTable, imaged_row, is_selected, target_row}
-use Rattle.rows_in_order.specs.laws.Written.{put_here}
-use Rattle.site_store.specs.Damage.{Shows, ShownBefore}
-use Rattle.site_store.specs.laws.Damage.{adds_remove, shown_before}
 use Rattle.stored_commits.specs.copies.ChangedCopies.{key_before, key_after, with_row, with_op}
 use Rattle.apply_copies.specs.Changing.{RemovesBefore, TakesRow}
 use Rattle.apply_copies.specs.Copying.{LoadsSelected, LoadsRow}

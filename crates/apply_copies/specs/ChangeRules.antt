@@ -16,13 +16,9 @@ use Rattle.repl_definitions.specs.declared.defined.DefinedTable.{DefinedTable}
 use Rattle.repl_records.specs.Capture.{change_row_spelling, IsChangeRow}
 use Rattle.repl_records.specs.RecordKeys.{change_key_spelling, IsChangeKey}
 use Rattle.repl_model.specs.Selection.{SourceTable}
-use Rattle.repl_model.specs.Sound.{IsSound}
-use Rattle.repl_model.specs.World.{Server, World}
 use Rattle.site_store.specs.declared.sites.Sites.{Sites}
-use Rattle.site_store.specs.Damage.{Rules, joined, Damages, IsUndamaged}
+use Rattle.site_store.specs.Damage.{Rules, joined, Damages}
 use Rattle.world_store.specs.SpelledRows.{Spells}
-use Rattle.world_store.specs.Stands.{Holds}
-use Rattle.lists.specs.laws.Members.{In}
 use Rattle.set_places.specs.declared.placed_set.PlacedSet.{PlacedSet}
 use Rattle.set_places.specs.Members.{HasRegistration, member_rules}
 use Rattle.stored_commits.specs.units.StoredChanges.{stored_change}
@@ -88,7 +84,3 @@ change_source_rules = joined member_rules (record { is_key = may_be_change_key; 
 -- what the source or the target with a number was seen to have shows damage by its rules
 abbrev pub ShowsDamageOfChanges : {K : Type 0} → (K → Kept) → Sites K → PlacedSet → ℕ → ℕ → Area → DamageCause → Type 0
 ShowsDamageOfChanges kept sites set number s a cause = Damages (λ q. q ≡ set.source) change_source_rules kept sites s a cause ⊎ Damages (λ q. q ≡ set.target) (target_rules number) kept sites s a cause
-
--- what a server of a sound world holds shows no damage of the source from which a copy takes change rows
-abbrev pub ChangeSourceIsUndamaged : Type 0
-ChangeSourceIsUndamaged = (w : World) (server : Server) (c : Contents) → IsSound w → In server w → Holds w server c → IsUndamaged change_source_rules c

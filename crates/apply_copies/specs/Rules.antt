@@ -14,16 +14,14 @@ use Rattle.repl_records.specs.SourceSide.{source_row_spelling, IsSourceRow}
 use Rattle.repl_records.specs.TargetSide.{copy_spelling, IsCopy}
 use Rattle.repl_model.specs.MemberCopies.{user_copy}
 use Rattle.repl_model.specs.Selection.{SourceTable}
-use Rattle.repl_model.specs.Sound.{IsSound}
 use Rattle.repl_model.specs.SoundLogs.{LogIsSound}
 use Rattle.rows_in_order.specs.Rows.{table_from_rows}
 use Rattle.repl_definitions.specs.Members.{IsMember}
-use Rattle.repl_model.specs.World.{Server, World}
+use Rattle.repl_model.specs.World.{Server}
 use Rattle.site_store.specs.declared.sites.Sites.{Sites}
 use Rattle.site_store.specs.Damage.{Rules, joined, Damages, IsUndamaged}
 use Rattle.stored_defs.specs.Reading.{table_rules}
 use Rattle.world_store.specs.SpelledRows.{Spells}
-use Rattle.world_store.specs.Stands.{Holds}
 use Rattle.lists.specs.laws.Members.{In}
 use Rattle.set_places.specs.declared.placed_set.PlacedSet.{PlacedSet}
 use Rattle.set_places.specs.Members.{member_rules}
@@ -74,10 +72,6 @@ source_rules = joined member_rules (record { is_key = may_be_source_key; is_valu
 -- what the source or the target with a number was seen to have shows damage by its rules
 abbrev pub ShowsDamage : {K : Type 0} → (K → Kept) → Sites K → PlacedSet → ℕ → ℕ → Area → DamageCause → Type 0
 ShowsDamage kept sites set number s a cause = Damages (λ q. q ≡ set.source) source_rules kept sites s a cause ⊎ Damages (λ q. q ≡ set.target) (target_rules number) kept sites s a cause
-
--- what a server of a sound world holds shows no damage of the source of a copy
-abbrev pub SourceIsUndamaged : Type 0
-SourceIsUndamaged = (w : World) (server : Server) (c : Contents) → IsSound w → In server w → Holds w server c → IsUndamaged source_rules c
 
 -- a target that has the rows of a user copy of a source of a sound log at a point, and no others, shows no damage
 abbrev pub TargetIsUndamaged : Type 0

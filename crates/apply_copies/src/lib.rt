@@ -12,14 +12,13 @@
 //! interval is captured whole, and `specs/ChangeRules.antt` what shows that a server is damaged.
 //! That the target is then the later copy is a law of `stored_commits`.
 //!
-//! Both work inside the transaction that the caller has open at the target. `copies_are_undamaged`
-//! and `changes_are_undamaged` say that no source of a sound world shows damage, and no target
-//! that has the rows of a copy. `CopyTargets` takes the members of a set that are user copies
-//! through a refresh by `load_rows`, and through a block by `apply_rows`: so `refresh_step` of
-//! `full_refresh` and `step` of `apply_cycle` carry out the steps of a set all of whose members
-//! are user copies. It stands on `set_places`, which finds a set and its registrations, on
-//! `row_expr`, which evaluates columns and predicates, and on `cd_tables`, whose change rows it
-//! reads.
+//! Both work inside the transaction that the caller has open at the target. Lemmas in `specs/laws`
+//! say that no source of a sound world shows damage, and no target that has the rows of a copy.
+//! `CopyTargets` takes the members of a set that are user copies through a refresh by `load_rows`,
+//! and through a block by `apply_rows`: so `refresh_step` of `full_refresh` and `step` of
+//! `apply_cycle` carry out the steps of a set all of whose members are user copies. It stands on
+//! `set_places`, which finds a set and its registrations, on `row_expr`, which evaluates columns
+//! and predicates, and on `cd_tables`, whose change rows it reads.
 //!
 //! For example, a member copies `id` and `qty` of the rows of `orders` whose `qty` is at least 10.
 //! Of the rows `(1, 'pen', 20)` and `(2, 'ink', 5)` of the source, its target gets the row `(1,
@@ -30,14 +29,12 @@
 mod changing;
 mod clearing;
 mod images;
-mod laws;
 mod loading;
 mod rows;
 mod source;
 mod taking;
 mod targets;
 
-pub use laws::{changes_are_undamaged, copies_are_undamaged};
 pub use loading::load_rows;
 pub use taking::apply_rows;
 pub use targets::CopyTargets;

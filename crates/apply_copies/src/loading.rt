@@ -15,7 +15,6 @@ ghost use Rattle.apply_copies.specs.Copying.{CanBeCopied, no_area, LoadsRow, Loa
 ghost use Rattle.apply_copies.specs.Rules.{is_of_load, source_rules, ShowsDamage};
 
 use crate::clearing::clear_rows;
-use crate::laws::{laws_of_copies, laws_of_sources};
 use crate::rows::{is_selected, target_row};
 use keep_core::Keeper;
 use repl_definitions::{Member, SourceSet};
@@ -57,7 +56,6 @@ pub fn load_row<K: Keeper>(
     ensures fault { IfErr result (FailsToWrite K.kept sites.old sites.new) }
     ensures reads { ReadsOnly no_area K.kept sites.old sites.new }
 {
-    laws_of_copies();
     if !is_selected(member, row) {
         return Ok(0);
     }
@@ -151,7 +149,6 @@ fn load_member<K: Keeper>(
         (ShowsDamage K.kept sites.old set.now number)) }
     ensures reads { ReadsOnly is_of_load K.kept sites.old sites.new }
 {
-    laws_of_sources();
     let reg = read_registration(sites, alloc, set, member)?;
     let own = &set.at_source.def.members.as_slice()[member as usize];
     if own.columns.as_slice().len() > ROW_LIMIT {

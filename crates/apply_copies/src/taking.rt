@@ -28,7 +28,6 @@ ghost use Rattle.apply_copies.specs.Taking.{is_of_changes, TakesChanges};
 
 use crate::changing::take_row;
 use crate::images::{imaged_row, is_storable};
-use crate::laws::{laws_of_changes, laws_of_sources};
 use crate::loading::target_number;
 use crate::source::Source;
 use keep_core::Keeper;
@@ -152,7 +151,6 @@ fn take_next<K: Keeper>(
     ensures reads { ReadsOnly is_of_changes K.kept sites.old sites.new }
     ensures once { OnOk result (ReadsOnce K.kept sites.old sites.new) }
 {
-    laws_of_sources();
     let next = next_row(sites, alloc, set.source, source.reg.number, after, upto)?;
     let Some(change) = next else {
         return Ok(None);
@@ -268,7 +266,6 @@ fn apply_member<K: Keeper>(
     ensures reads { ReadsOnly is_of_changes K.kept sites.old sites.new }
     ensures counted { IfOk result (ReadsCounted 1 K.kept sites.old sites.new) }
 {
-    laws_of_changes();
     let reg = read_registration(sites, alloc, set, member)?;
     let own = &set.at_source.def.members.as_slice()[member as usize];
     if own.columns.as_slice().len() > ROW_LIMIT {

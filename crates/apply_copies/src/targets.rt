@@ -11,7 +11,6 @@ ghost use Rattle.target_steps.specs.Taking.{TakesMember, ShowsAtEnds, ForMember,
 ghost use Rattle.target_steps.specs.Taking.{ReadsCounted};
 ghost use Rattle.apply_copies.specs.Copies.{is_user_copy, ShowsCopyDamage};
 
-use crate::laws::{changes_are_undamaged, copies_are_undamaged};
 use crate::loading::load_rows;
 use crate::taking::apply_rows;
 use keep_core::Keeper;
@@ -19,7 +18,6 @@ use repl_types::{Counts, Fault};
 use set_places::PlacedSet;
 use site_store::Sites;
 use std::alloc::Global;
-use stored_commits::a_change_is_stored;
 use target_steps::{Step, Targets};
 
 /// Makes a target what it is at a refresh.
@@ -44,8 +42,6 @@ fn load<K: Keeper>(
         (Step.Refresh point) (IsNoDamage e)) }
     ensures closed { OnErr result (AllClosed (work K.kept sites.new)) }
 {
-    copies_are_undamaged();
-    a_change_is_stored();
     let counts = load_rows(sites, alloc, set, member)?;
     Ok(counts)
 }
@@ -75,8 +71,6 @@ fn apply<K: Keeper>(
     ensures reads { ReadsOnly is_of_block K.kept sites.old sites.new }
     ensures counted { IfOk result (ReadsCounted 1 K.kept sites.old sites.new) }
 {
-    copies_are_undamaged();
-    changes_are_undamaged();
     let counts = apply_rows(sites, alloc, set, member, from, upto)?;
     Ok(counts)
 }

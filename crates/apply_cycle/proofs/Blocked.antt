@@ -1,38 +1,18 @@
 -- What a block makes of a world: proofs.
-use Rattle.std.proofs.Common.{◌≡◌, ◌⊎◌, ℕ, Bool, true, false, ◌||◌, List, [], ◌∷◌, length, inl, inr, refl, sym, ap, subst, ◌∙◌, arith}
-use Rattle.std.specs.Prelude.{◌==◌, if◌then◌else◌, Option, None}
+use Rattle.std.proofs.Common.{◌≡◌, ◌⊎◌, ℕ, Bool, true, false, ◌||◌, List, [], ◌∷◌, length, inl, inr, refl, sym, ap, subst, ◌∙◌, arith, ◌==◌, if◌then◌else◌, Option, None}
 use Rattle.std.specs.List.{AllByRecursion, list_any}
 use Rattle.std.specs.Option.{option_map_or}
 use Rattle.std.proofs.lemmas.Bool.{cond-false}
-use Rattle.repl_types.specs.declared.area.Area.{Area}
-use Rattle.repl_types.specs.declared.status.DamageCause.{DamageCause}
-use Rattle.repl_types.specs.declared.fault.Counts.{Counts}
-use Rattle.repl_types.specs.declared.fault.Fault.{Fault}
+use Rattle.world_store.specs.Words.{Holds, Reveals, Stands, source_time, trail_entry}
+use Rattle.site_store.specs.Words.{Contents, Kept, names, held, sees}
+use Rattle.site_store.specs.declared.sites.Sites.{Sites}
+use Rattle.repl_model.specs.Words.{Area, DamageCause, Counts, Fault, Member, TargetKind, SetDef, is_base_aggregate, base_point, block_entry, with_entry, after_action, Action, signals, blocks, IsSound, NumbersAreSound, read_only_sets, time_at, Entry, block, synchpoint, base_of, Server, World, KnownSet, known_sets, at_place_in, known_stands, In, at_one}
 use Rattle.repl_types.specs.declared.fault.Fault.TheVariants as faults
 use Rattle.repl_types.specs.declared.fault.Stepped.TheVariants as steps
-use Rattle.keep_core.specs.Contents.{Contents}
-use Rattle.keep_core.specs.Kept.{Kept}
-use Rattle.repl_definitions.specs.declared.member.Member.{Member}
-use Rattle.repl_definitions.specs.declared.member.TargetKind.{TargetKind}
 use Rattle.repl_definitions.specs.declared.member.TargetKind.TheVariants.{UserCopy, PointInTime, BaseAggregate, ChangeAggregate, Ccd, Replica}
-use Rattle.repl_definitions.specs.declared.set.SetDef.{SetDef}
-use Rattle.repl_model.specs.AfterActions.{is_base_aggregate, base_point, block_entry, with_entry, after_action}
-use Rattle.repl_model.specs.NextActions.{Action, signals, blocks}
-use Rattle.repl_model.specs.Sound.{IsSound, NumbersAreSound}
-use Rattle.repl_model.specs.SoundDefinitions.{read_only_sets}
-use Rattle.repl_model.specs.SourceAt.{time_at}
-use Rattle.repl_model.specs.Trails.{Entry, block, synchpoint, base_of}
-use Rattle.repl_model.specs.World.{Server, World, KnownSet, known_sets}
-use Rattle.world_store.specs.Stands.{Holds, Reveals, Stands}
-use Rattle.world_store.specs.TargetRows.{source_time, trail_entry}
-use Rattle.lists.specs.laws.Numbered.{at_place_in}
-use Rattle.repl_model.specs.laws.KnownSets.{known_stands}
-use Rattle.lists.specs.laws.Members.{In, at_one}
-use Rattle.site_store.specs.declared.sites.Sites.{Sites}
-use Rattle.site_store.specs.Views.{names, held, sees}
-use Rattle.stored_commits.specs.actions.ActedServers.{Acted, with_step, BlockHolds, OthersHoldAfterStep}
-use Rattle.stored_commits.specs.actions.StoredSteps.{is_numbered, PutsStep, block_state, BlockIsStored}
-use Rattle.world_commits.specs.actions.StaysSound.{NextActionsSound, HasRoom}
+use Rattle.stored_commits.specs.actions.ActedServers.{Acted, with_step}
+use Rattle.stored_commits.specs.actions.StoredSteps.{is_numbered, PutsStep, block_state}
+use Rattle.world_commits.specs.actions.StaysSound.{HasRoom}
 use Rattle.subs_sets.specs.Cuts.{time_from}
 use Rattle.subs_sets.specs.States.{state_in}
 use Rattle.subs_sets.specs.declared.states.ReadOnlyState.{ReadOnlyState}
@@ -49,6 +29,9 @@ use Rattle.target_steps.specs.Steps.{PutsTargets, PutsSomeTargets}
 use Rattle.target_steps.specs.laws.Stepped.{none_numbered, counts_are, step_put, has_targets}
 use Rattle.apply_cycle.specs.Blocks.{IsBlockNext, HasBlocked}
 use Rattle.apply_cycle.specs.laws.NextBlocks.{members_kept, ends_after, end_captured, end_time}
+use Rattle.world_commits.specs.laws.ActionsStaySound.{next_actions_sound}
+use Rattle.stored_commits.specs.laws.Steps.{block_holds, others_hold_step}
+use Rattle.stored_commits.specs.laws.StepTables.{block_is_stored}
 
 -- ---- base aggregates
 
@@ -68,7 +51,7 @@ none_aggregate (m ∷ ms) all = ap (λ (b : Bool). b || list_any (λ member. is_
 
 -- ---- in a world
 
-module _ (sound_next : NextActionsSound) (target_holds : BlockHolds) (stored : BlockIsStored) (takes : TargetKind → Bool) (unnumbered : (kind : TargetKind) → takes kind ≡ true → is_numbered kind ≡ false) (w : World) (k : KnownSet) (set : PlacedSet) (sound : IsSound w) (placed : IsPlacedAs w k set) (read_only : IsReadOnly k) (upto : ℕ) (next : IsBlockNext takes k upto) where
+module _ (takes : TargetKind → Bool) (unnumbered : (kind : TargetKind) → takes kind ≡ true → is_numbered kind ≡ false) (w : World) (k : KnownSet) (set : PlacedSet) (sound : IsSound w) (placed : IsPlacedAs w k set) (read_only : IsReadOnly k) (upto : ℕ) (next : IsBlockNext takes k upto) where
   -- the set is one of the read-only sets
   among : In k (read_only_sets (known_sets w))
   among = is_among w k set placed read_only
@@ -110,7 +93,7 @@ module _ (sound_next : NextActionsSound) (target_holds : BlockHolds) (stored : B
 
   -- it is sound
   sound_after : IsSound after
-  sound_after = subst (λ (a : Action). IsSound (after_action w k a)) next.0 (sound_next w k sound among (λ is. by_other (sym is ∙ next.0)))
+  sound_after = subst (λ (a : Action). IsSound (after_action w k a)) next.0 (next_actions_sound w k sound among (λ is. by_other (sym is ∙ next.0)))
     where
       by_other : ◌≡◌ {A = Action} signals (blocks upto) → HasRoom k
       by_other e = absurd (apart e)
@@ -134,33 +117,33 @@ module _ (sound_next : NextActionsSound) (target_holds : BlockHolds) (stored : B
           (step_put takes unnumbered w k set sound placed read_only step can next.1 kept shows sites reveals time known known_is counts c d holds puts_there None)
 
       -- so the target holds what the world after the block calls for
-      pub block_holds : Holds after (with_entry k.at_target.def (block_entry k upto) k.target) d
-      block_holds =
-          target_holds w k set.at_target.number (block_entry k upto) c d sound among placed.at_target holds
+      pub blocked_holds : Holds after (with_entry k.at_target.def (block_entry k upto) k.target) d
+      blocked_holds =
+          block_holds w k set.at_target.number (block_entry k upto) c d sound among placed.at_target holds
           (subst (λ (e : Entry). Acted set.at_target.number (with_step w k e) (with_entry k.at_target.def e k.target) c d) (sym no_base)
-          (stored w k set.at_target.number low upto None c d sound among placed.at_target (subst (λ (e : Entry). IsSound (with_step w k e)) no_base sound_after) holds (none_numbered takes unnumbered w k set sound placed read_only step can next.1) put
+          (block_is_stored w k set.at_target.number low upto None c d sound among placed.at_target (subst (λ (e : Entry). IsSound (with_step w k e)) no_base sound_after) holds (none_numbered takes unnumbered w k set sound placed read_only step can next.1) put
           (has_targets takes unnumbered w k set sound placed read_only step can next.1 kept shows sites reveals time known known_is counts c d holds puts_there None)))
 
     -- ---- at the servers
 
     module _ {K : Type 0} (kept : K → Kept) (shows : Area → DamageCause → Option Contents → Type 0) (s0 s1 s2 : Sites K) (stands : Stands (names s0) (held kept s0) w) (reveals : Reveals w k.source (sees kept s1 set.source)) (known : ReadOnlyState) (known_is : known ≡ state_in w k) where
       -- once the block is put, they stand for the world after it
-      pub has_blocked : OthersHoldAfterStep → HasStepped kept s0 s2 set.target (PutsSomeTargets kept takes shows s1 set (Block known.synchpoint upto) time known) → HasBecome kept s0 s2 after
-      has_blocked others stepped = has_become kept s0 s2 w set.target k.target (with_entry k.at_target.def (block_entry k upto)) (PutsSomeTargets kept takes shows s1 set (Block known.synchpoint upto) time known) stands placed.target (λ s. refl) sound_after
-          (λ c d holds p. block_holds kept shows s1 reveals known known_is p.0 c d holds p.1)
-          (λ other c i apart holds. (others w k (block_entry k upto) other c holds).0) stepped
+      pub has_blocked : HasStepped kept s0 s2 set.target (PutsSomeTargets kept takes shows s1 set (Block known.synchpoint upto) time known) → HasBecome kept s0 s2 after
+      has_blocked stepped = has_become kept s0 s2 w set.target k.target (with_entry k.at_target.def (block_entry k upto)) (PutsSomeTargets kept takes shows s1 set (Block known.synchpoint upto) time known) stands placed.target (λ s. refl) sound_after
+          (λ c d holds p. blocked_holds kept shows s1 reveals known known_is p.0 c d holds p.1)
+          (λ other c i apart holds. (others_hold_step w k (block_entry k upto) other c holds).0) stepped
 
       -- if the call failed, they may still stand for the world before it, and for the one after it only if a keeper failed
-      pub may_have_blocked : OthersHoldAfterStep → (e : Fault) → (held kept s2 ≡ held kept s0) ⊎ ((e ≡ faults.Keeper set.target) × HasStepped kept s0 s2 set.target (PutsSomeTargets kept takes shows s1 set (Block known.synchpoint upto) time known)) → HasBecome kept s0 s2 w ⊎ ((s : ℕ) × (e ≡ faults.Keeper s) × HasBecome kept s0 s2 after)
-      may_have_blocked others e (inl same) = inl (subst (λ (h : List (Option Contents)). Stands (names s0) h w) (sym same) stands)
-      may_have_blocked others e (inr stepped) = inr (set.target, stepped.0, has_blocked others stepped.1)
+      pub may_have_blocked : (e : Fault) → (held kept s2 ≡ held kept s0) ⊎ ((e ≡ faults.Keeper set.target) × HasStepped kept s0 s2 set.target (PutsSomeTargets kept takes shows s1 set (Block known.synchpoint upto) time known)) → HasBecome kept s0 s2 w ⊎ ((s : ℕ) × (e ≡ faults.Keeper s) × HasBecome kept s0 s2 after)
+      may_have_blocked e (inl same) = inl (subst (λ (h : List (Option Contents)). Stands (names s0) h w) (sym same) stands)
+      may_have_blocked e (inr stepped) = inr (set.target, stepped.0, has_blocked stepped.1)
 
       -- what is answered is the block's ends and its counts
-      pub has_answered : OthersHoldAfterStep → (counts : Counts) → HasStepped kept s0 s2 set.target (PutsTargets kept takes shows s1 set (Block known.synchpoint upto) time known counts) → HasBlocked kept s0 s2 w k upto (steps.Block known.synchpoint upto counts.inserts counts.updates counts.deletes)
-      has_answered others counts stepped =
+      pub has_answered : (counts : Counts) → HasStepped kept s0 s2 set.target (PutsTargets kept takes shows s1 set (Block known.synchpoint upto) time known counts) → HasBlocked kept s0 s2 w k upto (steps.Block known.synchpoint upto counts.inserts counts.updates counts.deletes)
+      has_answered counts stepped =
           let r = revealed_at_place (names s0) (held kept s0) w set.target k.target stands placed.target in
           let d = stepped r.0 r.1 in
           let counted = counts_are takes unnumbered w k set sound placed read_only step can next.1 kept shows s1 reveals time known known_is counts r.0 d.0 r.2 (puts_there kept shows s1 reveals known known_is counts r.0 d.0 r.2 d.2) None in (
-            has_blocked others (λ b is. let e = stepped b is in (e.0, e.1, (counts, e.2))),
+            has_blocked (λ b is. let e = stepped b is in (e.0, e.1, (counts, e.2))),
             λ i. steps.Block (known_is i).synchpoint upto (counted i).inserts (counted i).updates (counted i).deletes,
           )

@@ -1,36 +1,15 @@
 -- The steps of a set one after another, and why one failed: proofs.
-use Rattle.std.proofs.Common.{◌≡◌, ◌∙◌, ◌⊎◌, inl, inr, ℕ, ◌+◌, ◌-◌, ◌^◌, ◌<◌, ◌≤◌, List, [], ◌∷◌, ◌++◌, length, Bool, not, min, refl, sym, ap, subst, append_assoc, arith}
-use Rattle.std.specs.Prelude.{Option, Some, None, IsTrue, slice_get}
-use Rattle.std.proofs.lemmas.List.{length-append}
+use Rattle.std.proofs.Common.{◌≡◌, ◌∙◌, ◌⊎◌, inl, inr, ℕ, ◌+◌, ◌-◌, ◌^◌, ◌<◌, ◌≤◌, List, [], ◌∷◌, ◌++◌, length, Bool, not, min, refl, sym, ap, subst, append_assoc, arith, Option, Some, None, IsTrue, slice_get, length-append}
 use Rattle.std.proofs.Math.Nat.{min-eq_left}
-use Rattle.repl_types.specs.declared.area.Area.{Area}
-use Rattle.repl_types.specs.declared.record.SetId.{SetId}
-use Rattle.repl_types.specs.declared.status.DamageCause.{DamageCause}
-use Rattle.repl_types.specs.declared.status.DamageCause.TheVariants as causes
-use Rattle.repl_types.specs.declared.fault.Fault.{Fault}
-use Rattle.repl_types.specs.declared.fault.Fault.TheVariants as faults
-use Rattle.repl_types.specs.declared.fault.Stepped.{Stepped}
-use Rattle.repl_types.specs.declared.fault.Stepped.TheVariants as steps
-use Rattle.keep_core.specs.Contents.{Contents}
-use Rattle.keep_core.specs.Kept.{Kept}
-use Rattle.repl_model.specs.AfterActions.{after_action}
-use Rattle.repl_model.specs.NextActions.{Action, signals, refreshes, blocks, reports, idles, refuses, next_action}
-use Rattle.repl_model.specs.Rules.{is_replica_set}
-use Rattle.repl_model.specs.SoundLogs.{log_limit}
-use Rattle.repl_model.specs.World.{World, KnownSet, known_set}
-use Rattle.lists.specs.laws.Numbered.{at_place_in}
-use Rattle.site_store.specs.Calls.{KeepsServers, IsRead, Blames}
-use Rattle.site_store.specs.laws.Counts.{keeps_passed}
-use Rattle.site_store.specs.one_server.Calls.{Looks}
-use Rattle.site_store.specs.Damage.{Rules, Shows, IsNoDamage}
-use Rattle.site_store.specs.Servers.{AllClosed}
-use Rattle.site_store.specs.Views.{names, held, work, sees}
+use Rattle.world_store.specs.Words.{Stands}
+use Rattle.site_store.specs.Words.{Contents, Kept, KeepsServers, IsRead, Blames, keeps_passed, Looks, Rules, Shows, IsNoDamage, AllClosed, names, held, work, sees}
 use Rattle.site_store.specs.declared.sites.Sites.{Sites}
-use Rattle.world_store.specs.Stands.{Stands}
-use Rattle.world_commits.specs.actions.Resting.{commits_world, steps_left, NextActionsRest}
+use Rattle.repl_model.specs.Words.{Area, SetId, DamageCause, Fault, Stepped, after_action, Action, signals, refreshes, blocks, reports, idles, refuses, next_action, is_replica_set, log_limit, World, KnownSet, known_set, at_place_in, TargetKind, SetDef}
+use Rattle.repl_types.specs.declared.status.DamageCause.TheVariants as causes
+use Rattle.repl_types.specs.declared.fault.Fault.TheVariants as faults
+use Rattle.repl_types.specs.declared.fault.Stepped.TheVariants as steps
+use Rattle.world_commits.specs.actions.Resting.{commits_world, steps_left}
 use Rattle.world_commits.specs.actions.laws.Resting.{few_steps}
-use Rattle.repl_definitions.specs.declared.member.TargetKind.{TargetKind}
-use Rattle.repl_definitions.specs.declared.set.SetDef.{SetDef}
 use Rattle.target_steps.specs.Steps.{TakesEach}
 use Rattle.set_places.specs.Members.{ForSource}
 use Rattle.set_places.specs.Places.{IsPlacedAs, IsKnownAs, IsReadOnly}
@@ -41,6 +20,7 @@ use Rattle.target_steps.specs.laws.AtServers.{revealed}
 use Rattle.apply_cycle.proofs.StepCases.{stands_on, closed_on}
 use Rattle.apply_cycle.specs.Cycling.{MakesStep, MakesSteps, Rests, ForCycle, MakesAtMost, MayMake, HasStepped, HasBroken, HasRested, HasBrokenAfter, IsCaused, TellsNoRest, made_of}
 use Rattle.apply_cycle.specs.Stepping.{answer_of, IsAnswer, IsBlamed, ShowsDamage, HasMade, HasFailed}
+use Rattle.world_commits.specs.laws.Resting.{each_leaves_fewer}
 
 -- ---- in a world
 
@@ -227,12 +207,6 @@ most_is kept s0 set closed point most read is = λ w k stands placed.
 
 -- ---- a set that isn't read-only
 
--- the definition of the set that was found says whether it is of replicas
-pub replica_known : (w : World) (id : SetId) (set : PlacedSet) → IsTrue (is_replica_set set.at_target.def) → IsKnownAs w id (Some set) → (k : KnownSet) → known_set w id ≡ Some k → IsTrue (is_replica_set k.at_target.def)
-replica_known w id set is known k other =
-    let same : known.0 ≡ k = cc in
-    subst (λ (l : KnownSet). IsTrue (is_replica_set l.at_target.def)) same (rw (sym known.2.target_def) is)
-
 -- so with a read-only one
 pub read_only_known : (w : World) (set : PlacedSet) (k : KnownSet) → IsTrue (not (is_replica_set set.at_target.def)) → IsPlacedAs w k set → IsReadOnly k
 read_only_known w set k is placed = rw (sym placed.target_def) is
@@ -269,14 +243,14 @@ module _ {K : Type 0} (kept : K → Kept) (takes : TargetKind → Bool) (s0 : Si
     pub takes_there : (k : KnownSet) → known_set goes.v id ≡ Some k → TakesEach takes k.at_target.def
     takes_there k known = let same : goes.k ≡ k = cc in subst (λ (l : KnownSet). TakesEach takes l.at_target.def) same goes.takes_each
 
-    module _ (rest : NextActionsRest) (v : World) (stepped : Stepped) (step : MakesStep id goes.v v stepped) (is : step.k ≡ goes.k) where
+    module _ (v : World) (stepped : Stepped) (step : MakesStep id goes.v v stepped) (is : step.k ≡ goes.k) where
       -- the set that made one more is read-only
       one_read_only : IsReadOnly step.k
       one_read_only = subst IsReadOnly (sym is) goes.read_only
 
       -- and is known after it
       one_known : (l : KnownSet) × (known_set (after_action goes.v step.k (next_action step.k)) id ≡ Some l) × (steps_left l < steps_left step.k) × (l.at_target.def ≡ step.k.at_target.def)
-      one_known = rest goes.v step.k id goes.become.sound step.known one_read_only step.commits
+      one_known = each_leaves_fewer goes.v step.k id goes.become.sound step.known one_read_only step.commits
 
       -- one more was made
       pub goes_on : (s2 : Sites K) → names s1 ≡ names s0 → HasBecome kept s1 s2 v → Goes kept takes s0 s2 id (answers ++ stepped ∷ []) (made + 1) most w

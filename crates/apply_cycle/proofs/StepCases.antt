@@ -1,25 +1,12 @@
 -- One action of a set after reads is the step from the beginning: proofs.
-use Rattle.std.proofs.Common.{◌≡◌, ◌∙◌, ℕ, Bool, true, false, ◌||◌, List, inl, inr, refl, sym, subst, arith}
-use Rattle.std.specs.Prelude.{Option, Result, Ok}
-use Rattle.repl_types.specs.declared.area.Area.{Area}
-use Rattle.repl_types.specs.declared.area.Area.TheVariants as areas
-use Rattle.repl_types.specs.declared.status.DamageCause.{DamageCause}
-use Rattle.repl_types.specs.declared.fault.Fault.{Fault}
-use Rattle.repl_types.specs.declared.fault.Fault.TheVariants as faults
-use Rattle.repl_types.specs.declared.fault.Stepped.{Stepped}
-use Rattle.repl_types.specs.declared.fault.Stepped.TheVariants as steps
-use Rattle.keep_core.specs.Contents.{Contents}
-use Rattle.keep_core.specs.Kept.{Kept}
-use Rattle.repl_model.specs.AfterActions.{after_action}
-use Rattle.repl_model.specs.NextActions.{Action, signals, refreshes, blocks, reports, idles, refuses, next_action}
-use Rattle.repl_model.specs.World.{World, KnownSet}
-use Rattle.world_store.specs.Stands.{Stands}
+use Rattle.std.proofs.Common.{◌≡◌, ◌∙◌, ℕ, Bool, true, false, ◌||◌, List, inl, inr, refl, sym, subst, arith, Option, Result, Ok}
+use Rattle.world_store.specs.Words.{Stands}
+use Rattle.site_store.specs.Words.{Contents, Kept, AllClosed, names, held, work, Rules, Shows, Damages, Looks, looks_sees}
 use Rattle.site_store.specs.declared.sites.Sites.{Sites}
-use Rattle.site_store.specs.Servers.{AllClosed}
-use Rattle.site_store.specs.Views.{names, held, work}
-use Rattle.site_store.specs.Damage.{Rules, Shows, Damages}
-use Rattle.site_store.specs.one_server.Calls.{Looks}
-use Rattle.site_store.specs.one_server.laws.Reads.{looks_sees}
+use Rattle.repl_model.specs.Words.{Area, DamageCause, Fault, Stepped, after_action, Action, signals, refreshes, blocks, reports, idles, refuses, next_action, World, KnownSet}
+use Rattle.repl_types.specs.declared.area.Area.TheVariants as areas
+use Rattle.repl_types.specs.declared.fault.Fault.TheVariants as faults
+use Rattle.repl_types.specs.declared.fault.Stepped.TheVariants as steps
 use Rattle.set_places.specs.declared.placed_set.PlacedSet.{PlacedSet}
 use Rattle.set_places.specs.Reading.{ReadsOnly}
 use Rattle.set_places.specs.Steps.{HasBecome, MayHaveBecome, BlamesUnchanged}

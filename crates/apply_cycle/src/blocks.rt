@@ -13,7 +13,6 @@ ghost use Rattle.set_places.specs.Steps.{MayHaveBecome, BlamesUnchanged};
 ghost use Rattle.apply_cycle.specs.Blocks.{IsBlockNext, HasBlocked, ShowsDamage};
 ghost use Rattle.apply_cycle.specs.Blocks.{is_read_in_block, ReadsAnswered};
 
-use crate::laws::laws_of_blocks;
 use keep_core::Keeper;
 use repl_types::{Fault, Stepped};
 use set_places::PlacedSet;
@@ -51,7 +50,6 @@ pub fn block_step<K: Keeper, T: Targets<K>>(
     ensures counted { let members = length set.now.at_source.def.members in
         IfOk result (ReadsAnswered members K.kept sites.old sites.new) }
 {
-    laws_of_blocks();
     let known = read_only_state(sites, alloc, set)?;
     let time = unit_time(sites, alloc, set, upto)?;
     let from = known.synchpoint;

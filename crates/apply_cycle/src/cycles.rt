@@ -1,8 +1,8 @@
 //! The steps of a read-only set, one after another.
 
-ghost use Rattle.std.specs.Prelude.{◌≡◌, ℕ, ◌+◌, IsTrue, not, Some, IfOk, IfErr, OnOk, OnErr};
+ghost use Rattle.std.specs.Prelude.{◌≡◌, ◌+◌, IsTrue, not, Some, IfOk, IfErr, OnOk, OnErr};
 ghost use Rattle.repl_model.specs.Rules.{is_replica_set as is_replica_set_lem};
-ghost use Rattle.repl_model.specs.World.{World, KnownSet, known_set};
+ghost use Rattle.repl_model.specs.World.{World};
 ghost use Rattle.site_store.specs.Calls.{KeepsServers, IsRead};
 ghost use Rattle.site_store.specs.Servers.{AllClosed};
 ghost use Rattle.site_store.specs.Views.{names, held, work};
@@ -22,7 +22,6 @@ use site_store::Sites;
 use std::alloc::Global;
 use subs_sets::{captured_point, is_replica_set};
 use target_steps::Targets;
-use world_commits::next_actions_come_to_rest;
 
 /// How many steps a set makes at most beside those that the captured units call for.
 const MORE_STEPS: u64 = 5;
@@ -128,7 +127,6 @@ fn make_steps<K: Keeper, T: Targets<K>>(
         (TellsNoRest (λ s. s ≡ source) done.old done.new)) }
     ensures servers { KeepsServers K.kept sites.old sites.new }
 {
-    next_actions_come_to_rest();
     for count in 0..most {
         let stepped = next_step(sites, alloc, id, targets)?;
         match made(stepped) {

@@ -22,7 +22,6 @@
 
 mod blocks;
 mod cycles;
-mod laws;
 mod steps;
 
 pub use blocks::block_step;

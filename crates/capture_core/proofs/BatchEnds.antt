@@ -1,15 +1,12 @@
 -- The commits of a capture by the numbers of units after which it commits.
-use Rattle.std.proofs.Common.{◌≡◌, ◌≢◌, inl, inr, ℕ, suc, ◌+◌, ◌*◌, ◌<◌, ◌≤◌, Bool, true, false, cond, List, [], ◌∷◌, ◌++◌, length, map, take, refl, sym, ap, ◌∙◌, append_assoc, arith}
-use Rattle.std.specs.Prelude.{◌%◌, ◌==◌, ◌||◌}
+use Rattle.std.proofs.Common.{◌≡◌, inl, inr, ℕ, suc, ◌+◌, ◌*◌, ◌<◌, ◌≤◌, Bool, true, false, cond, List, [], ◌∷◌, ◌++◌, length, map, take, refl, sym, ap, ◌∙◌, append_assoc, arith, ◌%◌, ◌==◌, ◌||◌, length-append}
 use Rattle.std.specs.List.{filter, range_with_len}
 use Rattle.std.proofs.lemmas.Bool.{cases_lt, eq-eqb}
 use Rattle.std.proofs.Math.Seq.{take-append_seam}
-use Rattle.std.proofs.lemmas.List.{length-append}
 use Rattle.std.proofs.lemmas.Nat.{mod-mul-add}
-use Rattle.rows_in_order.specs.laws.Written.{differ_numbers}
+use Rattle.world_store.specs.Words.{differ_numbers}
+use Rattle.repl_model.specs.Words.{Unit, World}
 use Rattle.run_core.specs.Runs.{Event, commits}
-use Rattle.repl_types.specs.declared.unit.Unit.{Unit}
-use Rattle.repl_model.specs.World.{World}
 use Rattle.world_commits.specs.captures.Captures.{captured}
 use Rattle.capture_core.specs.Capturing.{commits_of}
 use Rattle.capture_core.proofs.Batches.{commits_left}

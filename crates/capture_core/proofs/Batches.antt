@@ -1,11 +1,8 @@
 -- The commits of a capture on its way: one after each full batch of units, and one after the last unit.
-use Rattle.std.proofs.Common.{◌≡◌, ◌≢◌, ℕ, ◌+◌, ◌<◌, Bool, cond, List, [], ◌∷◌, sym, ap, ◌∙◌, arith}
-use Rattle.std.specs.Prelude.{◌==◌, if◌then◌else◌}
-use Rattle.std.proofs.lemmas.Bool.{eq-eqb}
-use Rattle.rows_in_order.specs.laws.Written.{differ_numbers}
+use Rattle.std.proofs.Common.{◌≡◌, ◌≢◌, ℕ, ◌+◌, ◌<◌, Bool, cond, List, [], ◌∷◌, sym, ap, ◌∙◌, arith, ◌==◌, if◌then◌else◌, eq-eqb}
+use Rattle.world_store.specs.Words.{differ_numbers}
+use Rattle.repl_model.specs.Words.{Unit, World}
 use Rattle.run_core.specs.Runs.{Event, commits}
-use Rattle.repl_types.specs.declared.unit.Unit.{Unit}
-use Rattle.repl_model.specs.World.{World}
 use Rattle.world_commits.specs.captures.Captures.{captured}
 
 -- the commits that are left when so many units wait for theirs in a world, and these are captured next

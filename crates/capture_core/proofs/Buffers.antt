@@ -1,11 +1,9 @@
 -- What a buffer has after a change is pushed, and after a transaction ends.
-use Rattle.std.proofs.Common.{◌≡◌, ◌≢◌, ℕ, Bool, cond, List, [], ◌∷◌, ◌++◌, sym, subst, inl, inr}
-use Rattle.std.specs.Prelude.{◌==◌}
+use Rattle.std.proofs.Common.{◌≡◌, ◌≢◌, ℕ, Bool, cond, List, [], ◌∷◌, ◌++◌, sym, subst, inl, inr, ◌==◌}
 use Rattle.std.specs.List.{AllByRecursion}
 use Rattle.std.proofs.lemmas.Bool.{cases_eq, eq-eqb}
-use Rattle.repl_types.specs.laws.Lists.{all_append}
-use Rattle.repl_types.specs.declared.unit.Placed.{Placed}
-use Rattle.rows_in_order.specs.laws.Written.{differ_numbers}
+use Rattle.world_store.specs.Words.{differ_numbers}
+use Rattle.repl_model.specs.Words.{all_append, Placed}
 use Rattle.txn_buffer.specs.Buffer.{changes_in}
 use Rattle.txn_buffer.specs.declared.buffer.Buffer.{Buffer}
 use Rattle.cd_tables.specs.Appending.{IsTyped}

@@ -1,20 +1,9 @@
 -- Calls inside a transaction, and why one fails.
-use Rattle.std.proofs.Common.{◌≡◌, ℕ, ◌<◌, length, refl, sym, ap, subst, false, ◌∙◌}
+use Rattle.std.proofs.Common.{◌≡◌, ℕ, ◌<◌, length, refl, sym, ap, subst, ◌∙◌, Some, IfSome}
 use Rattle.std.proofs.lemmas.List.{length-map}
-use Rattle.std.specs.Prelude.{Some, IfSome}
-use Rattle.repl_types.specs.declared.fault.Fault.{Fault}
-use Rattle.keep_core.specs.Contents.{Contents}
-use Rattle.keep_core.specs.Kept.{Kept}
+use Rattle.site_store.specs.Words.{Contents, Kept, AllClosed, names, work, sees, IsOpenAt, no_access, Begins, Shows, Damages, ShownBefore, shown_second, begun_sees, Looks, GoesOn, Breaks, stops_as, stops_after, goes_then, goes_saw, goes_open}
 use Rattle.site_store.specs.declared.sites.Sites.{Sites}
-use Rattle.site_store.specs.Servers.{AllClosed}
-use Rattle.site_store.specs.Views.{names, work, sees, IsOpenAt}
-use Rattle.site_store.specs.Calls.{no_access, Begins}
-use Rattle.site_store.specs.Damage.{Shows, Damages, ShownBefore}
-use Rattle.site_store.specs.laws.Damage.{shown_second}
-use Rattle.site_store.specs.laws.Transactions.{begun_sees}
-use Rattle.site_store.specs.one_server.Calls.{Looks, GoesOn, Breaks}
-use Rattle.site_store.specs.one_server.laws.Faults.{stops_as, stops_after}
-use Rattle.site_store.specs.one_server.laws.Steps.{goes_then, goes_saw, goes_open}
+use Rattle.repl_model.specs.Words.{Fault}
 use Rattle.cd_tables.specs.Rules.{rules as unit_rules}
 use Rattle.capture_core.specs.Reading.{LeavesOthers}
 use Rattle.capture_core.specs.Rules.{log_rules, rules}

@@ -1,20 +1,10 @@
 -- What a server holds once the units that waited are committed: proofs.
-use Rattle.std.proofs.Common.{◌≡◌, ℕ, zero, suc, Bool, true, false, cond, List, refl, sym, ap, subst, ◌∙◌, arith}
-use Rattle.std.specs.Prelude.{Option, Some, None}
+use Rattle.std.proofs.Common.{◌≡◌, ℕ, zero, suc, Bool, true, false, cond, List, refl, sym, ap, subst, ◌∙◌, arith, Option, Some, None}
 use Rattle.std.specs.Option.{option_or}
-use Rattle.repl_types.specs.declared.area.Area.{Area}
+use Rattle.world_store.specs.Words.{single_spelling, capture_spelling, CaptureState, table_from_rows, put_here, put_other_table, capture_state, capture_rows, shown, Holds, tables, first_table}
+use Rattle.site_store.specs.Words.{Contents, Table, set_key, same_key, put_at}
+use Rattle.repl_model.specs.Words.{Area, Unit, Server, World}
 use Rattle.repl_types.specs.declared.area.Area.TheVariants as areas
-use Rattle.repl_types.specs.declared.unit.Unit.{Unit}
-use Rattle.keep_core.specs.Contents.{Contents, Table, set_key, same_key, put_at}
-use Rattle.repl_records.specs.RecordKeys.{single_spelling}
-use Rattle.repl_records.specs.Capture.{capture_spelling}
-use Rattle.repl_records.specs.declared.capture.CaptureState.{CaptureState}
-use Rattle.rows_in_order.specs.Rows.{table_from_rows}
-use Rattle.rows_in_order.specs.laws.Written.{put_here, put_other_table}
-use Rattle.repl_model.specs.World.{Server, World}
-use Rattle.world_store.specs.CaptureRows.{capture_state, capture_rows}
-use Rattle.world_store.specs.Stands.{shown, Holds}
-use Rattle.world_store.specs.Tables.{tables, first_table}
 use Rattle.world_commits.specs.captures.Captures.{with_units}
 use Rattle.stored_commits.specs.units.StoredCaptures.{HasCaptured}
 use Rattle.stored_commits.specs.captures.CapturedServers.{is_of_capture, Captured}

@@ -1,14 +1,9 @@
 -- What a capture leaves of the other servers, and of all servers if it captures nothing: proofs.
-use Rattle.std.proofs.Common.{◌≡◌, inl, inr, ℕ, zero, suc, ◌<◌, List, set, get_or, refl, sym, ap, ◌∙◌, arith}
-use Rattle.std.specs.Prelude.{Option, None, Result, Ok, Err, OnOk, IfOk, IfErr}
-use Rattle.std.proofs.lemmas.List.{get_or-set_other}
-use Rattle.repl_types.specs.declared.fault.Fault.{Fault}
-use Rattle.keep_core.specs.Contents.{Contents}
-use Rattle.keep_core.specs.Kept.{Kept}
-use Rattle.repl_records.specs.declared.capture.CaptureState.{CaptureState}
+use Rattle.std.proofs.Common.{◌≡◌, inl, inr, ℕ, zero, suc, ◌<◌, List, set, get_or, refl, sym, ap, ◌∙◌, arith, Option, None, Result, Ok, Err, OnOk, IfOk, IfErr, get_or-set_other}
+use Rattle.world_store.specs.Words.{CaptureState}
+use Rattle.site_store.specs.Words.{Contents, Kept, held, sees, ClosesOne}
 use Rattle.site_store.specs.declared.sites.Sites.{Sites}
-use Rattle.site_store.specs.Views.{held, sees}
-use Rattle.site_store.specs.Calls.{ClosesOne}
+use Rattle.repl_model.specs.Words.{Fault}
 use Rattle.capture_core.specs.Capturing.{HoldsElsewhere}
 use Rattle.capture_core.specs.Committing.{CommitsUnits, MayCommitUnits}
 use Rattle.capture_core.specs.declared.captured.Captured.{Captured}

@@ -1,34 +1,15 @@
 -- How a capture on its way ends, or stops: proofs.
-use Rattle.std.proofs.Common.{◌≡◌, inl, inr, ℕ, zero, suc, ◌+◌, ◌-◌, ◌<◌, ◌≤◌, List, [], ◌∷◌, ◌++◌, length, take, get_or, refl, sym, ap, subst, ◌∙◌, append_assoc, append-nil, arith}
-use Rattle.std.specs.Prelude.{Option, Some, None, Result, Ok, Err, OnOk, IfOk, IfErr}
+use Rattle.std.proofs.Common.{◌≡◌, inl, inr, ℕ, zero, suc, ◌+◌, ◌-◌, ◌<◌, ◌≤◌, List, [], ◌∷◌, ◌++◌, length, take, get_or, refl, sym, ap, subst, ◌∙◌, append_assoc, append-nil, arith, Option, Some, None, Result, Ok, Err, OnOk, IfOk, IfErr, length-append}
 use Rattle.std.proofs.Math.Nat.{min-eq_left}
 use Rattle.std.proofs.Math.Seq.{take-append-add}
-use Rattle.std.proofs.lemmas.List.{length-append}
+use Rattle.world_store.specs.Words.{Stands}
+use Rattle.site_store.specs.Words.{Contents, Table, Kept, seen_of, Takes, takes_nothing, names, held, work, sees, no_access, both, ClosesOne, at_most_itself, passes_then, keeps_passed, passes_keeps, Shows, IsUndamaged, no_damage, shown_unseen, Breaks, blames_after}
+use Rattle.site_store.specs.declared.sites.Sites.{Sites}
+use Rattle.repl_model.specs.Words.{Unit, Fault, NumbersAreSound, empty_server, Server, World, server_in, LogIsSound, at_one, Area, DamageCause, seqs_within}
 use Rattle.repl_types.specs.declared.area.Area.TheVariants as areas
-use Rattle.repl_types.specs.declared.unit.Unit.{Unit}
-use Rattle.repl_types.specs.declared.fault.Fault.{Fault}
-use Rattle.keep_core.specs.Contents.{Contents, Table}
-use Rattle.keep_core.specs.Kept.{Kept, seen_of}
-use Rattle.keep_core.specs.Revealed.{Takes}
-use Rattle.keep_core.specs.laws.Revealed.{takes_nothing}
-use Rattle.repl_model.specs.Sound.{NumbersAreSound}
-use Rattle.repl_model.specs.World.{empty_server, Server, World, server_in}
-use Rattle.repl_model.specs.SoundLogs.{LogIsSound}
-use Rattle.lists.specs.laws.Members.{at_one}
 use Rattle.run_core.specs.Runs.{Event, commits, last_world, lines_of, Went, Stopped}
 use Rattle.run_core.specs.laws.Runs.{last_append, lines_append, no_part, stopped_before}
-use Rattle.site_store.specs.declared.sites.Sites.{Sites}
-use Rattle.site_store.specs.Views.{names, held, work, sees}
-use Rattle.site_store.specs.Calls.{no_access, both, ClosesOne}
-use Rattle.site_store.specs.laws.Counts.{at_most_itself, passes_then, keeps_passed, passes_keeps}
-use Rattle.repl_types.specs.declared.area.Area.{Area}
-use Rattle.repl_types.specs.declared.status.DamageCause.{DamageCause}
-use Rattle.site_store.specs.Damage.{Shows, IsUndamaged}
-use Rattle.site_store.specs.laws.Damage.{no_damage, shown_unseen}
 use Rattle.stored_defs.specs.laws.Standing.{all_at_place, seen_at}
-use Rattle.site_store.specs.one_server.Calls.{Breaks}
-use Rattle.site_store.specs.one_server.laws.Faults.{blames_after}
-use Rattle.world_store.specs.Stands.{Stands}
 use Rattle.world_commits.specs.captures.Captures.{with_units, uncaptured, captured}
 use Rattle.capture_core.specs.Committing.{CommitsUnits, MayCommitUnits}
 use Rattle.capture_core.specs.Capturing.{counts_of}
@@ -58,7 +39,7 @@ module _ {K : Type 0} (kept : K → Kept) (s0 : Sites K) (n every most : ℕ) (c
       let below = within kept s0 call.closed w stands n call.lt in
       let numbers = all_at_place NumbersAreSound w n (empty_server []) stands.sound.numbers below in
       let log = all_at_place LogIsSound w n (empty_server []) stands.sound.logs below in
-      (r.0, r.1, undamaged call.laws.within call.laws.typed w server r.0 stands.sound (in_at w n (empty_server []) below) (held_server call.laws.has w server r.0 r.2) (state_spelt call.laws.within w server r.0 numbers log r.2))
+      (r.0, r.1, undamaged seqs_within w server r.0 stands.sound (in_at w n (empty_server []) below) (held_server w server r.0 r.2) (state_spelt seqs_within w server r.0 numbers log r.2))
 
   pub begin_fails : (s1 : Sites K) (e : Fault) → Breaks rules kept s0 s1 n e → HasFailed kept s0 s1 n most every e
   begin_fails s1 e f = record {
@@ -145,12 +126,12 @@ module _ {K : Type 0} (kept : K → Kept) (s0 : Sites K) (n every most : ℕ) (c
           let between = captured name at.done w in
           let own = with_units at.done server in
           let split : uncaptured server ≡ at.done ++ (at.waiting ++ at.rest) = at.split ∙ ap (λ (us : List Unit). us ++ at.rest) at.whole ∙ append_assoc at.done at.waiting at.rest in
-          let sound_between = sound_after kept s0 call.closed w stands n call.lt call.laws.sound at.done (at.waiting ++ at.rest, split) in
+          let sound_between = sound_after kept s0 call.closed w stands n call.lt at.done (at.waiting ++ at.rest, split) in
           let among = member kept s0 call.closed w stands n call.lt at.done in
-          let spelt : HasSpeltState c.0 = state_spelt call.laws.within between own c.0 (at_one NumbersAreSound between own sound_between.numbers among) (at_one LogIsSound between own sound_between.logs among) c.2 in (
+          let spelt : HasSpeltState c.0 = state_spelt seqs_within between own c.0 (at_one NumbersAreSound between own sound_between.numbers among) (at_one LogIsSound between own sound_between.logs among) c.2 in (
             d.0,
             working_sees kept s1 n LeavesOthers way.working ∙ d.1,
-            undamaged call.laws.within call.laws.typed world (with_units at.taken server) d.0 (sound_after kept s0 call.closed w stands n call.lt call.laws.sound at.taken (at.rest, at.split)) (member kept s0 call.closed w stands n call.lt at.taken) (at.has d.0 d.1)
+            undamaged seqs_within world (with_units at.taken server) d.0 (sound_after kept s0 call.closed w stands n call.lt at.taken (at.rest, at.split)) (member kept s0 call.closed w stands n call.lt at.taken) (at.has d.0 d.1)
                 (λ key bytes is. spelt key bytes (ap (λ (t : Table). t key) (sym (d.2.others areas.Capture 0 refl)) ∙ is)),
           )
 

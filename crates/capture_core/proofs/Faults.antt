@@ -1,25 +1,13 @@
 -- Who is blamed for a fault of a capture.
-use Rattle.std.proofs.Common.{◌≡◌, ◌⊎◌, inl, inr, ap, ℕ, List, get_or, refl, sym, subst, ◌∙◌, arith}
-use Rattle.std.specs.Prelude.{Option, Some, None}
-use Rattle.repl_types.specs.declared.area.Area.{Area}
-use Rattle.repl_types.specs.declared.status.DamageCause.{DamageCause}
-use Rattle.repl_types.specs.declared.fault.Fault.{Fault}
-use Rattle.repl_types.specs.declared.fault.Fault.TheVariants as faults
-use Rattle.keep_core.specs.Contents.{Contents}
-use Rattle.keep_core.specs.Kept.{Kept, seen_of}
+use Rattle.std.proofs.Common.{◌≡◌, ◌⊎◌, inl, inr, ap, ℕ, List, get_or, sym, subst, ◌∙◌, arith, Option, None}
+use Rattle.world_store.specs.Words.{CaptureState}
+use Rattle.site_store.specs.Words.{Contents, Kept, seen_of, NoDamage, AllClosed, held, work, sees, Bounds, no_access, both, Passes, AtServer, Blames, Fails, Shows, Damages, IsNoDamage, at_most_itself, passes_then, Breaks, stops_as, blames_after, put_fails}
 use Rattle.site_store.specs.declared.sites.Sites.{Sites}
-use Rattle.site_store.specs.Records.{NoDamage}
-use Rattle.site_store.specs.Servers.{AllClosed}
-use Rattle.site_store.specs.Views.{held, work, sees}
-use Rattle.site_store.specs.Calls.{Bounds, no_access, both, Passes, AtServer, Blames, Fails}
-use Rattle.site_store.specs.Damage.{Shows, Damages, IsNoDamage}
-use Rattle.site_store.specs.laws.Counts.{at_most_itself, passes_then}
-use Rattle.site_store.specs.one_server.Calls.{Breaks}
-use Rattle.site_store.specs.one_server.laws.Faults.{stops_as, blames_after, put_fails}
+use Rattle.repl_model.specs.Words.{Area, DamageCause, Fault}
+use Rattle.repl_types.specs.declared.fault.Fault.TheVariants as faults
 use Rattle.capture_core.specs.Committing.{CommitsUnits, TookUnits, MayCommitUnits}
 use Rattle.capture_core.specs.Ending.{HeldDamage}
 use Rattle.capture_core.specs.Rules.{rules}
-use Rattle.repl_records.specs.declared.capture.CaptureState.{CaptureState}
 
 -- a call that only writes shows no damage
 pub write_undamaged : {K : Type 0} (kept : K → Kept) (s0 s1 : Sites K) (e : Fault) → Blames kept s0 s1 (λ s a cause. ⊥) e → IsNoDamage e

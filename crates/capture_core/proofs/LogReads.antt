@@ -1,12 +1,8 @@
 -- How often a capture reads logs: proofs.
-use Rattle.std.proofs.Common.{ℕ, ◌+◌, ◌-◌, ◌<◌, ◌≤◌, length, ap, ◌∙◌, arith}
-use Rattle.std.specs.Prelude.{Option, Some}
-use Rattle.keep_core.specs.Contents.{Contents}
-use Rattle.keep_core.specs.Kept.{Kept}
+use Rattle.std.proofs.Common.{ℕ, ◌+◌, ◌-◌, ◌<◌, ◌≤◌, length, ap, ◌∙◌, arith, Option, Some}
+use Rattle.site_store.specs.Words.{Contents, Kept, held, GoesOn}
 use Rattle.site_store.specs.declared.sites.Sites.{Sites}
-use Rattle.site_store.specs.Views.{held}
-use Rattle.repl_model.specs.World.{server_in}
-use Rattle.site_store.specs.one_server.Calls.{GoesOn}
+use Rattle.repl_model.specs.Words.{server_in}
 use Rattle.world_commits.specs.captures.Captures.{with_units, captured}
 use Rattle.world_commits.specs.captures.laws.Servers.{log_stays}
 use Rattle.cd_tables.specs.Reading.{ReadsNoLog}
@@ -67,7 +63,7 @@ module _ {K : Type 0} (kept : K → Kept) where
           let g = way.worlds w stands in
           let c = holds_after kept s0 call.closed w stands n call.lt g.done (held kept s2) g.stands in
           let d = way.working.does c.0 c.1 in
-          let sound = sound_after kept s0 call.closed w stands n call.lt call.laws.sound g.taken (g.rest, g.split) in
+          let sound = sound_after kept s0 call.closed w stands n call.lt g.taken (g.rest, g.split) in
           let inner = further.within d.0 (way.working.is ∙ ap (λ (o : Option Contents). Some o) d.1) (captured server.name g.taken w) (with_units g.taken server) sound (member kept s0 call.closed w stands n call.lt g.taken) (g.has d.0 d.1) g.reads in
           omega (arith, each.low, each.reads.here, further.reads.here, inner, ap length (log_stays g.taken server), first_read kept s0 n every most call s1 first opens begins w stands);
     }

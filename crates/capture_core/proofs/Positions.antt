@@ -1,24 +1,10 @@
 -- What is read of a log is its next record.
-use Rattle.std.proofs.Common.{◌≡◌, ℕ, ◌+◌, ◌<◌, ◌≤◌, ◌^◌, length, get_or, sym, ap, subst, ◌∙◌, arith}
-use Rattle.std.specs.Prelude.{Option, Some, None, IfSome}
-use Rattle.std.specs.Ordering.{nat_cmp}
-use Rattle.std.specs.declared.cmp.Ordering.TheVariants.{Less}
+use Rattle.std.proofs.Common.{◌≡◌, ℕ, ◌+◌, ◌<◌, ◌≤◌, ◌^◌, length, get_or, sym, ap, subst, ◌∙◌, arith, Option, Some, None, IfSome, nat_cmp, Less}
 use Rattle.std.proofs.lemmas.Option.{slice_get-get_or, same_Some}
-use Rattle.repl_types.specs.Bytes.{bytes_cmp}
+use Rattle.world_store.specs.Words.{IsLogRecord, log_spelling, Is64, b64, one_log_record, one_whole, whole_order, order64, SpellsInOrder, key_less, numbered_at, numbered_next, numbered_last}
+use Rattle.site_store.specs.Words.{Contents, Table, IsNextKey, IsLastKey, Follows}
+use Rattle.repl_model.specs.Words.{bytes_cmp, LogRecord, LogIsSound, Server}
 use Rattle.repl_types.specs.declared.area.Area.TheVariants as areas
-use Rattle.repl_types.specs.declared.record.LogRecord.{LogRecord}
-use Rattle.keep_core.specs.Contents.{Contents, Table, IsNextKey, IsLastKey}
-use Rattle.row_codec.specs.LogRecords.{IsLogRecord, log_spelling}
-use Rattle.row_codec.specs.Spelling.{Is64, b64}
-use Rattle.row_codec.specs.laws.LogRecords.{one_log_record}
-use Rattle.row_codec.specs.laws.Ones.{one_whole}
-use Rattle.row_codec.specs.laws.Orders.{whole_order, order64}
-use Rattle.rows_in_order.specs.Numbers.{SpellsInOrder}
-use Rattle.rows_in_order.specs.laws.ByNumber.{key_less}
-use Rattle.rows_in_order.specs.laws.Numbered.{numbered_at, numbered_next, numbered_last}
-use Rattle.repl_model.specs.SoundLogs.{LogIsSound}
-use Rattle.repl_model.specs.World.{Server}
-use Rattle.site_store.specs.Records.{Follows}
 use Rattle.stored_defs.specs.laws.Standing.{all_at_place}
 use Rattle.stored_commits.specs.records.LongerTables.{log_table}
 use Rattle.capture_core.specs.Reading.{IsNextRecord, IsLoggedAfter, ComesNext}

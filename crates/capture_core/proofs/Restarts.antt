@@ -1,40 +1,21 @@
 -- Where a capture begins to read, and that nothing is in flight there.
-use Rattle.std.proofs.Common.{◌≡◌, inl, inr, ℕ, ◌+◌, ◌<◌, ◌≤◌, Bool, true, false, cond, List, [], ◌∷◌, length, refl, sym, ap, ◌∙◌, arith}
-use Rattle.std.specs.Prelude.{◌==◌, nat_le, find, filter, Option, Some, None, nat_lt}
+use Rattle.std.proofs.Common.{◌≡◌, inl, inr, ℕ, ◌+◌, ◌<◌, ◌≤◌, Bool, true, false, cond, List, [], ◌∷◌, length, refl, sym, ap, ◌∙◌, arith, ◌==◌, nat_le, find, filter, Option, Some, None, nat_lt}
 use Rattle.std.specs.List.{AllByRecursion, enumerate_from}
 use Rattle.std.specs.Option.{option_map_or, option_or}
 use Rattle.std.proofs.lemmas.Bool.{and_parts, eqb-true, leb-true, or_cases}
 use Rattle.std.proofs.Math.Nat.{max-eq_left}
 use Rattle.repl_types.specs.declared.area.Area.TheVariants as areas
-use Rattle.repl_types.specs.declared.record.LogRecord.{LogRecord}
 use Rattle.repl_types.specs.declared.record.LogRecord.TheVariants as records
-use Rattle.repl_types.specs.declared.unit.Unit.{Unit}
 use Rattle.std.proofs.lemmas.Option.{same_Some}
-use Rattle.keep_core.specs.Contents.{Contents, Table, same_key}
-use Rattle.row_codec.specs.laws.Ones.{one_whole}
-use Rattle.repl_records.specs.FirstStates.{first_capture}
-use Rattle.repl_records.specs.RecordKeys.{single_spelling}
-use Rattle.repl_records.specs.Capture.{IsCapture, capture_spelling}
-use Rattle.repl_records.specs.laws.Capture.{one_capture}
-use Rattle.repl_records.specs.declared.capture.CaptureState.{CaptureState}
-use Rattle.repl_records.specs.declared.record_keys.Single.{Single}
-use Rattle.rows_in_order.specs.Rows.{table_from_rows}
-use Rattle.rows_in_order.specs.laws.Rising.{at_head}
-use Rattle.world_store.specs.SpelledRows.{Spells}
-use Rattle.repl_model.specs.Units.{At, positions, units, last_end}
-use Rattle.repl_model.specs.World.{Server, World, is_open_at, restart_after}
-use Rattle.repl_model.specs.Sound.{is_seq, is_seq_or_zero, NumbersAreSound}
-use Rattle.repl_model.specs.SoundLogs.{LogIsSound, log_limit}
-use Rattle.lists.specs.laws.Members.{at_one, some_passes}
-use Rattle.site_store.specs.Records.{or_first}
-use Rattle.world_store.specs.CaptureRows.{capture_state}
-use Rattle.world_store.specs.Stands.{Holds}
-use Rattle.world_store.specs.Tables.{tables, first_table}
+use Rattle.world_store.specs.Words.{one_whole, first_capture, single_spelling, IsCapture, capture_spelling, one_capture, CaptureState, Single, table_from_rows, at_head, Spells, capture_state, Holds, tables, first_table}
+use Rattle.site_store.specs.Words.{Contents, Table, same_key, or_first}
+use Rattle.repl_model.specs.Words.{LogRecord, Unit, At, positions, units, last_end, Server, World, is_open_at, restart_after, is_seq, is_seq_or_zero, NumbersAreSound, LogIsSound, log_limit, at_one, some_passes}
 use Rattle.world_commits.specs.captures.Captures.{uncaptured}
-use Rattle.world_commits.specs.readings.Reading.{HasReadTo, StartsEmpty}
+use Rattle.world_commits.specs.readings.Reading.{HasReadTo}
 use Rattle.capture_core.specs.Committing.{IsStart, StateIn}
 use Rattle.capture_core.specs.Reading.{UnitsAreWithin, IsReadTo}
 use Rattle.capture_core.specs.declared.progress.Progress.{Progress}
+use Rattle.world_commits.specs.laws.InFlight.{starts_empty}
 
 -- ---- positions
 
@@ -136,8 +117,8 @@ starts_at server p begins is =
     omega (arith, begins.read, at_restart, (restart_between server.log server.captured).0)
 
 -- so its reading begins there
-pub starts_reading : UnitsAreWithin → StartsEmpty → (server : Server) → NumbersAreSound server → (p : Progress) → IsStart p → p.state ≡ capture_state server → IsReadTo server p
-starts_reading within none server numbers p begins is =
+pub starts_reading : UnitsAreWithin → (server : Server) → NumbersAreSound server → (p : Progress) → IsStart p → p.state ≡ capture_state server → IsReadTo server p
+starts_reading within server numbers p begins is =
     let log = server.log in
     let upto = captured_within within server numbers in
     let restart = restart_between log server.captured in
@@ -149,5 +130,5 @@ starts_reading within none server numbers p begins is =
       from = omega (arith, read);
       last = omega (arith, read, restart.1, upto);
       read = read_before server p.read (omega (arith, read, restart.1));
-      keeps = λ tx. begins.empty tx ∙ sym (none (restart_after log server.captured) p.read log tx (omega (arith, read)));
+      keeps = λ tx. begins.empty tx ∙ sym (starts_empty (restart_after log server.captured) p.read log tx (omega (arith, read)));
     }

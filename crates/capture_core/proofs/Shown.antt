@@ -1,12 +1,9 @@
 -- A captured unit shows no damage that wasn't shown before: proofs.
-use Rattle.std.proofs.Common.{◌≡◌, ℕ, zero, suc, Bool, true, false, List, inl, inr, refl, sym, ap, ◌∙◌}
-use Rattle.std.specs.Prelude.{Some}
-use Rattle.repl_types.specs.declared.area.Area.{Area}
+use Rattle.std.proofs.Common.{◌≡◌, ℕ, zero, Bool, true, false, List, inl, inr, refl, sym, ap, ◌∙◌, Some}
+use Rattle.site_store.specs.Words.{Contents, Table, Shows, ShownBefore, shown_second}
+use Rattle.repl_model.specs.Words.{Area}
 use Rattle.repl_types.specs.declared.area.Area.TheVariants as areas
 use Rattle.repl_types.specs.declared.status.DamageCause.TheVariants as causes
-use Rattle.keep_core.specs.Contents.{Contents, Table}
-use Rattle.site_store.specs.Damage.{Shows, ShownBefore}
-use Rattle.site_store.specs.laws.Damage.{shown_second}
 use Rattle.cd_tables.specs.Appending.{is_of_unit}
 use Rattle.cd_tables.specs.Rules.{rules as unit_rules}
 use Rattle.capture_core.specs.Rules.{log_rules, rules}

@@ -1,28 +1,20 @@
 -- Once one server holds what its captured units call for, the servers stand for the world with them: proofs.
-use Rattle.std.proofs.Common.{◌≡◌, ◌≢◌, ◌⊎◌, inl, inr, ℕ, zero, suc, ◌<◌, Bool, true, false, cond, List, [], ◌∷◌, ◌++◌, length, map, set, get_or, refl, sym, ap, subst, ◌∙◌, arith}
-use Rattle.std.specs.Prelude.{Option, Some, None}
+use Rattle.std.proofs.Common.{◌≡◌, ◌≢◌, ◌⊎◌, inl, inr, ℕ, zero, suc, ◌<◌, Bool, true, false, cond, List, [], ◌∷◌, ◌++◌, length, map, set, get_or, refl, sym, ap, subst, ◌∙◌, arith, Option, Some, None, option_map, bytes_eq}
 use Rattle.std.specs.List.{AllZip}
-use Rattle.std.specs.Option.{option_map}
-use Rattle.std.specs.Str.{bytes_eq}
 use Rattle.std.proofs.lemmas.List.{get_or-map, length-map}
 use Rattle.std.proofs.lemmas.Option.{same_Some}
-use Rattle.repl_types.specs.declared.unit.Unit.{Unit}
-use Rattle.keep_core.specs.Contents.{Contents}
-use Rattle.keep_core.specs.Kept.{Kept}
-use Rattle.repl_model.specs.Sound.{IsSound}
-use Rattle.repl_model.specs.World.{empty_server, Server, World, server_named, server_in}
-use Rattle.repl_model.specs.laws.GrowingServers.{name_itself, same_name}
-use Rattle.lists.specs.laws.Members.{In}
-use Rattle.world_commits.specs.captures.Captures.{with_units, uncaptured, captured_server, captured}
-use Rattle.world_commits.specs.captures.StaysSound.{CapturesSound, OthersAreNext, AreNext}
-use Rattle.world_commits.specs.captures.laws.Servers.{name_stays, named_captured}
-use Rattle.stored_commits.specs.captures.CapturedServers.{Captured, CapturedHolds, OthersHold}
+use Rattle.repl_model.specs.Words.{Unit, IsSound, empty_server, Server, World, server_named, server_in, name_itself, same_name, In, one_first}
+use Rattle.world_store.specs.Words.{Holds, Reveals, Stands}
+use Rattle.site_store.specs.Words.{Contents, Kept, AllClosed, names, held, work}
 use Rattle.site_store.specs.declared.sites.Sites.{Sites}
-use Rattle.site_store.specs.Servers.{AllClosed}
-use Rattle.site_store.specs.Views.{names, held, work}
+use Rattle.world_commits.specs.captures.Captures.{with_units, uncaptured, captured_server, captured}
+use Rattle.world_commits.specs.captures.StaysSound.{AreNext}
+use Rattle.world_commits.specs.captures.laws.Servers.{name_stays, named_captured}
+use Rattle.stored_commits.specs.captures.CapturedServers.{Captured}
 use Rattle.stored_defs.specs.laws.Standing.{same_count, name_at_place, server_at_place}
-use Rattle.world_store.specs.Stands.{Holds, Reveals, Stands}
 use Rattle.capture_core.proofs.UnitsInTurn.{captured_both, left_after}
+use Rattle.world_commits.specs.laws.CapturesStaySound.{captures_sound}
+use Rattle.stored_commits.specs.laws.CapturedWorlds.{captures_hold, others_hold_captures}
 
 -- ---- lists
 
@@ -53,16 +45,6 @@ pub in_at : {X : Type 0} (xs : List X) (n : ℕ) (d : X) → n < length xs → I
 in_at [] n d lt = absurd (omega arith)
 in_at (x ∷ xs) zero d lt = inl refl
 in_at (x ∷ xs) (suc n) d lt = inr (in_at xs n d (omega arith))
-
--- of two places one is the first
-one_first : (m n : ℕ) → m ≢ n → (m < n) ⊎ (n < m)
-one_first zero zero ne = absurd (ne refl)
-one_first zero (suc n) ne = inl (omega arith)
-one_first (suc m) zero ne = inr (omega arith)
-one_first (suc m) (suc n) ne = elim (one_first m n (λ e. ne (ap suc e))) [
-  | inl lt ↦ inl (omega (arith, lt))
-  | inr lt ↦ inr (omega (arith, lt))
-]
 
 -- ---- names
 
@@ -131,8 +113,8 @@ module _ {K : Type 0} (kept : K → Kept) (s0 : Sites K) (closed : AllClosed (wo
   found_after us = named_captured name us name w ∙ ap (option_map (captured_server name us)) found_there ∙ ap (λ (s : Server). Some s) (own_server us)
 
   -- the world is sound
-  pub sound_after : CapturesSound → (us : List Unit) → AreNext server us → IsSound (captured name us w)
-  sound_after sound us next = sound name us w stands.sound (λ s found. subst (λ (x : Server). AreNext x us) (same_Some server s (sym found_there ∙ found)) next)
+  pub sound_after : (us : List Unit) → AreNext server us → IsSound (captured name us w)
+  sound_after us next = captures_sound name us w stands.sound (λ s found. subst (λ (x : Server). AreNext x us) (same_Some server s (sym found_there ∙ found)) next)
 
   -- what it holds
   pub holds_after : (us : List Unit) (h : List (Option Contents)) → Stands (names s0) h (captured name us w) → (c : Contents) × (get_or h n None ≡ Some c) × Holds (captured name us w) (with_units us server) c
@@ -141,10 +123,10 @@ module _ {K : Type 0} (kept : K → Kept) (s0 : Sites K) (closed : AllClosed (wo
       (r.0, r.1, subst (λ (s : Server). Holds (captured name us w) s r.0) (at_place us) r.2)
 
   -- once it holds what more units call for, the servers stand for the world with them
-  pub stands_captured : CapturesSound → OthersAreNext → CapturedHolds → OthersHold → (us vs rest : List Unit) (h : List (Option Contents)) (c d : Contents) → uncaptured server ≡ (us ++ vs) ++ rest → uncaptured server ≡ us ++ (vs ++ rest) → Stands (names s0) h (captured name us w) → Holds (captured name us w) (with_units us server) c → Captured vs (with_units us server) c d
+  pub stands_captured : (us vs rest : List Unit) (h : List (Option Contents)) (c d : Contents) → uncaptured server ≡ (us ++ vs) ++ rest → uncaptured server ≡ us ++ (vs ++ rest) → Stands (names s0) h (captured name us w) → Holds (captured name us w) (with_units us server) c → Captured vs (with_units us server) c d
       → Stands (names s0) (set h n (Some d)) (captured name (us ++ vs) w)
-  stands_captured sound next holds others us vs rest h c d split parts now has takes = record {
-    sound = sound_after sound (us ++ vs) (rest, split);
+  stands_captured us vs rest h c d split parts now has takes = record {
+    sound = sound_after (us ++ vs) (rest, split);
     named = names_stay name (us ++ vs) w ∙ stands.named;
     servers = subst (λ (v : World). AllZip (Reveals v) v (set h n (Some d))) (captured_both name us vs w) (zip_set (Reveals between) (Reveals (captured name vs between)) (captured_server name vs) (empty_server []) between h n (Some d) now.servers elsewhere here);
   }
@@ -153,7 +135,7 @@ module _ {K : Type 0} (kept : K → Kept) (s0 : Sites K) (closed : AllClosed (wo
       between = captured name us w
 
       sound_between : IsSound between
-      sound_between = sound_after sound us (vs ++ rest, parts)
+      sound_between = sound_after us (vs ++ rest, parts)
 
       elsewhere : (m : ℕ) (told : Option Contents) → m ≢ n → m < length between → Reveals between (server_in between m) told → Reveals (captured name vs between) (captured_server name vs (server_in between m)) told
       elsewhere m told ne below r =
@@ -163,11 +145,11 @@ module _ {K : Type 0} (kept : K → Kept) (s0 : Sites K) (closed : AllClosed (wo
           let was : other ≡ captured_server name us old = get_or-map (captured_server name us) w m (empty_server []) (empty_server []) lower in
           let differs : bytes_eq name other.name ≡ false = ap (λ (s : Server). bytes_eq name s.name) was ∙ ap (bytes_eq name) (captured_name name us old) ∙ others_differ m ne lower in
           subst (λ (s : Server). Reveals (captured name vs between) s told) (sym (ap (λ (b : Bool). cond b (with_units vs other) other) differs))
-          (r.0, r.1, others name vs between other r.0 sound_between (in_at between m (empty_server []) below) differs r.2)
+          (r.0, r.1, others_hold_captures name vs between other r.0 sound_between (in_at between m (empty_server []) below) differs r.2)
 
       here : Reveals (captured name vs between) (captured_server name vs (server_in between n)) (Some d)
       here =
           let mine = with_units us server in
           let own : bytes_eq name mine.name ≡ true = ap (bytes_eq name) (name_stays us server) ∙ name_itself name in
           subst (λ (s : Server). Reveals (captured name vs between) s (Some d)) (sym (ap (captured_server name vs) (at_place us) ∙ ap (λ (b : Bool). cond b (with_units vs mine) mine) own))
-          (d, refl, holds name vs between mine c d sound_between (found_after us) (rest, left_after next us (vs ++ rest) server parts) has takes)
+          (d, refl, captures_hold name vs between mine c d sound_between (found_after us) (rest, left_after us (vs ++ rest) server parts) has takes)

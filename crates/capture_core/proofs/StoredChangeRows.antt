@@ -1,39 +1,16 @@
 -- The change rows that a server stores have spellings.
-use Rattle.std.proofs.Common.{ℕ, zero, suc, ◌≤◌, ◌^◌, Bool, true, false, cond, List, [], ◌∷◌, map, length, get_or, arith}
-use Rattle.std.specs.Prelude.{◌&&◌, ◌==◌, max, nat_lt, nat_le, filter, Some, None, IfSome}
-use Rattle.std.specs.List.{AllByRecursion, flat_map}
-use Rattle.std.specs.Str.{bytes_eq}
+use Rattle.std.proofs.Common.{ℕ, ◌≤◌, ◌^◌, Bool, true, false, cond, List, [], ◌∷◌, map, length, get_or, arith, ◌&&◌, ◌==◌, max, nat_lt, nat_le, filter, Some, None, IfSome, bytes_eq}
+use Rattle.std.specs.List.{AllByRecursion}
 use Rattle.std.proofs.lemmas.List.{length-map}
-use Rattle.repl_types.specs.Sizes.{row_limit}
-use Rattle.repl_types.specs.Value.{Values, images}
-use Rattle.repl_types.specs.ValueText.{IsValue}
-use Rattle.repl_types.specs.laws.Lists.{all_append, all_filter, all_weaker}
-use Rattle.repl_types.specs.declared.change_row.CdRow.{CdRow}
-use Rattle.repl_types.specs.declared.change_row.Registration.{Registration}
-use Rattle.repl_types.specs.declared.record.Change.{Change}
+use Rattle.world_store.specs.Words.{IsLogRecord, Is64, IsRow, IsChangeRow, IsChangeKey, CdKey, ChangeRow, change_rows_of}
+use Rattle.repl_model.specs.Words.{row_limit, Values, images, all_filter, all_weaker, CdRow, Registration, Change, LogRecord, Placed, Unit, rows_of, rows_of_placed, shows_nothing, insert_row, delete_row, update_row, change_rows, changes_between, units_between, LogIsSound, table_of, At, positions, change_of, changes_up_to, last_end, unit_at, units, Registered, Server, all_numbered, each_image, each_given, all_flat_map}
 use Rattle.repl_types.specs.declared.record.Change.TheVariants.{Insert, Update, Delete, Start, Stop}
-use Rattle.repl_types.specs.declared.record.LogRecord.{LogRecord}
 use Rattle.repl_types.specs.declared.record.LogRecord.TheVariants as records
-use Rattle.repl_types.specs.declared.unit.Placed.{Placed}
-use Rattle.repl_types.specs.declared.unit.Unit.{Unit}
 use Rattle.repl_types.specs.declared.value.Value.TheVariants.{Null}
-use Rattle.row_codec.specs.LogRecords.{IsLogRecord}
-use Rattle.row_codec.specs.Spelling.{Is64, IsRow}
-use Rattle.repl_records.specs.Capture.{IsChangeRow}
-use Rattle.repl_records.specs.RecordKeys.{IsChangeKey}
-use Rattle.repl_records.specs.declared.record_keys.CdKey.{CdKey}
-use Rattle.repl_records.specs.declared.capture.ChangeRow.{ChangeRow}
-use Rattle.repl_model.specs.ChangeRows.{rows_of, rows_of_placed, shows_nothing, insert_row, delete_row, update_row, change_rows, changes_between}
-use Rattle.repl_model.specs.SourceAt.{units_between}
-use Rattle.repl_model.specs.SoundLogs.{LogIsSound}
-use Rattle.repl_model.specs.Tables.{table_of}
-use Rattle.repl_model.specs.Units.{At, positions, change_of, changes_up_to, last_end, unit_at, units}
-use Rattle.repl_model.specs.World.{Registered, Server}
-use Rattle.stored_commits.specs.records.SourceTables.{HasRows, TypedChangesHaveRows}
-use Rattle.lists.specs.laws.Places.{all_numbered}
-use Rattle.lists.specs.laws.Members.{each_image, each_given}
-use Rattle.world_store.specs.CaptureRows.{change_rows_of}
+use Rattle.stored_commits.specs.records.SourceTables.{HasRows}
 use Rattle.stored_commits.specs.units.StoredChanges.{stored_change}
+use Rattle.stored_commits.specs.laws.StoredRows.{typed_rows}
+use Rattle.cd_tables.specs.laws.SoundChanges.{images_are, nulls_are}
 
 -- ---- what a log has
 
@@ -53,65 +30,43 @@ UnitFits u = Is64 u.head.seq × AllByRecursion PlacedFits u.changes
 abbrev RowFits : CdRow → Type 0
 RowFits r = IsChangeKey (stored_change r).0 × IsChangeRow (stored_change r).1
 
--- what holds of each element of each list holds of all of them
-all_flat : {X Y : Type 0} (Q : Y → Type 0) (f : X → List Y) (xs : List X) → AllByRecursion (λ x. AllByRecursion Q (f x)) xs → AllByRecursion Q (flat_map f xs)
-all_flat Q f [] all = tt
-all_flat Q f (x ∷ xs) all = all_append Q (f x) (flat_map f xs) all.0 (all_flat Q f xs all.1)
+-- a change of a record
+change_fits : (tx : ℕ) (r : At) → AtFits r → IfSome (change_of tx r) PlacedFits
+change_fits tx (pos, records.Change t change) fits = pick (t == tx)
+  where
+    pick : (b : Bool) → IfSome (cond b (Some (record { pos = pos; change = change })) None) PlacedFits
+    pick true = (fits.0, typed_rows t change fits.1)
+    pick false = tt
+change_fits tx (pos, records.Commit t time authid origin) fits = tt
+change_fits tx (pos, records.Abort t) fits = tt
 
-module _ (typed : TypedChangesHaveRows) where
-  -- a change of a record
-  change_fits : (tx : ℕ) (r : At) → AtFits r → IfSome (change_of tx r) PlacedFits
-  change_fits tx (pos, records.Change t change) fits = pick (t == tx)
-    where
-      pick : (b : Bool) → IfSome (cond b (Some (record { pos = pos; change = change })) None) PlacedFits
-      pick true = (fits.0, typed t change fits.1)
-      pick false = tt
-  change_fits tx (pos, records.Commit t time authid origin) fits = tt
-  change_fits tx (pos, records.Abort t) fits = tt
+module _ (log : List LogRecord) (all : AllByRecursion AtFits (positions log)) where
+  -- the changes of a transaction before a position
+  changes_fit : (tx before : ℕ) → AllByRecursion PlacedFits (changes_up_to tx before log)
+  changes_fit tx before =
+      let among = λ (r : At). nat_lt (last_end tx before log) r.0 && nat_lt r.0 before in
+      each_given PlacedFits (change_of tx) (filter among (positions log)) (all_weaker AtFits (λ r. IfSome (change_of tx r) PlacedFits) (filter among (positions log)) (change_fits tx) (all_filter AtFits among (positions log) all))
 
-  module _ (log : List LogRecord) (all : AllByRecursion AtFits (positions log)) where
-    -- the changes of a transaction before a position
-    changes_fit : (tx before : ℕ) → AllByRecursion PlacedFits (changes_up_to tx before log)
-    changes_fit tx before =
-        let among = λ (r : At). nat_lt (last_end tx before log) r.0 && nat_lt r.0 before in
-        each_given PlacedFits (change_of tx) (filter among (positions log)) (all_weaker AtFits (λ r. IfSome (change_of tx r) PlacedFits) (filter among (positions log)) (change_fits tx) (all_filter AtFits among (positions log) all))
+  -- the unit that a record ends
+  unit_fits : (r : At) → AtFits r → IfSome (unit_at log r) UnitFits
+  unit_fits (pos, records.Change tx change) fits = tt
+  unit_fits (pos, records.Commit tx time authid origin) fits = (fits.0, changes_fit tx pos)
+  unit_fits (pos, records.Abort tx) fits = tt
 
-    -- the unit that a record ends
-    unit_fits : (r : At) → AtFits r → IfSome (unit_at log r) UnitFits
-    unit_fits (pos, records.Change tx change) fits = tt
-    unit_fits (pos, records.Commit tx time authid origin) fits = (fits.0, changes_fit tx pos)
-    unit_fits (pos, records.Abort tx) fits = tt
-
-    -- all units
-    units_fit : AllByRecursion UnitFits (units log)
-    unfolding units
-    units_fit = each_given UnitFits (unit_at log) (positions log) (all_weaker AtFits (λ r. IfSome (unit_at log r) UnitFits) (positions log) unit_fits all)
+  -- all units
+  units_fit : AllByRecursion UnitFits (units log)
+  unfolding units
+  units_fit = each_given UnitFits (unit_at log) (positions log) (all_weaker AtFits (λ r. IfSome (unit_at log r) UnitFits) (positions log) unit_fits all)
 
 -- ---- the change rows of a registration
-
--- a value of a row of values is one
-value_at : (row : Values) (place : ℕ) → AllByRecursion IsValue row → IsValue (get_or row place Null)
-value_at [] place all = tt
-value_at (v ∷ row) zero all = all.0
-value_at (v ∷ row) (suc place) all = value_at row place all.1
-
--- so are its images
-values_at : (places : List ℕ) (row : Values) → AllByRecursion IsValue row → AllByRecursion IsValue (images places row)
-values_at [] row all = tt
-values_at (place ∷ places) row all = (value_at row place all, values_at places row all)
-
--- and images that are all NULL
-nulls_fit : (places : List ℕ) → AllByRecursion IsValue (map (λ place. Null) places)
-nulls_fit [] = tt
-nulls_fit (place ∷ places) = (tt, nulls_fit places)
 
 module _ (reg : Registration) (after_few : length reg.after ≤ row_limit) (before_few : length reg.before ≤ row_limit) where
   -- images of at most 64 columns
   images_fit : (places : List ℕ) (row : Values) → length places ≤ row_limit → IsRow row → IsRow (images places row)
-  images_fit places row few fits = (omega (arith, few, length-map places (λ (place : ℕ). get_or row place Null)), values_at places row fits.1)
+  images_fit places row few fits = (omega (arith, few, length-map places (λ (place : ℕ). get_or row place Null)), images_are places row fits.1)
 
   no_images_fit : IsRow (map (λ place. Null) reg.before)
-  no_images_fit = (omega (arith, before_few, length-map reg.before (λ (place : ℕ). Null)), nulls_fit reg.before)
+  no_images_fit = (omega (arith, before_few, length-map reg.before (λ (place : ℕ). Null)), nulls_are reg.before)
 
   module _ (seq pos : ℕ) (seq_fits : Is64 seq) (pos_fits : Is64 pos) where
     -- a change row by its images
@@ -151,18 +106,18 @@ module _ (reg : Registration) (after_few : length reg.after ≤ row_limit) (befo
   -- those of a unit
   unit_rows_fit : (u : Unit) → UnitFits u → AllByRecursion RowFits (change_rows reg u)
   unfolding change_rows
-  unit_rows_fit u fits = all_flat RowFits (rows_of_placed reg u.head.seq) u.changes (all_weaker PlacedFits (λ placed. AllByRecursion RowFits (rows_of_placed reg u.head.seq placed)) u.changes (placed_fit u.head.seq fits.0) fits.1)
+  unit_rows_fit u fits = all_flat_map RowFits (rows_of_placed reg u.head.seq) u.changes (all_weaker PlacedFits (λ placed. AllByRecursion RowFits (rows_of_placed reg u.head.seq placed)) u.changes (placed_fit u.head.seq fits.0) fits.1)
 
   -- and those of the units between two points
   between_fit : (log : List LogRecord) (low high : ℕ) → AllByRecursion UnitFits (units log) → AllByRecursion RowFits (changes_between log reg low high)
   unfolding changes_between
   between_fit log low high all =
       let among = λ (u : Unit). nat_lt low u.head.seq && nat_le u.head.seq high in
-      all_flat RowFits (change_rows reg) (units_between low high log) (all_weaker UnitFits (λ u. AllByRecursion RowFits (change_rows reg u)) (units_between low high log) unit_rows_fit (all_filter UnitFits among (units log) all))
+      all_flat_map RowFits (change_rows reg) (units_between low high log) (all_weaker UnitFits (λ u. AllByRecursion RowFits (change_rows reg u)) (units_between low high log) unit_rows_fit (all_filter UnitFits among (units log) all))
 
 -- the rows that are stored for a registration have spellings
-pub change_rows_fit : TypedChangesHaveRows → (server : Server) → LogIsSound server → (r : Registered) → length r.reg.after ≤ row_limit → length r.reg.before ≤ row_limit → AllByRecursion (λ row. IsChangeKey row.0 × IsChangeRow row.1) (change_rows_of server r)
-change_rows_fit typed server sound r after_few before_few = pick r.active
+pub change_rows_fit : (server : Server) → LogIsSound server → (r : Registered) → length r.reg.after ≤ row_limit → length r.reg.before ≤ row_limit → AllByRecursion (λ row. IsChangeKey row.0 × IsChangeRow row.1) (change_rows_of server r)
+change_rows_fit server sound r after_few before_few = pick r.active
   where
     Stored : CdKey × ChangeRow → Type 0
     Stored row = IsChangeKey row.0 × IsChangeRow row.1
@@ -174,7 +129,7 @@ change_rows_fit typed server sound r after_few before_few = pick r.active
     logged = all_numbered IsLogRecord AtFits (2 ^ 64) 1 server.log (omega (arith, sound.short)) sound.typed (λ m x lt fits. (lt, fits))
 
     all : (low : ℕ) → AllByRecursion Stored (map stored_change (rows low))
-    all low = each_image Stored stored_change (rows low) (between_fit r.reg after_few before_few server.log low server.captured (units_fit typed server.log logged))
+    all low = each_image Stored stored_change (rows low) (between_fit r.reg after_few before_few server.log low server.captured (units_fit server.log logged))
 
     pick : (b : Bool) → AllByRecursion Stored (cond b (map stored_change (rows (max r.start r.floor))) [])
     pick true = all (max r.start r.floor)

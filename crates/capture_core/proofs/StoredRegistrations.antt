@@ -1,42 +1,11 @@
 -- The registrations that a server stores, and their states.
-use Rattle.std.proofs.Common.{◌≡◌, ◌≢◌, ℕ, ◌+◌, ◌<◌, ◌≤◌, ◌^◌, Bool, true, false, List, [], ◌∷◌, length, refl, sym, ap, subst, ◌∙◌, arith}
-use Rattle.std.specs.Prelude.{◌&&◌, nat_le, Option, Some, None, IfSome, fold}
+use Rattle.std.proofs.Common.{◌≡◌, ◌≢◌, ℕ, ◌+◌, ◌<◌, ◌≤◌, ◌^◌, Bool, true, false, List, [], ◌∷◌, length, refl, sym, ap, subst, ◌∙◌, arith, ◌&&◌, nat_le, Option, Some, None, IfSome, fold, option_map, bytes_eq, Ordering, Less, Equal, Greater}
 use Rattle.std.specs.FinMap.Entries.{by_order, put}
 use Rattle.std.specs.List.{AllByRecursion, cons_option, enumerate_from, filter_map}
-use Rattle.std.specs.Option.{option_map}
 use Rattle.std.specs.Ordering.{ordering_then, is_eq, nat_cmp}
-use Rattle.std.specs.Str.{bytes_eq}
-use Rattle.std.specs.declared.cmp.Ordering.{Ordering}
-use Rattle.std.specs.declared.cmp.Ordering.TheVariants.{Less, Equal, Greater}
 use Rattle.std.proofs.lemmas.Bool.{le-leb, and_parts}
-use Rattle.repl_types.specs.Bytes.{bytes_cmp}
-use Rattle.repl_types.specs.Sizes.{row_limit}
-use Rattle.repl_types.specs.declared.change_row.Registration.{Registration}
-use Rattle.row_codec.specs.Order.{name_cmp}
-use Rattle.row_codec.specs.Spelling.{IsName, b32, short_text}
-use Rattle.row_codec.specs.laws.Ones.{one_whole}
-use Rattle.repl_definitions.specs.Defined.{defined_registration_spelling, IsDefinedRegistration}
-use Rattle.repl_definitions.specs.declared.defined.DefinedRegistration.{DefinedRegistration}
-use Rattle.repl_definitions.specs.laws.Defined.{one_defined_registration}
-use Rattle.repl_records.specs.Capture.{registration_state_spelling, IsRegistrationState}
-use Rattle.repl_records.specs.declared.capture.RegState.{RegState}
-use Rattle.rows_in_order.specs.Rows.{table_from_rows}
-use Rattle.rows_in_order.specs.laws.Fitting.{fits_each}
-use Rattle.rows_in_order.specs.laws.Found.{row_of}
-use Rattle.rows_in_order.specs.laws.Rising.{same_is, no_row_at}
-use Rattle.repl_model.specs.Rules.{RegistrationKeepsRules, all_places}
-use Rattle.lists.specs.Lists.{are_among, places_rise}
-use Rattle.repl_model.specs.SoundDefinitions.{KeepsTable, ServerKeepsRules}
-use Rattle.repl_model.specs.Summaries.{by_key}
-use Rattle.repl_model.specs.World.{Registered, ServerTable, Server, World, registered_of}
-use Rattle.repl_model.specs.laws.GrowingServers.{name_itself}
-use Rattle.lists.specs.laws.Members.{at_one, at_each, each_given}
-use Rattle.world_store.specs.CaptureRows.{registration_state_rows}
-use Rattle.world_store.specs.DefinitionRows.{defined_registration, registration_rows, numbered_tables}
-use Rattle.world_store.specs.Tables.{definition_table}
-use Rattle.world_store.specs.SpelledRows.{RowFits}
-use Rattle.lists.specs.laws.Places.{all_numbered, among_first, among_below, rising_few}
-use Rattle.world_store.specs.laws.DefinitionRows.{registration_rows_are}
+use Rattle.world_store.specs.Words.{name_cmp, IsName, b32, short_text, one_whole, registration_state_spelling, IsRegistrationState, RegState, table_from_rows, fits_each, row_of, same_is, no_row_at, registration_state_rows, defined_registration, registration_rows, numbered_tables, definition_table, RowFits, registration_rows_are}
+use Rattle.repl_model.specs.Words.{bytes_cmp, row_limit, Registration, defined_registration_spelling, IsDefinedRegistration, DefinedRegistration, one_defined_registration, RegistrationKeepsRules, all_places, are_among, places_rise, KeepsTable, ServerKeepsRules, by_key, Registered, ServerTable, Server, World, registered_of, name_itself, at_one, at_each, each_given, all_numbered, among_first, among_below, rising_few}
 use Rattle.cd_tables.specs.Rules.{is_of_table}
 
 -- ---- entries by their keys

@@ -1,39 +1,14 @@
 -- What a server of a sound world has, with its captured units stored, shows no damage: proofs.
-use Rattle.std.proofs.Common.{◌≡◌, inl, inr, ℕ, zero, suc, ◌≤◌, ◌^◌, List, length, refl, sym, ap, subst, ◌∙◌, arith}
-use Rattle.std.specs.Prelude.{Option, Some, None, IfSome, slice_get}
+use Rattle.std.proofs.Common.{◌≡◌, inl, inr, ℕ, zero, suc, ◌≤◌, ◌^◌, List, length, refl, sym, ap, subst, ◌∙◌, arith, Option, Some, None, IfSome, slice_get, true≢false}
 use Rattle.std.specs.List.{AllByRecursion}
 use Rattle.std.specs.Option.{option_map_or, option_and_then}
-use Rattle.std.proofs.lemmas.Bool.{true≢false}
 use Rattle.std.proofs.lemmas.Option.{get_or_from_slice_get, slice_get_within}
-use Rattle.repl_types.specs.Sizes.{row_limit}
-use Rattle.repl_types.specs.declared.area.Area.{Area}
+use Rattle.world_store.specs.Words.{IsLogRecord, log_spelling, b32, b64, short_text, IsCapture, capture_spelling, IsChangeRow, change_row_spelling, IsRegistrationState, registration_state_spelling, IsChangeKey, change_key_spelling, CdKey, ChangeRow, RegState, table_from_rows, Spells, change_rows_of, registration_state_rows, log_rows, no_rows}
+use Rattle.site_store.specs.Words.{Contents, Table, IsUndamaged, IsSpelt, rows_spelt}
+use Rattle.repl_model.specs.Words.{row_limit, Area, all_weaker, RegistrationKeepsRules, IsSound, NumbersAreSound, KeepsTable, ServerKeepsRules, LogIsSound, Registered, ServerTable, Server, World, In, at_one, all_numbered}
 use Rattle.repl_types.specs.declared.area.Area.TheVariants as areas
 use Rattle.repl_types.specs.declared.status.DamageCause.TheVariants as causes
-use Rattle.repl_types.specs.laws.Lists.{all_weaker}
-use Rattle.keep_core.specs.Contents.{Contents, Table}
-use Rattle.row_codec.specs.LogRecords.{IsLogRecord, log_spelling}
-use Rattle.row_codec.specs.Spelling.{b32, b64, short_text}
-use Rattle.repl_records.specs.Capture.{IsCapture, capture_spelling, IsChangeRow, change_row_spelling, IsRegistrationState, registration_state_spelling}
-use Rattle.repl_records.specs.RecordKeys.{IsChangeKey, change_key_spelling}
-use Rattle.repl_records.specs.declared.record_keys.CdKey.{CdKey}
-use Rattle.repl_records.specs.declared.capture.ChangeRow.{ChangeRow}
-use Rattle.repl_records.specs.declared.capture.RegState.{RegState}
-use Rattle.rows_in_order.specs.Rows.{table_from_rows}
-use Rattle.repl_model.specs.Rules.{RegistrationKeepsRules}
-use Rattle.repl_model.specs.Sound.{IsSound, NumbersAreSound}
-use Rattle.repl_model.specs.SoundDefinitions.{KeepsTable, ServerKeepsRules}
-use Rattle.repl_model.specs.SoundLogs.{LogIsSound}
-use Rattle.repl_model.specs.World.{Registered, ServerTable, Server, World}
-use Rattle.lists.specs.laws.Members.{In, at_one}
-use Rattle.stored_commits.specs.records.SourceTables.{TypedChangesHaveRows}
-use Rattle.site_store.specs.Damage.{IsUndamaged, IsSpelt}
-use Rattle.site_store.specs.laws.Damage.{rows_spelt}
-use Rattle.world_store.specs.SpelledRows.{Spells}
-use Rattle.lists.specs.laws.Places.{all_numbered}
 use Rattle.stored_defs.specs.laws.Standing.{all_at_place}
-use Rattle.world_store.specs.CaptureRows.{change_rows_of, registration_state_rows}
-use Rattle.world_store.specs.LogRows.{log_rows}
-use Rattle.world_store.specs.Tables.{no_rows}
 use Rattle.capture_core.specs.Reading.{UnitsAreWithin, HasServer}
 use Rattle.capture_core.specs.Rules.{rules}
 use Rattle.capture_core.proofs.Restarts.{captured_within}
@@ -48,7 +23,7 @@ HasSpeltState d = (key bytes : List ℕ) → d areas.Capture 0 key ≡ Some byte
 abbrev RowSpelt : {A X : Type 0} → Area → ℕ → (A → List ℕ) → (X → List ℕ) → A × X → Type 0
 RowSpelt a t key value r = rules.is_key a t (key r.0) × rules.is_value a t (value r.1)
 
-module _ (within : UnitsAreWithin) (typed : TypedChangesHaveRows) (world : World) (server : Server) (d : Contents) (keeps : ServerKeepsRules world server) (log : LogIsSound server) (numbers : NumbersAreSound server) (has : HasServer server d) (state : HasSpeltState d) where
+module _ (within : UnitsAreWithin) (world : World) (server : Server) (d : Contents) (keeps : ServerKeepsRules world server) (log : LogIsSound server) (numbers : NumbersAreSound server) (has : HasServer server d) (state : HasSpeltState d) where
   -- ---- spelling
 
   -- the records of the log
@@ -62,7 +37,7 @@ module _ (within : UnitsAreWithin) (typed : TypedChangesHaveRows) (world : World
 
   -- the change rows of a registration
   rows_spelt_of : (n : ℕ) (r : Registered) → length r.reg.after ≤ row_limit → length r.reg.before ≤ row_limit → AllByRecursion (RowSpelt areas.Cd n change_key_spelling change_row_spelling) (change_rows_of server r)
-  rows_spelt_of n r after_few before_few = all_weaker (λ (row : CdKey × ChangeRow). IsChangeKey row.0 × IsChangeRow row.1) (RowSpelt areas.Cd n change_key_spelling change_row_spelling) (change_rows_of server r) (λ row fits. ((tt, (row.0, fits.0, refl)), (tt, (row.1, fits.1, refl)))) (change_rows_fit typed server log r after_few before_few)
+  rows_spelt_of n r after_few before_few = all_weaker (λ (row : CdKey × ChangeRow). IsChangeKey row.0 × IsChangeRow row.1) (RowSpelt areas.Cd n change_key_spelling change_row_spelling) (change_rows_of server r) (λ row fits. ((tt, (row.0, fits.0, refl)), (tt, (row.1, fits.1, refl)))) (change_rows_fit server log r after_few before_few)
 
   -- each entry is a key and a value of its table
   all_spelt : IsSpelt rules d
@@ -116,5 +91,5 @@ module _ (within : UnitsAreWithin) (typed : TypedChangesHaveRows) (world : World
   none_shown a (causes.NoRest steps) h = h
 
 -- by all rules of a capture
-pub undamaged : UnitsAreWithin → TypedChangesHaveRows → (world : World) (server : Server) (d : Contents) → IsSound world → In server world → HasServer server d → HasSpeltState d → IsUndamaged rules d
-undamaged within typed world server d sound member has state = none_shown within typed world server d (at_one (ServerKeepsRules world) world server sound.definitions.servers member) (at_one LogIsSound world server sound.logs member) (at_one NumbersAreSound world server sound.numbers member) has state
+pub undamaged : UnitsAreWithin → (world : World) (server : Server) (d : Contents) → IsSound world → In server world → HasServer server d → HasSpeltState d → IsUndamaged rules d
+undamaged within world server d sound member has state = none_shown within world server d (at_one (ServerKeepsRules world) world server sound.definitions.servers member) (at_one LogIsSound world server sound.logs member) (at_one NumbersAreSound world server sound.numbers member) has state

@@ -1,33 +1,19 @@
 -- A capture on its way: which units are committed, which wait for their commit, and which commits are left.
-use Rattle.std.proofs.Common.{◌≡◌, inl, inr, ℕ, ◌+◌, ◌<◌, ◌≤◌, true, false, List, [], ◌∷◌, ◌++◌, length, set, get_or, refl, sym, ap, subst, ◌∙◌, append_assoc, append-nil, arith}
-use Rattle.std.specs.Prelude.{min, Option, Some, None}
+use Rattle.std.proofs.Common.{◌≡◌, inl, inr, ℕ, ◌+◌, ◌<◌, ◌≤◌, true, false, List, [], ◌∷◌, ◌++◌, length, set, get_or, refl, sym, ap, subst, ◌∙◌, append_assoc, append-nil, arith, min, Option, Some, None}
 use Rattle.std.proofs.Math.Nat.{min-eq_left, min-le_left}
 use Rattle.std.proofs.lemmas.Bool.{cases_lt}
 use Rattle.std.proofs.lemmas.List.{length-append, get_or-set_same, get_or_past}
 use Rattle.std.proofs.lemmas.Option.{same_Some}
+use Rattle.world_store.specs.Words.{capture_state, Holds, Reveals, Stands, tables}
+use Rattle.site_store.specs.Words.{Contents, Kept, AllClosed, names, held, work, sees, Bounds, no_access, both, Passes, Begins, at_most_itself, passes_then, GoesOn}
+use Rattle.site_store.specs.declared.sites.Sites.{Sites}
+use Rattle.repl_model.specs.Words.{Unit, IsSound, NumbersAreSound, empty_server, Server, World, restart_after, server_in, LogIsSound, log_limit, seqs_within}
 use Rattle.repl_types.specs.declared.area.Area.TheVariants as areas
-use Rattle.repl_types.specs.declared.unit.Unit.{Unit}
-use Rattle.keep_core.specs.Contents.{Contents}
-use Rattle.keep_core.specs.Kept.{Kept}
-use Rattle.repl_model.specs.Sound.{IsSound, NumbersAreSound}
-use Rattle.repl_model.specs.World.{empty_server, Server, World, restart_after, server_in}
-use Rattle.repl_model.specs.SoundLogs.{LogIsSound, log_limit}
 use Rattle.run_core.specs.Runs.{Event, commits, last_world, lines_of}
 use Rattle.run_core.specs.laws.Runs.{last_append, lines_append}
-use Rattle.site_store.specs.declared.sites.Sites.{Sites}
-use Rattle.site_store.specs.Servers.{AllClosed}
-use Rattle.site_store.specs.Views.{names, held, work, sees}
-use Rattle.site_store.specs.Calls.{Bounds, no_access, both, Passes, Begins}
-use Rattle.site_store.specs.laws.Counts.{at_most_itself, passes_then}
 use Rattle.stored_defs.specs.laws.Standing.{all_at_place}
-use Rattle.site_store.specs.one_server.Calls.{GoesOn}
-use Rattle.world_store.specs.CaptureRows.{capture_state}
-use Rattle.world_store.specs.Stands.{Holds, Reveals, Stands}
-use Rattle.world_store.specs.Tables.{tables}
 use Rattle.world_commits.specs.captures.Captures.{with_unit, with_units, uncaptured, rows_captured, all_rows_captured, captured}
-use Rattle.stored_commits.specs.captures.CapturedServers.{HoldsCaptured}
 use Rattle.capture_core.specs.Committing.{IsStart, IsWorking, Opens, ReadsState, PutsState, CommitsUnits}
-use Rattle.capture_core.specs.Ending.{Laws}
 use Rattle.capture_core.specs.Reading.{greatest, greatest_waiting, KeepsTyped, IsReadTo, HasServer, HasTaken, Counts, LeavesOthers, ReadsUnit, ReadsAll}
 use Rattle.capture_core.specs.declared.progress.Progress.{Progress}
 use Rattle.capture_core.proofs.Batches.{commits_left, commits_due, not_full, due_next, due_full}
@@ -37,11 +23,12 @@ use Rattle.capture_core.proofs.Restarts.{state_is, starts_at, starts_reading}
 use Rattle.capture_core.proofs.Standing.{zip_at, within, member, sound_after, holds_after, stands_captured}
 use Rattle.capture_core.proofs.UnitsInTurn.{units_both, rows_both, left_after, left_few, count_on, captured_none, captured_both}
 use Rattle.capture_core.proofs.Working.{working_begun, working_on, working_closed, working_committed}
+use Rattle.stored_commits.specs.laws.CapturedStates.{has_captured}
 
 -- the log that a server holds, and what it has captured
-pub held_server : HoldsCaptured → (w : World) (server : Server) (c : Contents) → Holds w server c → HasServer server c
+pub held_server : (w : World) (server : Server) (c : Contents) → Holds w server c → HasServer server c
 unfolding tables
-held_server has w server c holds = record { log = holds areas.Log 0; captured = has w server c holds }
+held_server w server c holds = record { log = holds areas.Log 0; captured = has_captured w server c holds }
 
 -- something stands at a place below the end of its list
 place_below : (l : List (Option Contents)) (n : ℕ) (c : Contents) → get_or l n None ≡ Some c → n < length l
@@ -85,7 +72,6 @@ module _ {K : Type 0} (kept : K → Kept) (s0 : Sites K) (n every most : ℕ) wh
 
   -- What a capture is called with.
   pub record IsCalled : Type 0 where
-    pub laws : Laws
     pub closed : AllClosed (work kept s0)
     pub lt : n < length (names s0)
     pub some : 0 < every
@@ -105,7 +91,7 @@ module _ {K : Type 0} (kept : K → Kept) (s0 : Sites K) (n every most : ℕ) wh
           let c = zip_at (Reveals w) w (held kept s0) n (empty_server []) None stands.servers below in
           let d = opens.working.does c.0 (ap (λ (l : List (Option Contents)). get_or l n None) opens.held ∙ c.1) in
           let holds : Holds w server d.0 = subst (Holds w server) (sym d.2.0) c.2 in
-          (d.0, d.1, holds, state_is call.laws.within w server d.0 numbers log holds p.state begins.fits d.2.1)
+          (d.0, d.1, holds, state_is seqs_within w server d.0 numbers log holds p.state begins.fits d.2.1)
 
       -- so it begins at the server's restart
       pub first_read : (w : World) → Stands (names s0) (held kept s0) w → p.read + 1 ≡ restart_after (server_in w n).log (server_in w n).captured
@@ -130,8 +116,8 @@ module _ {K : Type 0} (kept : K → Kept) (s0 : Sites K) (n every most : ℕ) wh
             units = begins.units;
             rows = begins.rows ∙ sym (min-eq_left {n = 0} {m = greatest} (omega arith));
             stands = subst (λ (q : List (Option Contents) × World). Stands (names s0) q.0 q.1) (λ i. (sym opens.held i, sym (captured_none name w) i)) stands;
-            has = λ e is. subst (HasServer server) (same_Some d.0 e (sym d.1 ∙ is)) (held_server call.laws.has w server d.0 d.2);
-            reads = starts_reading call.laws.within call.laws.empty server numbers p begins d.3;
+            has = λ e is. subst (HasServer server) (same_Some d.0 e (sym d.1 ∙ is)) (held_server w server d.0 d.2);
+            reads = starts_reading seqs_within server numbers p begins d.3;
             past = [];
             events = λ more. ap (λ (v : World). commits_left every name 0 v more) (sym (captured_none name w)) ∙ sym (not_full every name 0 (captured name [] w) (λ e. omega (arith, e)) more);
             last = sym (captured_none name w);
@@ -165,7 +151,7 @@ module _ {K : Type 0} (kept : K → Kept) (s0 : Sites K) (n every most : ℕ) wh
         let before = with_units g.taken server in
         let put = rows_captured u.head.seq u.changes before in
         let more_units : (rest : List Unit) → g.taken ++ u ∷ rest ≡ (g.taken ++ u ∷ []) ++ rest = λ rest. sym (append_assoc g.taken (u ∷ []) rest) in
-        let met : g.rest ≡ u ∷ one.rest = sym (left_after call.laws.next g.taken g.rest server g.split) ∙ one.next in
+        let met : g.rest ≡ u ∷ one.rest = sym (left_after g.taken g.rest server g.split) ∙ one.next in
         let split : uncaptured server ≡ (g.taken ++ u ∷ []) ++ one.rest = g.split ∙ ap (λ (l : List Unit). g.taken ++ l) met ∙ more_units one.rest in
         let after : with_unit u before ≡ with_units (g.taken ++ u ∷ []) server = units_both g.taken (u ∷ []) server in
         let longer : length (g.taken ++ u ∷ []) ≡ length g.taken + 1 = length-append g.taken (u ∷ []) in
@@ -213,7 +199,7 @@ module _ {K : Type 0} (kept : K → Kept) (s0 : Sites K) (n every most : ℕ) wh
 
         -- the world is sound with the units that are taken
         sound_taken : IsSound (captured name taken w)
-        sound_taken = sound_after kept s0 call.closed w stands n call.lt call.laws.sound taken ((way.worlds w stands).rest, (way.worlds w stands).split)
+        sound_taken = sound_after kept s0 call.closed w stands n call.lt taken ((way.worlds w stands).rest, (way.worlds w stands).split)
 
         -- its log is sound
         short_log : LogIsSound server
@@ -265,7 +251,7 @@ module _ {K : Type 0} (kept : K → Kept) (s0 : Sites K) (n every most : ℕ) wh
                 last = g.last;
                 quiet = g.quiet;
               },
-              sym (left_after call.laws.next taken g.rest server g.split) ∙ all.1,
+              sym (left_after taken g.rest server g.split) ∙ all.1,
             )
 
       -- the transaction goes on
@@ -341,7 +327,7 @@ module _ {K : Type 0} (kept : K → Kept) (s0 : Sites K) (n every most : ℕ) wh
           let split : uncaptured server ≡ (g.done ++ g.waiting) ++ g.rest = g.split ∙ ap (λ (us : List Unit). us ++ g.rest) g.whole in
           let parts : uncaptured server ≡ g.done ++ (g.waiting ++ g.rest) = split ∙ append_assoc g.done g.waiting g.rest in
           let takes = captured_by (captured name g.done w) g.waiting between (with_units g.taken server) c.0 d e p.state after c.2 has g.reads.state r.2.2.others r.2.3 in
-          let whole = stands_captured kept s0 call.closed w stands n call.lt call.laws.sound call.laws.next call.laws.holds call.laws.others g.done g.waiting g.rest (held kept s1) c.0 e split parts g.stands c.2 takes in
+          let whole = stands_captured kept s0 call.closed w stands n call.lt g.done g.waiting g.rest (held kept s1) c.0 e split parts g.stands c.2 takes in
           let now : h ≡ set (held kept s1) n (Some e) = r.1 ∙ ap (λ (l : List (Option Contents)). set l n (Some e)) puts.works.held in (
             subst (λ (q : List (Option Contents) × List Unit). Stands (names s0) q.0 (captured name q.1 w)) (λ i. (sym now i, sym g.whole i)) whole,
             λ f is. subst (HasServer (with_units g.taken server)) (same_Some e f (sym (ap (λ (l : List (Option Contents)). get_or l n None) now ∙ here_set (held kept s1) c.0 e c.1) ∙ is)) (put_leaves (with_units g.taken server) d e p.state has r.2.3),

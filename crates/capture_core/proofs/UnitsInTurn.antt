@@ -1,18 +1,12 @@
 -- Units that are captured in turn.
-use Rattle.std.proofs.Common.{◌≡◌, ℕ, ◌+◌, ◌<◌, ◌≤◌, inl, inr, Bool, true, false, cond, List, [], ◌∷◌, ◌++◌, length, refl, sym, ap, ◌∙◌, zero-add, add_assoc, arith}
-use Rattle.std.specs.Prelude.{min, filter, nat_lt}
-use Rattle.std.specs.List.{filter_map}
-use Rattle.std.specs.Str.{bytes_eq}
+use Rattle.std.proofs.Common.{◌≡◌, ℕ, ◌+◌, ◌<◌, ◌≤◌, inl, inr, Bool, true, false, cond, List, [], ◌∷◌, ◌++◌, length, refl, sym, ap, ◌∙◌, zero-add, add_assoc, arith, min, filter, nat_lt, filter_map, bytes_eq}
 use Rattle.std.proofs.Math.Nat.{min-eq_left, min-eq_right}
 use Rattle.std.proofs.lemmas.Bool.{cases_lt}
 use Rattle.std.proofs.lemmas.List.FromFn.{length-enumerate_from}
-use Rattle.repl_types.specs.declared.unit.Unit.{Unit}
-use Rattle.repl_model.specs.Units.{unit_at, units, positions}
-use Rattle.repl_model.specs.World.{Server, World}
-use Rattle.lists.specs.laws.Places.{filter_map_few}
+use Rattle.repl_model.specs.Words.{Unit, unit_at, units, positions, Server, World, filter_map_few}
 use Rattle.world_commits.specs.captures.Captures.{with_unit, with_units, uncaptured, rows_captured, all_rows_captured, captured_server, captured}
-use Rattle.world_commits.specs.captures.StaysSound.{OthersAreNext}
 use Rattle.world_commits.specs.captures.laws.Servers.{name_stays}
+use Rattle.world_commits.specs.laws.TakenUnits.{others_are_next}
 
 -- ---- one server
 
@@ -29,9 +23,9 @@ rows_both (u ∷ us) vs server =
     ∙ sym (add_assoc (rows_captured u.head.seq u.changes server) (all_rows_captured us (with_unit u server)) (all_rows_captured vs (with_units us (with_unit u server))))
 
 -- after the first units that aren't captured the others aren't
-pub left_after : OthersAreNext → (us vs : List Unit) (server : Server) → uncaptured server ≡ us ++ vs → uncaptured (with_units us server) ≡ vs
-left_after next [] vs server is = is
-left_after next (u ∷ us) vs server is = left_after next us vs (with_unit u server) (next server u (us ++ vs) is)
+pub left_after : (us vs : List Unit) (server : Server) → uncaptured server ≡ us ++ vs → uncaptured (with_units us server) ≡ vs
+left_after [] vs server is = is
+left_after (u ∷ us) vs server is = left_after us vs (with_unit u server) (others_are_next server u (us ++ vs) is)
 
 -- a filter keeps no more than there are
 filter_few : (p : Unit → Bool) (us : List Unit) → length (filter p us) ≤ length us

@@ -1,19 +1,11 @@
 -- What a capture leaves of the servers, by the number of units that were asked for: proofs.
-use Rattle.std.proofs.Common.{◌≡◌, ℕ, ◌<◌, List, [], length, refl, sym, ap, subst, ◌∙◌, arith}
-use Rattle.std.specs.Prelude.{Option, Some, None}
-use Rattle.std.proofs.lemmas.List.{take_all}
-use Rattle.repl_types.specs.declared.unit.Unit.{Unit}
-use Rattle.repl_types.specs.declared.fault.Fault.{Fault}
-use Rattle.keep_core.specs.Contents.{Contents}
-use Rattle.keep_core.specs.Kept.{Kept}
-use Rattle.repl_model.specs.World.{empty_server, World, server_in}
-use Rattle.repl_model.specs.SoundLogs.{LogIsSound}
-use Rattle.run_core.specs.Runs.{Went, Stopped}
+use Rattle.std.proofs.Common.{◌≡◌, ℕ, ◌<◌, List, [], length, refl, sym, ap, subst, ◌∙◌, arith, Option, Some, None, take_all}
+use Rattle.world_store.specs.Words.{Stands}
+use Rattle.site_store.specs.Words.{Contents, Kept, AllClosed, names, held, work}
 use Rattle.site_store.specs.declared.sites.Sites.{Sites}
-use Rattle.site_store.specs.Servers.{AllClosed}
-use Rattle.site_store.specs.Views.{names, held, work}
+use Rattle.repl_model.specs.Words.{Unit, Fault, empty_server, World, server_in, LogIsSound}
+use Rattle.run_core.specs.Runs.{Went, Stopped}
 use Rattle.stored_defs.specs.laws.Standing.{all_at_place}
-use Rattle.world_store.specs.Stands.{Stands}
 use Rattle.world_commits.specs.captures.Captures.{uncaptured, taken_units}
 use Rattle.capture_core.specs.Capturing.{commits_of, counts_of, HasCapturedAll, HasStopped}
 use Rattle.capture_core.specs.Ending.{most_units, first_units, HasEnded, HasFailed}

@@ -1,17 +1,9 @@
 -- A transaction of one server, the only one that is open.
-use Rattle.std.proofs.Common.{◌≡◌, inl, inr, ℕ, ◌<◌, List, length, set, get_or, refl, sym, ap, subst, ◌∙◌}
-use Rattle.std.specs.Prelude.{Option, Some, None, IsSome, IfSome}
+use Rattle.std.proofs.Common.{◌≡◌, inl, inr, ℕ, ◌<◌, List, length, set, get_or, refl, sym, ap, subst, ◌∙◌, Option, Some, None, IsSome, IfSome}
 use Rattle.std.proofs.lemmas.Bool.{cases_eq, cases_lt}
 use Rattle.std.proofs.lemmas.List.{get_or-set_same, get_or-set_other, get_or_past, length-set, length-map}
-use Rattle.keep_core.specs.Contents.{Contents}
-use Rattle.keep_core.specs.Kept.{Kept, seen_of}
+use Rattle.site_store.specs.Words.{Contents, Kept, seen_of, AllClosed, names, held, work, sees, IsOpenAt, Begins, open_below, other_work, Looks, GoesOn, goes_saw}
 use Rattle.site_store.specs.declared.sites.Sites.{Sites}
-use Rattle.site_store.specs.Servers.{AllClosed}
-use Rattle.site_store.specs.Views.{names, held, work, sees, IsOpenAt}
-use Rattle.site_store.specs.Calls.{Begins}
-use Rattle.site_store.specs.laws.Transactions.{open_below, other_work}
-use Rattle.site_store.specs.one_server.Calls.{Looks, GoesOn}
-use Rattle.site_store.specs.one_server.laws.Steps.{goes_saw}
 use Rattle.capture_core.specs.Committing.{IsWorking}
 
 module _ {K : Type 0} (kept : K → Kept) where

@@ -12,13 +12,9 @@ use Rattle.run_core.specs.Runs.{Event, Went, Stopped}
 use Rattle.repl_types.specs.declared.unit.Unit.{Unit}
 use Rattle.repl_model.specs.World.{World, server_in}
 use Rattle.world_store.specs.Stands.{Stands}
-use Rattle.stored_commits.specs.records.SourceTables.{TypedChangesHaveRows}
 use Rattle.world_commits.specs.captures.Captures.{uncaptured}
-use Rattle.world_commits.specs.captures.StaysSound.{CapturesSound, OthersAreNext}
-use Rattle.world_commits.specs.readings.Reading.{StartsEmpty}
-use Rattle.stored_commits.specs.captures.CapturedServers.{HoldsCaptured, CapturedHolds, OthersHold}
 use Rattle.capture_core.specs.Capturing.{commits_of, counts_of}
-use Rattle.capture_core.specs.Reading.{greatest, UnitsAreWithin}
+use Rattle.capture_core.specs.Reading.{greatest}
 use Rattle.capture_core.specs.Rules.{rules}
 use Rattle.capture_core.specs.declared.captured.Captured.{Captured}
 
@@ -61,14 +57,3 @@ module _ {K : Type 0} (kept : K → Kept) (old new : Sites K) (server most every
     pub passes : Passes kept old new bounds
     pub blames : Blames kept old new (HeldDamage kept new server) e
     pub worlds : (w : World) → Stands (names old) (held kept old) w → StopsIn e w
-
--- The laws of worlds and of stored tables that this stands on.
-pub record Laws : Type 0 where
-  pub within : UnitsAreWithin
-  pub typed : TypedChangesHaveRows
-  pub empty : StartsEmpty
-  pub sound : CapturesSound
-  pub next : OthersAreNext
-  pub has : HoldsCaptured
-  pub holds : CapturedHolds
-  pub others : OthersHold

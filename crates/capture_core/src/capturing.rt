@@ -13,7 +13,6 @@ ghost use Rattle.capture_core.specs.Ending.{HasEnded, HasFailed, most_units as m
 
 use crate::captured::Captured;
 use crate::committing::{begin_capture, commit_units, end_capture};
-use crate::laws::laws_of_worlds;
 use crate::reading::take_unit;
 use keep_core::Keeper;
 use repl_types::Fault;
@@ -48,7 +47,6 @@ fn capture_units<K: Keeper>(
     ensures apart { HoldsElsewhere K.kept sites.old sites.new server }
     ensures reads { ReadsFromRestart K.kept sites.old sites.new server }
 {
-    laws_of_worlds();
     let mut progress = begin_capture(sites, alloc, server)?;
     'units: while progress.units < most {
         if !take_unit(sites, alloc, server, &mut progress)? {

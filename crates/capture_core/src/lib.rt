@@ -16,7 +16,6 @@
 mod captured;
 mod capturing;
 mod committing;
-mod laws;
 mod progress;
 mod reading;
 

@@ -14,7 +14,6 @@ ghost use Rattle.capture_core.specs.Reading.{IsNextRecord, IsLoggedAfter, KeepsT
 ghost use Rattle.capture_core.specs.Reading.{Counts, IsRestart, TakesCommit};
 ghost use Rattle.capture_core.specs.Reading.{TakesRecord, TakesUnit};
 
-use crate::laws::laws_of_logs;
 use crate::progress::Progress;
 use cd_tables::append_changes;
 use keep_core::Keeper;
@@ -122,7 +121,6 @@ fn take_record<K: Keeper>(
     ensures fault { IfErr result (Breaks rules K.kept sites.old sites.new server) }
     ensures reads { ReadsNoLog K.kept sites.old sites.new }
 {
-    laws_of_logs();
     progress.read = pos;
     match logged {
         LogRecord::Change { tx, change } => {
@@ -170,7 +168,6 @@ pub fn take_unit<K: Keeper>(
         (ReadsEachOnce K.kept sites.old sites.new server progress.old progress.new)) }
     ensures further { ReadsFurther K.kept sites.old sites.new server progress.old }
 {
-    laws_of_logs();
     loop {
         let Some((pos, logged)) = next_record(sites, alloc, server, progress.read)? else {
             return Ok(false);

@@ -1,98 +1,69 @@
 -- The change rows of a change whose rows are rows of values can be stored: proofs.
-use Rattle.std.proofs.Common.{◌≡◌, ℕ, zero, suc, ◌≤◌, Bool, true, false, cond, List, [], ◌∷◌, map, length, get_or, arith}
-use Rattle.std.specs.Prelude.{◌&&◌, nat_le}
+use Rattle.std.proofs.Common.{◌≡◌, ℕ, ◌≤◌, Bool, true, false, cond, List, [], ◌∷◌, map, length, get_or, arith, ◌&&◌, nat_le, bytes_eq}
 use Rattle.std.specs.List.{AllByRecursion}
-use Rattle.std.specs.Str.{bytes_eq}
 use Rattle.std.proofs.lemmas.Bool.{and_parts, leb-true}
 use Rattle.std.proofs.lemmas.List.{length-map}
-use Rattle.repl_types.specs.Sizes.{row_limit}
-use Rattle.repl_types.specs.Value.{Values, images}
-use Rattle.repl_types.specs.ValueText.{IsValue}
-use Rattle.repl_types.specs.declared.change_row.CdRow.{CdRow}
-use Rattle.repl_types.specs.declared.change_row.Registration.{Registration}
-use Rattle.repl_types.specs.declared.record.Change.{Change}
+use Rattle.world_store.specs.Words.{IsChangeRow, change_storable}
+use Rattle.repl_model.specs.Words.{row_limit, Values, images, IsValue, CdRow, Registration, Change, Placed, DefinedRegistration, rows_of, rows_of_placed, shows_nothing, insert_row, delete_row, update_row, table_of}
 use Rattle.repl_types.specs.declared.record.Change.TheVariants.{Insert, Update, Delete, Start, Stop}
-use Rattle.repl_types.specs.declared.unit.Placed.{Placed}
 use Rattle.repl_types.specs.declared.value.Value.TheVariants.{Null}
-use Rattle.row_codec.specs.Storable.{IsStorable}
-use Rattle.repl_definitions.specs.declared.defined.DefinedRegistration.{DefinedRegistration}
-use Rattle.repl_records.specs.Capture.{IsChangeRow, HasChangeRowSpelling, change_row_spelling}
-use Rattle.repl_records.specs.declared.capture.ChangeRow.{ChangeRow}
-use Rattle.repl_model.specs.ChangeRows.{rows_of, rows_of_placed, shows_nothing, insert_row, delete_row, update_row}
-use Rattle.repl_model.specs.Tables.{table_of}
 use Rattle.stored_commits.specs.records.SourceTables.{HasRows}
 use Rattle.stored_commits.specs.units.StoredChanges.{stored_change}
 use Rattle.cd_tables.specs.Appending.{CanBeStored}
 use Rattle.cd_tables.specs.Rules.{IsRegistrationOf}
+use Rattle.cd_tables.specs.laws.SoundChanges.{images_are, nulls_are}
 
 -- A row of values that isn't too long to be stored.
 record IsShort (row : Values) : Type 0 where
   pub typed : AllByRecursion IsValue row
   pub few : length row ≤ row_limit
 
--- a value of a row of values is one
-value_at : (row : Values) (place : ℕ) → AllByRecursion IsValue row → IsValue (get_or row place Null)
-value_at [] place all = tt
-value_at (v ∷ row) zero all = all.0
-value_at (v ∷ row) (suc place) all = value_at row place all.1
-
--- so are its images
-images_fit : (places : List ℕ) (row : Values) → AllByRecursion IsValue row → AllByRecursion IsValue (images places row)
-images_fit [] row all = tt
-images_fit (place ∷ places) row all = (value_at row place all, images_fit places row all)
-
 -- images at so few places make a row that can be stored
 short_images : (places : List ℕ) (row : Values) → length places ≤ row_limit → AllByRecursion IsValue row → IsShort (images places row)
-short_images places row few all = record { typed = images_fit places row all; few = omega (arith, few, length-map places (λ (place : ℕ). get_or row place Null)) }
-
--- and images that are all NULL
-nulls_fit : (places : List ℕ) → AllByRecursion IsValue (map (λ place. Null) places)
-nulls_fit [] = tt
-nulls_fit (place ∷ places) = (tt, nulls_fit places)
+short_images places row few all = record { typed = images_are places row all; few = omega (arith, few, length-map places (λ (place : ℕ). get_or row place Null)) }
 
 -- and so do as many of these
 short_nulls : (places : List ℕ) → length places ≤ row_limit → IsShort (map (λ place. Null) places)
-short_nulls places few = record { typed = nulls_fit places; few = omega (arith, few, length-map places (λ (place : ℕ). Null)) }
+short_nulls places few = record { typed = nulls_are places; few = omega (arith, few, length-map places (λ (place : ℕ). Null)) }
 
-module _ (law : (r : ChangeRow) → IsChangeRow r → length r.after ≤ row_limit → length r.before ≤ row_limit → IsStorable HasChangeRowSpelling change_row_spelling r) where
-  -- a change row of two such rows can be stored
-  row_storable : (r : CdRow) → IsShort r.after → IsShort r.before → CanBeStored r
-  row_storable r after before =
-      let fits : IsChangeRow (stored_change r).1 = ((omega (arith, after.few), after.typed), (omega (arith, before.few), before.typed)) in
-      (fits, law (stored_change r).1 fits after.few before.few)
+-- a change row of two such rows can be stored
+row_storable : (r : CdRow) → IsShort r.after → IsShort r.before → CanBeStored r
+row_storable r after before =
+    let fits : IsChangeRow (stored_change r).1 = ((omega (arith, after.few), after.typed), (omega (arith, before.few), before.typed)) in
+    (fits, change_storable (stored_change r).1 fits after.few before.few)
 
-  module _ (reg : Registration) (after_few : length reg.after ≤ row_limit) (before_few : length reg.before ≤ row_limit) (seq pos : ℕ) where
-    -- so can all change rows of a change
-    rows_storable : (change : Change) → HasRows change → AllByRecursion CanBeStored (rows_of reg seq pos change)
-    rows_storable (Insert table row) typed = (row_storable (insert_row reg seq pos 0 row) (short_images reg.after row after_few typed.1) (short_nulls reg.before before_few), tt)
-    rows_storable (Update table before after) typed = pick (shows_nothing reg before after) reg.del_ins
-      where
-        pick : (nothing del_ins : Bool) → AllByRecursion CanBeStored (cond nothing [] (cond del_ins (delete_row reg seq pos before ∷ insert_row reg seq pos 1 after ∷ []) (update_row reg seq pos before after ∷ [])))
-        pick true del_ins = tt
-        pick false true = (
-          row_storable (delete_row reg seq pos before) (short_images reg.after before after_few typed.0.1) (short_images reg.before before before_few typed.0.1),
-          (row_storable (insert_row reg seq pos 1 after) (short_images reg.after after after_few typed.1.1) (short_nulls reg.before before_few), tt),
-        )
-        pick false false = (row_storable (update_row reg seq pos before after) (short_images reg.after after after_few typed.1.1) (short_images reg.before before before_few typed.0.1), tt)
-    rows_storable (Delete table row) typed = (row_storable (delete_row reg seq pos row) (short_images reg.after row after_few typed.1) (short_images reg.before row before_few typed.1), tt)
-    rows_storable (Start table) typed = tt
-    rows_storable (Stop table) typed = tt
-
-  -- for a registration of a table, which has no more columns than that
-  pub placed_storable : (name : List ℕ) (reg : DefinedRegistration) (seq : ℕ) (placed : Placed) → IsRegistrationOf name reg → HasRows placed.change → AllByRecursion CanBeStored (rows_of_placed reg.registration seq placed)
-  placed_storable name reg seq placed of typed = pick (bytes_eq (table_of placed.change) reg.registration.table)
+module _ (reg : Registration) (after_few : length reg.after ≤ row_limit) (before_few : length reg.before ≤ row_limit) (seq pos : ℕ) where
+  -- so can all change rows of a change
+  rows_storable : (change : Change) → HasRows change → AllByRecursion CanBeStored (rows_of reg seq pos change)
+  rows_storable (Insert table row) typed = (row_storable (insert_row reg seq pos 0 row) (short_images reg.after row after_few typed.1) (short_nulls reg.before before_few), tt)
+  rows_storable (Update table before after) typed = pick (shows_nothing reg before after) reg.del_ins
     where
-      after : List ℕ
-      after = reg.registration.after
+      pick : (nothing del_ins : Bool) → AllByRecursion CanBeStored (cond nothing [] (cond del_ins (delete_row reg seq pos before ∷ insert_row reg seq pos 1 after ∷ []) (update_row reg seq pos before after ∷ [])))
+      pick true del_ins = tt
+      pick false true = (
+        row_storable (delete_row reg seq pos before) (short_images reg.after before after_few typed.0.1) (short_images reg.before before before_few typed.0.1),
+        (row_storable (insert_row reg seq pos 1 after) (short_images reg.after after after_few typed.1.1) (short_nulls reg.before before_few), tt),
+      )
+      pick false false = (row_storable (update_row reg seq pos before after) (short_images reg.after after after_few typed.1.1) (short_images reg.before before before_few typed.0.1), tt)
+  rows_storable (Delete table row) typed = (row_storable (delete_row reg seq pos row) (short_images reg.after row after_few typed.1) (short_images reg.before row before_few typed.1), tt)
+  rows_storable (Start table) typed = tt
+  rows_storable (Stop table) typed = tt
 
-      before : List ℕ
-      before = reg.registration.before
+-- for a registration of a table, which has no more columns than that
+pub placed_storable : (name : List ℕ) (reg : DefinedRegistration) (seq : ℕ) (placed : Placed) → IsRegistrationOf name reg → HasRows placed.change → AllByRecursion CanBeStored (rows_of_placed reg.registration seq placed)
+placed_storable name reg seq placed of typed = pick (bytes_eq (table_of placed.change) reg.registration.table)
+  where
+    after : List ℕ
+    after = reg.registration.after
 
-      fits : (nat_le (length after) row_limit && nat_le (length before) row_limit) ≡ true
-      fits = (and_parts (bytes_eq reg.registration.table name) (nat_le (length after) row_limit && nat_le (length before) row_limit) of.is).1
+    before : List ℕ
+    before = reg.registration.before
 
-      pick : (b : Bool) → AllByRecursion CanBeStored (cond b (rows_of reg.registration seq placed.pos placed.change) [])
-      pick true =
-          let both = and_parts (nat_le (length after) row_limit) (nat_le (length before) row_limit) fits in
-          rows_storable reg.registration (leb-true (length after) row_limit both.0) (leb-true (length before) row_limit both.1) seq placed.pos placed.change typed
-      pick false = tt
+    fits : (nat_le (length after) row_limit && nat_le (length before) row_limit) ≡ true
+    fits = (and_parts (bytes_eq reg.registration.table name) (nat_le (length after) row_limit && nat_le (length before) row_limit) of.is).1
+
+    pick : (b : Bool) → AllByRecursion CanBeStored (cond b (rows_of reg.registration seq placed.pos placed.change) [])
+    pick true =
+        let both = and_parts (nat_le (length after) row_limit) (nat_le (length before) row_limit) fits in
+        rows_storable reg.registration (leb-true (length after) row_limit both.0) (leb-true (length before) row_limit both.1) seq placed.pos placed.change typed
+    pick false = tt

@@ -1,16 +1,10 @@
 -- What a change that is carried out makes of contents: proofs.
-use Rattle.std.proofs.Common.{◌≡◌, ℕ, List, inl, inr, refl, sym, ap, ◌∙◌}
-use Rattle.std.specs.Prelude.{◌⊎◌, Some, None}
-use Rattle.repl_types.specs.Value.{Values}
+use Rattle.std.proofs.Common.{◌≡◌, ℕ, List, inl, inr, refl, sym, ap, ◌∙◌, ◌⊎◌, Some, None}
+use Rattle.world_store.specs.Words.{short_text, RegState}
+use Rattle.site_store.specs.Words.{Contents}
+use Rattle.repl_model.specs.Words.{Values, Change, Placed, DefinedRegistration, table_of}
 use Rattle.repl_types.specs.declared.area.Area.TheVariants as areas
-use Rattle.repl_types.specs.declared.record.Change.{Change}
 use Rattle.repl_types.specs.declared.record.Change.TheVariants.{Insert, Update, Delete, Start, Stop}
-use Rattle.repl_types.specs.declared.unit.Placed.{Placed}
-use Rattle.keep_core.specs.Contents.{Contents}
-use Rattle.row_codec.specs.Spelling.{short_text}
-use Rattle.repl_definitions.specs.declared.defined.DefinedRegistration.{DefinedRegistration}
-use Rattle.repl_records.specs.declared.capture.RegState.{RegState}
-use Rattle.repl_model.specs.Tables.{table_of}
 use Rattle.stored_commits.specs.units.StoredChanges.{with_rows_of, started, stopped, with_change, rows_put}
 use Rattle.cd_tables.specs.Appending.{Becomes, AppendsChange}
 use Rattle.cd_tables.specs.Rules.{IsRegistrationOf, FindsRegistration, HasStateOf}

@@ -1,21 +1,12 @@
 -- Change rows are removed, one after another: proofs.
-use Rattle.std.proofs.Common.{◌≡◌, ℕ, Bool, true, false, cond, List, [], ◌∷◌, eq-eqb, inr, refl, sym, ap, subst, ◌∙◌}
-use Rattle.std.specs.Prelude.{◌==◌, ◌&&◌, Option, Some, None}
-use Rattle.std.specs.Ordering.{is_lt, is_eq, ordering_reverse}
-use Rattle.std.specs.declared.cmp.Ordering.{Ordering}
-use Rattle.std.specs.declared.cmp.Ordering.TheVariants.{Less, Equal, Greater}
+use Rattle.std.proofs.Common.{◌≡◌, ℕ, Bool, true, false, cond, List, [], ◌∷◌, eq-eqb, inr, refl, sym, ap, subst, ◌∙◌, ◌==◌, ◌&&◌, Option, Some, None, Less}
+use Rattle.std.specs.Ordering.{is_lt}
 use Rattle.std.proofs.lemmas.Bool.{eqb-true, false_from_ne_true}
-use Rattle.repl_types.specs.Area.{same_area}
-use Rattle.repl_types.specs.Bytes.{bytes_cmp}
-use Rattle.repl_types.specs.declared.area.Area.{Area}
+use Rattle.world_store.specs.Words.{change_key_spelling, CdKey, is_before, not_both, empty_first, same_is, before_key}
+use Rattle.site_store.specs.Words.{Contents, Table, same_key, set_key, ShownBefore}
+use Rattle.repl_model.specs.Words.{same_area, bytes_cmp, Area}
 use Rattle.repl_types.specs.declared.area.Area.TheVariants as areas
-use Rattle.keep_core.specs.Contents.{Contents, Table, same_key, set_key}
-use Rattle.repl_records.specs.RecordKeys.{change_key_spelling}
-use Rattle.repl_records.specs.declared.record_keys.CdKey.{CdKey}
-use Rattle.rows_in_order.specs.Rows.{is_before}
-use Rattle.rows_in_order.specs.laws.Before.{order, is_less, not_both, empty_first}
-use Rattle.rows_in_order.specs.laws.Rising.{same_is}
-use Rattle.site_store.specs.Damage.{ShownBefore}
+use Rattle.rows_in_order.specs.laws.Before.{is_less}
 use Rattle.stored_commits.specs.units.StoredChanges.{cleared, with_cleared}
 use Rattle.cd_tables.specs.Clearing.{ClearsNext}
 use Rattle.cd_tables.specs.Rules.{rules}
@@ -31,15 +22,6 @@ pub record HasCleared (number : ℕ) (after : List ℕ) (c d : Contents) : Type 
 -- no row is up to the empty key
 pub cleared_none : (number : ℕ) (c : Contents) → HasCleared number [] c c
 cleared_none number c = record { others = λ a n other. refl; empty = refl; left = λ key value has. has; gone = λ key some upto. absurd (not_both (is_before [] key) (ap is_lt some) upto) }
-
--- what is up to a key and isn't that one is before it
-before_key : (k q : List ℕ) → is_before k q ≡ false → same_key k q ≡ false → bytes_cmp q k ≡ Less
-before_key k q upto apart = pick (bytes_cmp k q) refl
-  where
-    pick : (o : Ordering) → bytes_cmp k q ≡ o → bytes_cmp q k ≡ Less
-    pick Less e = absurd (not_both (is_before k q) (ap is_lt e) upto)
-    pick Equal e = absurd (not_both (same_key k q) (ap is_eq e) apart)
-    pick Greater e = order.antisymm q k ∙ ap ordering_reverse e
 
 -- the next row is removed
 pub cleared_next : (number : ℕ) (after : List ℕ) (key : CdKey) (c d e : Contents) → bytes_cmp after (change_key_spelling key) ≡ Less → HasCleared number after c d → ClearsNext number after (Some key) d e → HasCleared number (change_key_spelling key) c e

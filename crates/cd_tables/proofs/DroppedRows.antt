@@ -1,27 +1,12 @@
 -- Change rows are dropped, one after another: proofs.
-use Rattle.std.proofs.Common.{◌≡◌, ℕ, ◌+◌, ◌<◌, ◌≤◌, Bool, true, false, cond, inl, inr, List, [], ◌∷◌, ◌++◌, length, refl, sym, ap, subst, ◌∙◌, append_assoc, append-nil, arith}
-use Rattle.std.specs.Prelude.{◌⊎◌, ◌==◌, ◌&&◌, min, nat_lt, nat_le, Option, Some, None}
+use Rattle.std.proofs.Common.{◌≡◌, ℕ, ◌+◌, ◌<◌, ◌≤◌, Bool, true, false, cond, inl, inr, List, [], ◌∷◌, ◌++◌, length, refl, sym, ap, subst, ◌∙◌, append_assoc, append-nil, arith, ◌⊎◌, ◌==◌, ◌&&◌, min, nat_lt, nat_le, Option, Some, None, length-append}
 use Rattle.std.specs.List.{AllByRecursion}
 use Rattle.std.proofs.lemmas.Bool.{lt-ltb, le-ltb, le-leb, lt-leb}
-use Rattle.std.proofs.lemmas.List.{length-append}
 use Rattle.std.proofs.lemmas.List.Elements.{filter-append}
-use Rattle.repl_types.specs.Area.{same_area}
-use Rattle.repl_types.specs.laws.Lists.{all_weaker, all_append, filter_none, filter_all}
-use Rattle.repl_types.specs.declared.area.Area.{Area}
+use Rattle.world_store.specs.Words.{b64, sequence_spelling, length64, IsChangeRow, change_row_spelling, IsChangeKey, change_key_spelling, ChangeRow, CdKey, table_from_rows, AllAfter, first_row, no_first_row, all_some, put_here, written_first, RowFits}
+use Rattle.site_store.specs.Words.{Contents, Table, IsLastKey, put_at, same_key, set_key, ShownBefore, adds_remove}
+use Rattle.repl_model.specs.Words.{same_area, all_weaker, all_append, filter_none, filter_all, Area}
 use Rattle.repl_types.specs.declared.area.Area.TheVariants as areas
-use Rattle.keep_core.specs.Contents.{Contents, Table, IsLastKey, put_at, same_key, set_key}
-use Rattle.row_codec.specs.Spelling.{b64, sequence_spelling}
-use Rattle.row_codec.specs.laws.Numbers.{length64}
-use Rattle.repl_records.specs.Capture.{IsChangeRow, change_row_spelling}
-use Rattle.repl_records.specs.RecordKeys.{IsChangeKey, change_key_spelling}
-use Rattle.repl_records.specs.declared.capture.ChangeRow.{ChangeRow}
-use Rattle.repl_records.specs.declared.record_keys.CdKey.{CdKey}
-use Rattle.rows_in_order.specs.Rows.{table_from_rows, AllAfter}
-use Rattle.rows_in_order.specs.laws.Found.{first_row, no_first_row, all_some}
-use Rattle.rows_in_order.specs.laws.Written.{put_here, written_first}
-use Rattle.site_store.specs.Damage.{ShownBefore}
-use Rattle.site_store.specs.laws.Damage.{adds_remove}
-use Rattle.world_store.specs.SpelledRows.{RowFits}
 use Rattle.cd_tables.specs.Dropping.{greatest, HasNextChange, DropsNext, DropsUpto}
 use Rattle.cd_tables.specs.StoredRows.{AreChangeRows, HasChangeRows, rows_upto, rows_above, row_rules}
 use Rattle.cd_tables.proofs.FoundRows.{units_rise, next_of_rows, none_of_rows}

@@ -1,21 +1,10 @@
 -- The tables that the capture of a unit leaves as they are: proofs.
-use Rattle.std.proofs.Common.{◌≡◌, ℕ, zero, suc, ◌≢◌, Bool, true, false, cond, List, [], ◌∷◌, inl, inr, refl, ap, ◌∙◌, arith}
-use Rattle.std.specs.Prelude.{◌==◌, Some}
-use Rattle.std.proofs.lemmas.Bool.Decides.{nat_tests}
-use Rattle.rows_in_order.specs.laws.Written.{differ_numbers}
-use Rattle.repl_types.specs.declared.area.Area.{Area}
+use Rattle.std.proofs.Common.{◌≡◌, ℕ, zero, suc, Bool, true, false, cond, List, [], ◌∷◌, inl, inr, refl, ap, ◌∙◌, arith, Some}
+use Rattle.world_store.specs.Words.{differ_numbers, b32, change_row_spelling, registration_state_spelling, change_key_spelling, RegState}
+use Rattle.site_store.specs.Words.{Contents, Table, set_key, with_table}
+use Rattle.repl_model.specs.Words.{Area, CdRow, Change, Placed, DefinedRegistration, rows_of}
 use Rattle.repl_types.specs.declared.area.Area.TheVariants as areas
-use Rattle.repl_types.specs.declared.change_row.CdRow.{CdRow}
-use Rattle.repl_types.specs.declared.record.Change.{Change}
 use Rattle.repl_types.specs.declared.record.Change.TheVariants.{Insert, Update, Delete, Start, Stop}
-use Rattle.repl_types.specs.declared.unit.Placed.{Placed}
-use Rattle.keep_core.specs.Contents.{Contents, Table, set_key, with_table}
-use Rattle.row_codec.specs.Spelling.{b32}
-use Rattle.repl_definitions.specs.declared.defined.DefinedRegistration.{DefinedRegistration}
-use Rattle.repl_records.specs.Capture.{change_row_spelling, registration_state_spelling}
-use Rattle.repl_records.specs.RecordKeys.{change_key_spelling}
-use Rattle.repl_records.specs.declared.capture.RegState.{RegState}
-use Rattle.repl_model.specs.ChangeRows.{rows_of}
 use Rattle.stored_commits.specs.units.StoredChanges.{stored_change, with_change_row, with_change_rows, cleared, with_cleared, is_captured, with_state, with_change, CapturesChange}
 use Rattle.cd_tables.specs.Appending.{is_of_unit}
 use Rattle.cd_tables.proofs.Signals.{active_state, inactive_state}

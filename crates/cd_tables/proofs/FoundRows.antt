@@ -1,44 +1,21 @@
 -- The first rows of stored tables after a key: proofs.
-use Rattle.std.proofs.Common.{◌≡◌, ℕ, ◌<◌, ◌≤◌, ◌^◌, Bool, true, false, cond, ◌&&◌, List, [], ◌∷◌, ◌++◌, refl, sym, ap, subst, ◌∙◌, arith}
-use Rattle.std.specs.Prelude.{nat_lt, nat_le, filter, Option, Some, None}
+use Rattle.std.proofs.Common.{◌≡◌, ℕ, ◌<◌, ◌≤◌, ◌^◌, Bool, true, false, cond, ◌&&◌, List, [], ◌∷◌, ◌++◌, refl, sym, ap, subst, ◌∙◌, arith, nat_lt, nat_le, filter, Option, Some, None, option_map, Ordering, Less, Equal, Greater}
 use Rattle.std.specs.List.{AllByRecursion}
-use Rattle.std.specs.Option.{option_map}
 use Rattle.std.specs.Ordering.{nat_cmp, ordering_then, is_lt}
 use Rattle.std.specs.Cmp.{ranked}
-use Rattle.std.specs.declared.cmp.Ordering.{Ordering}
-use Rattle.std.specs.declared.cmp.Ordering.TheVariants.{Less, Equal, Greater}
 use Rattle.std.proofs.lemmas.Bool.{ltb-true, le-leb, lt-leb}
-use Rattle.repl_types.specs.Bytes.{bytes_cmp}
-use Rattle.repl_types.specs.Sequence.{sequence_cmp}
+use Rattle.world_store.specs.Words.{Is64, b64, one_whole, one64, whole_order, order64, IsChangeRow, change_row_spelling, IsUow, uow_spelling, IsChangeKey, change_key_spelling, change_key_cmp, one_change_row, one_uow, one_change_key, ChangeRow, UowRow, CdKey, is_before, AllAfter, NoneAfter, SpellsApart, NextRow, key_is_before, fits_next, no_row, RowFits}
+use Rattle.site_store.specs.Words.{Contents, Table, IsNextKey, IsLastKey, Follows}
+use Rattle.repl_model.specs.Words.{bytes_cmp, sequence_cmp, CdRow, UnitHead, Server}
 use Rattle.repl_types.specs.declared.area.Area.TheVariants as areas
-use Rattle.repl_types.specs.declared.change_row.CdRow.{CdRow}
-use Rattle.repl_types.specs.declared.unit.UnitHead.{UnitHead}
-use Rattle.keep_core.specs.Contents.{Contents, Table, IsNextKey, IsLastKey}
-use Rattle.row_codec.specs.Spelling.{Is64, b64}
-use Rattle.row_codec.specs.laws.Ones.{one_whole}
-use Rattle.row_codec.specs.laws.Numbers.{one64}
-use Rattle.row_codec.specs.laws.Orders.{whole_order, order64}
-use Rattle.repl_records.specs.Capture.{IsChangeRow, change_row_spelling, IsUow, uow_spelling}
-use Rattle.repl_records.specs.RecordKeys.{IsChangeKey, change_key_spelling, change_key_cmp}
-use Rattle.repl_records.specs.laws.Capture.{one_change_row, one_uow}
-use Rattle.repl_records.specs.laws.RecordKeys.{one_change_key, order_change_key}
-use Rattle.repl_records.specs.declared.capture.ChangeRow.{ChangeRow}
-use Rattle.repl_records.specs.declared.capture.UowRow.{UowRow}
-use Rattle.repl_records.specs.declared.record_keys.CdKey.{CdKey}
-use Rattle.rows_in_order.specs.Rows.{is_before, AllAfter, NoneAfter, SpellsApart, NextRow}
-use Rattle.rows_in_order.specs.laws.ByNumber.{key_is_before}
-use Rattle.rows_in_order.specs.laws.Fitting.{fits_next}
-use Rattle.rows_in_order.specs.laws.Rising.{no_row}
-use Rattle.site_store.specs.Records.{Follows}
-use Rattle.world_store.specs.SpelledRows.{RowFits}
 use Rattle.cd_tables.specs.StoredRows.{first_of, change_of, AreChangeRows, HasChangeRows, AreUnitRows, HasUnitRows, head_of, row_of}
-use Rattle.repl_model.specs.World.{Server}
 use Rattle.stored_commits.specs.units.StoredCaptures.{HasCaptured}
 use Rattle.cd_tables.specs.Captured.{ServerIsSound, captured_units, next_captured, captured_changes}
 use Rattle.cd_tables.specs.laws.CapturedRows.{has_units, has_changes, first_captured}
 use Rattle.cd_tables.specs.laws.SoundChanges.{change_rows_are}
 use Rattle.cd_tables.specs.laws.SoundUnits.{unit_rows_are}
 use Rattle.cd_tables.specs.Finding.{first_unit, first_change, FindsUnit, IsUnitAbove, is_from, FindsChange, IsChangeFrom}
+use Rattle.stored_commits.specs.laws.CapturedPuts.{keys_in_order}
 
 -- ---- rows that pass a test
 
@@ -123,10 +100,6 @@ module _ (after : ℕ) (small : Is64 after) (c : Contents) where
 -- change rows that are spelled alike are one
 pub changes_apart : SpellsApart (RowFits IsChangeKey IsChangeRow) change_key_spelling change_row_spelling
 changes_apart r s fr fs keys values = λ i. (one_whole IsChangeKey change_key_spelling one_change_key r.0 s.0 fr.0 fs.0 keys i, one_whole IsChangeRow change_row_spelling one_change_row r.1 s.1 fr.1 fs.1 values i)
-
--- the order of the bytes is the order of the keys
-pub keys_in_order : (k l : CdKey) → IsChangeKey k → IsChangeKey l → bytes_cmp (change_key_spelling k) (change_key_spelling l) ≡ change_key_cmp k l
-keys_in_order = whole_order IsChangeKey change_key_spelling change_key_cmp order_change_key
 
 -- a later row isn't of an earlier unit
 pub units_rise : (k l : CdKey) → IsChangeKey k → IsChangeKey l → bytes_cmp (change_key_spelling k) (change_key_spelling l) ≡ Less → k.commitseq ≤ l.commitseq

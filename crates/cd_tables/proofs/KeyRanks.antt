@@ -1,18 +1,10 @@
 -- The keys of change rows by their numbers, which rise and are bounded: proofs.
-use Rattle.std.proofs.Common.{◌≡◌, ℕ, ◌+◌, ◌*◌, ◌^◌, ◌<◌, ◌≤◌, refl, sym, ap, ◌∙◌, arith}
-use Rattle.std.proofs.Math.Nat.{mul-le-mul_left}
-use Rattle.std.specs.Prelude.{Option, Some, None, IfSome}
+use Rattle.std.proofs.Common.{◌≡◌, ℕ, ◌+◌, ◌*◌, ◌^◌, ◌<◌, ◌≤◌, refl, sym, ap, ◌∙◌, arith, mul-le-mul_left, Option, Some, None, IfSome, Ordering, Less, Equal, Greater}
 use Rattle.std.specs.Ordering.{nat_cmp, ordering_then}
 use Rattle.std.specs.Cmp.{ranked}
-use Rattle.std.specs.declared.cmp.Ordering.{Ordering}
-use Rattle.std.specs.declared.cmp.Ordering.TheVariants.{Less, Equal, Greater}
-use Rattle.repl_types.specs.Bytes.{bytes_cmp}
-use Rattle.repl_types.specs.Sequence.{sequence_cmp}
-use Rattle.row_codec.specs.laws.Orders.{whole_order}
-use Rattle.repl_records.specs.RecordKeys.{IsChangeKey, change_key_spelling, change_key_cmp}
-use Rattle.repl_records.specs.laws.RecordKeys.{order_change_key}
-use Rattle.repl_records.specs.declared.record_keys.CdKey.{CdKey}
-use Rattle.site_store.specs.Records.{after_key}
+use Rattle.world_store.specs.Words.{whole_order, IsChangeKey, change_key_spelling, change_key_cmp, order_change_key, CdKey}
+use Rattle.site_store.specs.Words.{after_key}
+use Rattle.repl_model.specs.Words.{bytes_cmp, sequence_cmp}
 
 -- the number that a key's bytes are
 abbrev key_rank : CdKey → ℕ

@@ -1,19 +1,12 @@
 -- Registrations that are known from earlier changes: proofs.
-use Rattle.std.proofs.Common.{◌≡◌, ℕ, Bool, true, false, cond, List, [], ◌∷◌, length, refl, sym, ap, subst, ◌∙◌}
-use Rattle.std.specs.Prelude.{◌&&◌, nat_le, Some, IfSome}
-use Rattle.std.specs.Str.{bytes_eq}
+use Rattle.std.proofs.Common.{◌≡◌, ℕ, Bool, true, false, cond, List, [], ◌∷◌, length, refl, sym, ap, subst, ◌∙◌, ◌&&◌, nat_le, Some, IfSome, bytes_eq}
 use Rattle.std.proofs.lemmas.Bool.{and_parts}
 use Rattle.std.proofs.lemmas.Slice.Eq.{bytes_eq-Decides}
-use Rattle.repl_types.specs.Sizes.{row_limit}
+use Rattle.world_store.specs.Words.{b32, short_text}
+use Rattle.site_store.specs.Words.{Contents, Table}
+use Rattle.repl_model.specs.Words.{row_limit, CdRow, Change, Placed, DefinedRegistration, rows_of}
 use Rattle.repl_types.specs.declared.area.Area.TheVariants as areas
-use Rattle.repl_types.specs.declared.change_row.CdRow.{CdRow}
-use Rattle.repl_types.specs.declared.record.Change.{Change}
 use Rattle.repl_types.specs.declared.record.Change.TheVariants.{Insert, Update, Delete, Start, Stop}
-use Rattle.repl_types.specs.declared.unit.Placed.{Placed}
-use Rattle.keep_core.specs.Contents.{Contents, Table}
-use Rattle.row_codec.specs.Spelling.{b32, short_text}
-use Rattle.repl_definitions.specs.declared.defined.DefinedRegistration.{DefinedRegistration}
-use Rattle.repl_model.specs.ChangeRows.{rows_of}
 use Rattle.stored_commits.specs.units.StoredChanges.{with_change_row, with_change_rows, is_captured, with_change}
 use Rattle.cd_tables.specs.Known.{IsStatedOf, IsStated, IsFoundAt, IsKnown, known_after}
 use Rattle.cd_tables.specs.Rules.{IsRegistrationOf}

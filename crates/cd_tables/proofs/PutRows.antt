@@ -1,17 +1,9 @@
 -- Change rows are put, one after another: proofs.
-use Rattle.std.proofs.Common.{◌≡◌, ℕ, true, false, List, [], ◌∷◌, ◌++◌, refl, sym, subst, ◌∙◌}
-use Rattle.std.specs.Prelude.{Some}
+use Rattle.std.proofs.Common.{◌≡◌, ℕ, true, false, List, [], ◌∷◌, ◌++◌, refl, sym, subst, ◌∙◌, Some}
+use Rattle.world_store.specs.Words.{IsChangeRow, change_row_spelling, change_key_spelling, IsChangeKey, ChangeRow, RegState, CdKey}
+use Rattle.site_store.specs.Words.{Contents, put_at}
+use Rattle.repl_model.specs.Words.{CdRow, Placed, DefinedRegistration, rows_of}
 use Rattle.repl_types.specs.declared.area.Area.TheVariants as areas
-use Rattle.repl_types.specs.declared.change_row.CdRow.{CdRow}
-use Rattle.repl_types.specs.declared.unit.Placed.{Placed}
-use Rattle.keep_core.specs.Contents.{Contents, put_at}
-use Rattle.repl_definitions.specs.declared.defined.DefinedRegistration.{DefinedRegistration}
-use Rattle.repl_records.specs.Capture.{IsChangeRow, change_row_spelling}
-use Rattle.repl_records.specs.RecordKeys.{change_key_spelling, IsChangeKey}
-use Rattle.repl_records.specs.declared.capture.ChangeRow.{ChangeRow}
-use Rattle.repl_records.specs.declared.capture.RegState.{RegState}
-use Rattle.repl_records.specs.declared.record_keys.CdKey.{CdKey}
-use Rattle.repl_model.specs.ChangeRows.{rows_of}
 use Rattle.stored_commits.specs.units.StoredChanges.{stored_change, with_change_row, with_change_rows, is_captured, with_rows_of}
 use Rattle.cd_tables.specs.Appending.{CanBeStored, Becomes}
 use Rattle.cd_tables.proofs.Shown.{becomes_row, becomes_itself, becomes_then, becomes_if}

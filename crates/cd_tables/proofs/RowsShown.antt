@@ -1,12 +1,9 @@
 -- Contents in which rows were dropped, or show other codes, show no damage that they didn't show before: proofs.
-use Rattle.std.proofs.Common.{◌≡◌, ℕ, zero, suc, sym, ap, ◌∙◌}
-use Rattle.std.specs.Prelude.{None}
-use Rattle.repl_types.specs.declared.area.Area.{Area}
+use Rattle.std.proofs.Common.{◌≡◌, ℕ, zero, suc, sym, ap, ◌∙◌, None}
+use Rattle.site_store.specs.Words.{Contents, Table, Rules, AddsOnlySpelt, ShownBefore, shown_before}
+use Rattle.repl_model.specs.Words.{Area}
 use Rattle.repl_types.specs.declared.area.Area.TheVariants as areas
 use Rattle.repl_types.specs.declared.status.DamageCause.TheVariants as causes
-use Rattle.keep_core.specs.Contents.{Contents, Table}
-use Rattle.site_store.specs.Damage.{Rules, AddsOnlySpelt, ShownBefore}
-use Rattle.site_store.specs.laws.Damage.{shown_before}
 use Rattle.cd_tables.specs.StoredRows.{may_be_row_key, may_be_row, calls_for_state, row_rules}
 
 -- rules that ask for nothing

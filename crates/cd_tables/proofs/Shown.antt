@@ -1,21 +1,10 @@
 -- Contents in which a unit is captured show no damage that wasn't shown before: proofs.
-use Rattle.std.proofs.Common.{◌≡◌, ℕ, zero, suc, Bool, true, false, cond, List, [], ◌∷◌, inr, refl, sym, ap, subst, ◌∙◌}
-use Rattle.std.specs.Prelude.{◌==◌, Option, Some, None}
-use Rattle.std.proofs.lemmas.Bool.{eqb-true}
-use Rattle.repl_types.specs.declared.area.Area.{Area}
+use Rattle.std.proofs.Common.{◌≡◌, ℕ, zero, suc, Bool, true, false, cond, List, [], ◌∷◌, inr, refl, sym, ap, subst, ◌∙◌, ◌==◌, Option, Some, None, eqb-true}
+use Rattle.world_store.specs.Words.{b32, b64, short_text, change_row_spelling, IsChangeRow, uow_spelling, registration_state_spelling, IsRegistrationState, change_key_spelling, IsChangeKey, ChangeRow, RegState, UowRow, CdKey}
+use Rattle.site_store.specs.Words.{Contents, Table, same_key, put_at, Rules, AddsOnlySpelt, ShownBefore, adds_put, shown_before}
+use Rattle.repl_model.specs.Words.{Area, UnitHead}
 use Rattle.repl_types.specs.declared.area.Area.TheVariants as areas
 use Rattle.repl_types.specs.declared.status.DamageCause.TheVariants as causes
-use Rattle.repl_types.specs.declared.unit.UnitHead.{UnitHead}
-use Rattle.keep_core.specs.Contents.{Contents, Table, same_key, put_at}
-use Rattle.row_codec.specs.Spelling.{b32, b64, short_text}
-use Rattle.repl_records.specs.Capture.{change_row_spelling, IsChangeRow, uow_spelling, registration_state_spelling, IsRegistrationState}
-use Rattle.repl_records.specs.RecordKeys.{change_key_spelling, IsChangeKey}
-use Rattle.repl_records.specs.declared.capture.ChangeRow.{ChangeRow}
-use Rattle.repl_records.specs.declared.capture.RegState.{RegState}
-use Rattle.repl_records.specs.declared.capture.UowRow.{UowRow}
-use Rattle.repl_records.specs.declared.record_keys.CdKey.{CdKey}
-use Rattle.site_store.specs.Damage.{Rules, AddsOnlySpelt, ShownBefore}
-use Rattle.site_store.specs.laws.Damage.{adds_put, shown_before}
 use Rattle.stored_commits.specs.units.StoredChanges.{with_uow_row, cleared, with_cleared, with_state}
 use Rattle.cd_tables.specs.Appending.{Becomes}
 use Rattle.cd_tables.specs.Rules.{rules, may_be_key, may_be_value, is_called_for, is_misplaced}

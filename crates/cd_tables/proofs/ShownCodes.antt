@@ -1,35 +1,13 @@
 -- A unit shows another code: proofs.
-use Rattle.std.proofs.Common.{◌≡◌, ℕ, ◌≤◌, ◌^◌, Bool, true, false, cond, List, [], ◌∷◌, refl, sym, ap, subst, ◌∙◌}
-use Rattle.std.specs.Prelude.{◌==◌, Option, Some, None, IfSome}
+use Rattle.std.proofs.Common.{◌≡◌, ℕ, ◌≤◌, ◌^◌, Bool, true, false, cond, List, [], ◌∷◌, refl, sym, ap, subst, ◌∙◌, ◌==◌, Option, Some, None, IfSome, nat_cmp, eqb-true}
 use Rattle.std.specs.List.{AllByRecursion}
-use Rattle.std.specs.Ordering.{nat_cmp}
-use Rattle.std.proofs.lemmas.Bool.{eqb-true}
 use Rattle.std.proofs.lemmas.Option.{same_Some}
-use Rattle.repl_types.specs.declared.area.Area.{Area}
-use Rattle.repl_types.specs.declared.area.Area.TheVariants as areas
-use Rattle.repl_types.specs.declared.status.DamageCause.{DamageCause}
-use Rattle.repl_types.specs.declared.status.DamageCause.TheVariants as causes
-use Rattle.repl_types.specs.declared.fault.Fault.{Fault}
-use Rattle.keep_core.specs.Contents.{Contents, Table, put_at, same_key}
-use Rattle.keep_core.specs.Kept.{Kept}
-use Rattle.row_codec.specs.Spelling.{Is64, b64}
-use Rattle.row_codec.specs.laws.Ones.{one_whole}
-use Rattle.row_codec.specs.laws.Orders.{whole_order, order64}
-use Rattle.repl_records.specs.Capture.{IsUow, uow_spelling}
-use Rattle.repl_records.specs.laws.Capture.{one_uow}
-use Rattle.repl_records.specs.declared.capture.UowRow.{UowRow}
-use Rattle.rows_in_order.specs.Rows.{table_from_rows}
-use Rattle.rows_in_order.specs.laws.ByNumber.{key_same}
-use Rattle.rows_in_order.specs.laws.Rising.{same_is}
+use Rattle.world_store.specs.Words.{Is64, b64, one_whole, whole_order, order64, IsUow, uow_spelling, one_uow, UowRow, table_from_rows, key_same, same_is, RowFits}
+use Rattle.site_store.specs.Words.{Contents, Table, put_at, same_key, Kept, Bounds, AtServer, Fails, Shows, ShownBefore, IsMissing, Misspelt, MissesOrMisreads, sees, adds_put, misspelt_shows, Breaks, read_breaks}
 use Rattle.site_store.specs.declared.sites.Sites.{Sites}
-use Rattle.site_store.specs.Calls.{Bounds, AtServer, Fails}
-use Rattle.site_store.specs.Damage.{Shows, ShownBefore}
-use Rattle.site_store.specs.Records.{IsMissing, Misspelt, MissesOrMisreads}
-use Rattle.site_store.specs.Views.{sees}
-use Rattle.site_store.specs.laws.Damage.{adds_put, misspelt_shows}
-use Rattle.world_store.specs.SpelledRows.{RowFits}
-use Rattle.site_store.specs.one_server.Calls.{Breaks}
-use Rattle.site_store.specs.one_server.laws.Damage.{read_breaks}
+use Rattle.repl_model.specs.Words.{Area, DamageCause, Fault}
+use Rattle.repl_types.specs.declared.area.Area.TheVariants as areas
+use Rattle.repl_types.specs.declared.status.DamageCause.TheVariants as causes
 use Rattle.cd_tables.specs.Dropping.{with_code, codes_set, SetsCode}
 use Rattle.cd_tables.specs.StoredRows.{HasUnit, AreUnitRows, HasUnitRows, row_rules}
 use Rattle.cd_tables.proofs.RowsShown.{rows_shown}

@@ -1,8 +1,7 @@
 -- Starts and stops of registrations: proofs.
 use Rattle.std.proofs.Common.{◌≡◌, ℕ, true, false, refl}
-use Rattle.keep_core.specs.Contents.{Contents}
-use Rattle.repl_records.specs.Capture.{IsRegistrationState}
-use Rattle.repl_records.specs.declared.capture.RegState.{RegState}
+use Rattle.world_store.specs.Words.{IsRegistrationState, RegState}
+use Rattle.site_store.specs.Words.{Contents}
 use Rattle.stored_commits.specs.units.StoredChanges.{with_cleared, with_state, started, stopped}
 use Rattle.cd_tables.specs.Appending.{Becomes}
 use Rattle.cd_tables.proofs.Shown.{becomes_state, becomes_then, becomes_if}

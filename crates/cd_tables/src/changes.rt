@@ -20,7 +20,6 @@ ghost use Rattle.cd_tables.specs.Appending.{CanBeStored, Becomes};
 ghost use Rattle.cd_tables.specs.Known.{IsStated, AppendsKnowing};
 
 use crate::clearing::clear_changes;
-use crate::laws::laws_of_rows;
 use crate::stated::{StatedRegistration, find_registration, known_after};
 use keep_core::Keeper;
 use repl_definitions::DefinedRegistration;
@@ -94,7 +93,6 @@ fn rows_of(
     ensures storable { IfOk result (AllByRecursion CanBeStored) }
     ensures few { IfOk result (λ rows. length rows ≤ 2) }
 {
-    laws_of_rows();
     let mut rows = List::new(alloc);
     change_rows_of_change(alloc, &reg.registration, seq, placed, &mut rows)?;
     Ok(rows)

@@ -28,7 +28,6 @@ mod changes;
 mod clearing;
 mod dropping;
 mod finding;
-mod laws;
 mod registrations;
 mod stated;
 mod units;

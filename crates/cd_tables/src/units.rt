@@ -11,7 +11,6 @@ ghost use Rattle.cd_tables.specs.Rules.{rules};
 ghost use Rattle.cd_tables.specs.Appending.{Becomes, CapturesUnit, IsTyped};
 
 use crate::changes::append_change;
-use crate::laws::laws_of_units;
 use keep_core::Keeper;
 use repl_records::UowRow;
 use repl_types::{Fault, Unit, UnitHead};
@@ -74,7 +73,6 @@ pub fn append_changes<K: Keeper>(
     ensures fault { IfErr result (Breaks rules K.kept sites.old sites.new server) }
     ensures reads { ReadsNoLog K.kept sites.old sites.new }
 {
-    laws_of_units();
     put_unit(sites, alloc, server, &unit.head)?;
     let mut rows = 0;
     let mut known = None;

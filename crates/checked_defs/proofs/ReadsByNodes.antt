@@ -1,15 +1,10 @@
 -- The columns that expressions and predicates read, node by node.
 use Rattle.std.proofs.Common.{◌≡◌, ◌&&◌, ◌++◌, ℕ, ℤ, Bool, true, List, [], ◌∷◌, refl, sym, ap, ◌∙◌}
-use Rattle.repl_definitions.specs.declared.expr.Expr.{Expr, fold-roll-Expr}
+use Rattle.repl_model.specs.Words.{Expr, fold-roll-Expr, Predicate, fold-roll-Predicate, layer_columns, columns_read, layer_tested, columns_tested, is_among, are_among, read_column, tested_compare}
 use Rattle.repl_definitions.specs.declared.expr.Expr.TheOpen as layer
 use Rattle.repl_definitions.specs.declared.expr.Expr.TheVariants as exprs
-use Rattle.repl_definitions.specs.declared.predicate.CompareOp.{CompareOp}
-use Rattle.repl_definitions.specs.declared.predicate.Operand.{Operand}
-use Rattle.repl_definitions.specs.declared.predicate.Predicate.{Predicate, fold-roll-Predicate}
 use Rattle.repl_definitions.specs.declared.predicate.Predicate.TheOpen as test
 use Rattle.repl_definitions.specs.declared.predicate.Predicate.TheVariants as predicates
-use Rattle.repl_model.specs.Rules.{layer_columns, columns_read, operand_columns, layer_tested, columns_tested}
-use Rattle.lists.specs.Lists.{is_among, are_among}
 
 -- what holds of all of two lists, one after the other, holds of all of each
 pub among_both : (places some others : List ℕ) → are_among places (some ++ others) ≡ (are_among places some && are_among places others)
@@ -19,10 +14,6 @@ among_both places (p ∷ ps) others = ap (λ b. is_among places p && b) (among_b
     joined : (a b c : Bool) → (a && (b && c)) ≡ (a && b && c)
     joined true b c = refl
     joined _ b c = refl
-
-pub read_column : (place : ℕ) → columns_read (exprs.Column place) ≡ place ∷ []
-unfolding columns_read
-read_column place = ap columns_read (sym (exprs.rolls-Column place)) ∙ fold-roll-Expr (List ℕ) layer_columns (layer.Column place)
 
 pub read_int : (n : ℤ) → columns_read (exprs.Int n) ≡ []
 unfolding columns_read
@@ -47,10 +38,6 @@ read_mul left right = ap columns_read (sym (exprs.rolls-Mul left right)) ∙ fol
 pub read_concat : (left right : Expr) → columns_read (exprs.Concat left right) ≡ columns_read left ++ columns_read right
 unfolding columns_read
 read_concat left right = ap columns_read (sym (exprs.rolls-Concat left right)) ∙ fold-roll-Expr (List ℕ) layer_columns (layer.Concat left right)
-
-pub tested_compare : (left : Operand) (op : CompareOp) (right : Operand) → columns_tested (predicates.Compare left op right) ≡ operand_columns left ++ operand_columns right
-unfolding columns_tested
-tested_compare left op right = ap columns_tested (sym (predicates.rolls-Compare left op right)) ∙ fold-roll-Predicate (List ℕ) layer_tested (test.Compare left op right)
 
 pub tested_null : (place : ℕ) → columns_tested (predicates.IsNull place) ≡ place ∷ []
 unfolding columns_tested

@@ -1,20 +1,11 @@
 -- Where no rule is broken, nothing is left out.
-use Rattle.std.proofs.Common.{◌≡◌, ◌+◌, ℕ, take, drop, Bool, true, false, not, ◌&&◌, cond, List, [], ◌∷◌, length, Option, Some, None, refl, sym, ap, subst, ◌∙◌}
-use Rattle.std.proofs.lemmas.Bool.{ltb-false}
+use Rattle.std.proofs.Common.{◌≡◌, ◌+◌, ℕ, take, drop, Bool, true, false, not, ◌&&◌, cond, List, [], ◌∷◌, length, Option, Some, None, refl, sym, ap, subst, ◌∙◌, IsTrue, is_some, unwrap_or, nat_lt, find, bytes_eq}
+use Rattle.std.proofs.lemmas.Bool.{ltb-false, and_parts, and_from}
 use Rattle.std.proofs.lemmas.List.Folds.{find_at}
 use Rattle.std.proofs.lemmas.Option.{slice_get_past}
-use Rattle.std.specs.Prelude.{IsTrue, is_some, unwrap_or, nat_lt, find}
-use Rattle.std.specs.List.{filter_map, list_all, position_or_len, position_from}
-use Rattle.std.specs.Option.{option_map, option_map_or, option_and_then, option_or}
-use Rattle.std.specs.Str.{bytes_eq}
-use Rattle.repl_types.specs.Name.{is_name, name_of}
-use Rattle.repl_types.specs.declared.table.ColumnDef.{ColumnDef}
-use Rattle.repl_types.specs.declared.table.Kind.{Kind}
-use Rattle.repl_types.specs.declared.table.TableDef.{TableDef}
-use Rattle.repl_definitions.specs.declared.member.Member.{Member}
-use Rattle.repl_definitions.specs.declared.member.TargetKind.{TargetKind}
-use Rattle.repl_model.specs.Selection.{SourceTable}
-use Rattle.lists.specs.Lists.{is_among}
+use Rattle.std.specs.List.{filter_map, list_all, position_or_len}
+use Rattle.std.specs.Option.{option_map, option_map_or, option_and_then}
+use Rattle.repl_model.specs.Words.{is_name, name_of, ColumnDef, Kind, TableDef, Member, TargetKind, SourceTable, is_among, list_all_weaker, or_none, map_none, chosen_none, none_pass, not_not}
 use Rattle.repl_defs.specs.Trees.{predicate_tree}
 use Rattle.repl_commands.specs.declared.written.RawDefs.{RawDefs}
 use Rattle.repl_commands.specs.declared.written.RawTable.{RawTable}
@@ -34,57 +25,19 @@ use Rattle.spelled_defs.specs.declared.defs.RegistrationAt.{RegistrationAt}
 
 -- ---- tests
 
--- both of two tests
-parts : (a b : Bool) → (a && b) ≡ true → (a ≡ true) × (b ≡ true)
-parts true b h = (refl, h)
-parts false b h = absurd (cc)
-
-joined : (a b : Bool) → a ≡ true → b ≡ true → (a && b) ≡ true
-joined true b h k = k
-joined false b h k = absurd (cc)
-
--- a test that doesn't fail
-not_not : (b : Bool) → not (not b) ≡ true → b ≡ true
-not_not true h = refl
-not_not false h = absurd (cc)
-
 -- what follows from two tests for each element
 all_of_two : {X : Type 0} (p q r : X → Bool) (xs : List X) → ((x : X) → p x ≡ true → q x ≡ true → r x ≡ true) → list_all p xs ≡ true → list_all q xs ≡ true → list_all r xs ≡ true
 all_of_two p q r [] f h k = refl
 all_of_two p q r (x ∷ xs) f h k =
-    let hs = parts (p x) (list_all p xs) h in
-    let ks = parts (q x) (list_all q xs) k in
-    joined (r x) (list_all r xs) (f x hs.0 ks.0) (all_of_two p q r xs f hs.1 ks.1)
-
--- what follows from one
-all_of_one : {X : Type 0} (p r : X → Bool) (xs : List X) → ((x : X) → p x ≡ true → r x ≡ true) → list_all p xs ≡ true → list_all r xs ≡ true
-all_of_one p r xs f h = all_of_two p p r xs (λ x one two. f x one) h h
+    let hs = and_parts (p x) (list_all p xs) h in
+    let ks = and_parts (q x) (list_all q xs) k in
+    and_from (r x) (list_all r xs) (f x hs.0 ks.0) (all_of_two p q r xs f hs.1 ks.1)
 
 -- what follows from three
 all_of_three : {X : Type 0} (p q s r : X → Bool) (xs : List X) → ((x : X) → p x ≡ true → q x ≡ true → s x ≡ true → r x ≡ true) → list_all p xs ≡ true → list_all q xs ≡ true → list_all s xs ≡ true → list_all r xs ≡ true
 all_of_three p q s r xs f h k m =
-    all_of_two (λ x. p x && q x) s r xs (λ x a b. let both = parts (p x) (q x) a in f x both.0 both.1 b)
-    (all_of_two p q (λ x. p x && q x) xs (λ x a b. joined (p x) (q x) a b) h k) m
-
--- nothing first and nothing second
-or_none : {X : Type 0} (a b : Option X) → option_or a b ≡ None → (a ≡ None) × (b ≡ None)
-or_none None b h = (refl, h)
-or_none (Some x) b h = absurd (cc)
-
-map_none : {X Y : Type 0} (f : X → Y) (o : Option X) → option_map f o ≡ None → o ≡ None
-map_none f None h = refl
-map_none f (Some x) h = absurd (cc)
-
-chosen_none : {X : Type 0} (b : Bool) (x : X) (o : Option X) → cond b (Some x) o ≡ None → (not b ≡ true) × (o ≡ None)
-chosen_none true x o h = absurd (cc)
-chosen_none false x o h = (refl, h)
-
--- if no element passes, each fails
-none_pass : {X : Type 0} (p : X → Bool) (n : ℕ) (xs : List X) → position_from p n xs ≡ None → list_all (λ x. not (p x)) xs ≡ true
-none_pass p n [] h = refl
-none_pass p n (x ∷ xs) h =
-    let c = chosen_none (p x) n (position_from p (n + 1) xs) h in
-    joined (not (p x)) (list_all (λ y. not (p y)) xs) c.0 (none_pass p (n + 1) xs c.1)
+    all_of_two (λ x. p x && q x) s r xs (λ x a b. let both = and_parts (p x) (q x) a in f x both.0 both.1 b)
+    (all_of_two p q (λ x. p x && q x) xs (λ x a b. and_from (p x) (q x) a b) h k) m
 
 -- ---- a rule that is kept
 
@@ -104,7 +57,7 @@ no_set_breaks raw context rule n (s ∷ ss) h =
     let c = chosen_none (set_breaks raw rule s) _ _ o.0 in
     let m = none_pass (member_breaks context rule s) 1 s.members (map_none _ _ c.1) in
     let rest = no_set_breaks raw context rule (n + 1) ss o.1 in
-    (joined (not (set_breaks raw rule s)) _ c.0 rest.0, joined (list_all (λ x. not (member_breaks context rule s x)) s.members) _ m rest.1)
+    (and_from (not (set_breaks raw rule s)) _ c.0 rest.0, and_from (list_all (λ x. not (member_breaks context rule s x)) s.members) _ m rest.1)
 
 keeps : (raw : RawDefs) (context : Context) (rule : Rule) → first_place raw context rule ≡ None → Keeps raw context rule
 unfolding first_place
@@ -135,7 +88,7 @@ named bytes h = ap (λ b. cond b (Some bytes) None) h
 -- an entry with a name and a form spells a column
 column_spelled : (entry : List ℕ) → has_column_name entry ≡ true → is_column_entry entry ≡ true → is_some (spelled_column entry) ≡ true
 unfolding spelled_column
-column_spelled entry h k = by (blank_of 32 entry) h (parts _ _ k).1
+column_spelled entry h k = by (blank_of 32 entry) h (and_parts _ _ k).1
   where
     form : (name : List ℕ) (f : Option (Kind × Bool)) → is_some f ≡ true → is_some {T = ColumnDef} (option_and_then (λ (g : Kind × Bool). Some (record { name = name; kind = g.0; nullable = g.1 })) f) ≡ true
     form name (Some g) h1 = refl
@@ -168,24 +121,24 @@ key_column_is_column columns name h =
 whole_table : (raw : RawDefs) (context : Context) (t : RawTable) → not (table_breaks raw context Names t) ≡ true → not (table_breaks raw context Columns t) ≡ true → not (table_breaks raw context Key t) ≡ true → is_whole_table t ≡ true
 unfolding table_breaks spelled_table
 whole_table raw context t names columns key =
-    let n = parts _ _ (not_not (table_has_names t) names) in
-    let n1 = parts _ _ n.0 in
-    let n2 = parts _ _ n1.0 in
-    let n3 = parts _ _ n2.0 in
-    let c = parts _ _ (not_not _ columns) in
-    let k = parts _ _ (not_not _ key) in
-    let k1 = parts _ _ k.0 in
+    let n = and_parts _ _ (not_not (table_has_names t) names) in
+    let n1 = and_parts _ _ n.0 in
+    let n2 = and_parts _ _ n1.0 in
+    let n3 = and_parts _ _ n2.0 in
+    let c = and_parts _ _ (not_not _ columns) in
+    let k = and_parts _ _ (not_not _ key) in
+    let k1 = and_parts _ _ k.0 in
     let spelled : is_some (spelled_table t) ≡ true = rw (named t.server n3.0, named t.name n3.1) refl in
     let entries = all_of_two has_column_name is_column_entry (λ e. is_some (spelled_column e)) t.columns column_spelled n2.1 c.1 in
-    let keys = all_of_one (is_key_column (filter_map spelled_column t.columns)) (is_column (filter_map spelled_column t.columns)) t.key (key_column_is_column (filter_map spelled_column t.columns)) k1.1 in
-    joined _ _ (joined _ _ (joined _ _ spelled entries) keys) k.1
+    let keys = list_all_weaker (is_key_column (filter_map spelled_column t.columns)) (is_column (filter_map spelled_column t.columns)) t.key (key_column_is_column (filter_map spelled_column t.columns)) k1.1 in
+    and_from _ _ (and_from _ _ (and_from _ _ spelled entries) keys) k.1
 
 -- ---- registrations
 
 -- of a table that is found, an after-image fits its columns
 after_whole : (def : TableDef) (after : Option (List (List ℕ))) → after_fits def after ≡ true → list_all (is_column def.columns) (unwrap_or after []) ≡ true
 after_whole def None h = refl
-after_whole def (Some names) h = (parts (list_all (is_column def.columns) names) _ h).0
+after_whole def (Some names) h = (and_parts (list_all (is_column def.columns) names) _ h).0
 
 -- a name of an after-image is that of a column
 image_is_column : (def : TableDef) (after : Option (List (List ℕ))) (name : List ℕ) → is_after_image def after name ≡ true → is_column def.columns name ≡ true
@@ -199,30 +152,30 @@ image_is_column def after name h = by (column_place def.columns name) h
 whole_registration : (raw : RawDefs) (context : Context) (r : RawRegistration) → not (registration_breaks raw context Names r) ≡ true → not (registration_breaks raw context Table r) ≡ true → not (registration_breaks raw context After r) ≡ true → not (registration_breaks raw context Before r) ≡ true → is_whole_registration context.tables r ≡ true
 unfolding registration_breaks spelled_registration
 whole_registration raw context r names table after before =
-    let n = parts _ _ (not_not (registration_has_names r) names) in
-    let n1 = parts _ _ n.0 in
-    let n2 = parts _ _ n1.0 in
+    let n = and_parts _ _ (not_not (registration_has_names r) names) in
+    let n1 = and_parts _ _ n.0 in
+    let n2 = and_parts _ _ n1.0 in
     let spelled : is_some (spelled_registration context.tables r) ≡ true = rw (named r.server n2.0, named r.table n2.1) refl in
     let over = by (find (is_table r.server r.table) context.tables) (not_not _ table) (not_not _ after) (not_not _ before) in
-    joined _ _ (joined _ _ spelled over.0) over.1
+    and_from _ _ (and_from _ _ spelled over.0) over.1
   where
     by : (f : Option TableAt) → is_some (option_map (λ (t : TableAt). t.def) f) ≡ true → option_map_or (λ def. after_fits def r.after) (option_map (λ (t : TableAt). t.def) f) true ≡ true → option_map_or (λ def. list_all (is_after_image def r.after) (unwrap_or r.before [])) (option_map (λ (t : TableAt). t.def) f) true ≡ true
         → (list_all (is_column (option_map_or (λ (t : TableAt). t.def.columns) f [])) (unwrap_or r.after []) ≡ true) × (list_all (is_column (option_map_or (λ (t : TableAt). t.def.columns) f [])) (unwrap_or r.before []) ≡ true)
     by None h1 h2 h3 = absurd (cc)
-    by (Some t) h1 h2 h3 = (after_whole t.def r.after h2, all_of_one (is_after_image t.def r.after) (is_column t.def.columns) (unwrap_or r.before []) (image_is_column t.def r.after) h3)
+    by (Some t) h1 h2 h3 = (after_whole t.def r.after h2, list_all_weaker (is_after_image t.def r.after) (is_column t.def.columns) (unwrap_or r.before []) (image_is_column t.def r.after) h3)
 
 -- ---- sets and members
 
 -- an entry that is read is a column of the target
 entry_whole : (columns : List ColumnDef) (entry : List ℕ) → is_target_entry columns entry ≡ true → is_some (target_column columns entry) ≡ true
-entry_whole columns entry h = (parts _ _ h).1
+entry_whole columns entry h = (and_parts _ _ h).1
 
 -- texts that are read are whole
 texts_whole : (columns : List ColumnDef) (m : RawMember) → texts_are_read columns m ≡ true → has_whole_texts columns m ≡ true
 texts_whole columns m h =
-    let p = parts _ _ h in
-    let q = parts _ _ p.0 in
-    joined _ _ (all_of_one (is_target_entry columns) (λ e. is_some (target_column columns e)) (entries_of m) (entry_whole columns) q.0) q.1
+    let p = and_parts _ _ h in
+    let q = and_parts _ _ p.0 in
+    and_from _ _ (list_all_weaker (is_target_entry columns) (λ e. is_some (target_column columns e)) (entries_of m) (entry_whole columns) q.0) q.1
 
 -- a member with names and a kind is spelled
 member_spelled : (columns : List ColumnDef) (m : RawMember) → is_name m.source ≡ true → is_name m.target ≡ true → is_some (target_kind m) ≡ true → is_some (spelled_member columns m) ≡ true
@@ -240,17 +193,17 @@ member_spelled columns m source target kind =
 whole_member : (context : Context) (s : RawSet) (m : RawMember) → not (member_breaks context Names s m) ≡ true → not (member_breaks context Source s m) ≡ true → not (member_breaks context Texts s m) ≡ true → is_some (target_kind m) ≡ true → is_whole_member context.tables s m ≡ true
 unfolding member_breaks
 whole_member context s m names source texts kind =
-    let n = parts _ _ (not_not (member_has_names m) names) in
-    let n1 = parts _ _ n.0 in
+    let n = and_parts _ _ (not_not (member_has_names m) names) in
+    let n1 = and_parts _ _ n.0 in
     let spelled = member_spelled (columns_at context.tables s.source m.source) m n1.0 n1.1 kind in
-    joined _ _ spelled (by (find (is_table s.source m.source) context.tables) (find (is_registration s.source m.source) context.registrations) spelled (not_not _ source) (not_not _ texts))
+    and_from _ _ spelled (by (find (is_table s.source m.source) context.tables) (find (is_registration s.source m.source) context.registrations) spelled (not_not _ source) (not_not _ texts))
   where
     test : SourceTable → Member → Bool
     test = texts_fit m
 
     fits : (t : TableAt) (g : RegistrationAt) (o : Option Member) → is_some o ≡ true → option_map_or (λ (over : SourceTable × Member). test over.0 over.1) (option_map (λ (x : Member). (as_source_table t.def g.def, x)) o) true ≡ true → texts_are_read t.def.columns m ≡ true
     fits t g None h k = absurd (cc)
-    fits t g (Some x) h k = (parts _ _ (parts _ _ k).0).0
+    fits t g (Some x) h k = (and_parts _ _ (and_parts _ _ k).0).0
 
     by : (f : Option TableAt) (g : Option RegistrationAt) → is_some (spelled_member (option_map_or (λ (t : TableAt). t.def.columns) f []) m) ≡ true
         → is_some (option_and_then (λ (t : TableAt). option_map (λ (r : RegistrationAt). as_source_table t.def r.def) g) f) ≡ true
@@ -264,19 +217,19 @@ whole_member context s m names source texts kind =
 whole_set : (raw : RawDefs) (context : Context) (s : RawSet) → not (set_breaks raw Names s) ≡ true → list_all (is_whole_member context.tables s) s.members ≡ true → is_whole_set context.tables s ≡ true
 unfolding set_breaks spelled_set
 whole_set raw context s names members =
-    let n = parts _ _ (not_not (set_has_names s) names) in
-    let n1 = parts _ _ n.0 in
-    let n2 = parts _ _ n1.0 in
+    let n = and_parts _ _ (not_not (set_has_names s) names) in
+    let n1 = and_parts _ _ n.0 in
+    let n2 = and_parts _ _ n1.0 in
     let spelled : is_some (spelled_set context.tables s) ≡ true = rw (named s.qual n2.0, named s.name n2.1, named s.source n1.1, named s.target n.1) refl in
-    joined _ _ spelled members
+    and_from _ _ spelled members
 
 -- the members of a set are whole
 whole_members : (context : Context) (s : RawSet) → list_all (λ m. not (member_breaks context Names s m)) s.members ≡ true → list_all (λ m. not (member_breaks context Source s m)) s.members ≡ true → list_all (λ m. not (member_breaks context Texts s m)) s.members ≡ true → list_all (λ m. is_some (target_kind m)) s.members ≡ true → list_all (is_whole_member context.tables s) s.members ≡ true
 whole_members context s names sources texts kinds =
     all_of_two (λ m. not (member_breaks context Names s m) && not (member_breaks context Source s m)) (λ m. not (member_breaks context Texts s m) && is_some (target_kind m)) (is_whole_member context.tables s) s.members
-    (λ m a b. let p = parts _ _ a in let q = parts _ _ b in whole_member context s m p.0 p.1 q.0 q.1)
-    (all_of_two _ _ (λ m. not (member_breaks context Names s m) && not (member_breaks context Source s m)) s.members (λ m a b. joined _ _ a b) names sources)
-    (all_of_two _ _ (λ m. not (member_breaks context Texts s m) && is_some (target_kind m)) s.members (λ m a b. joined _ _ a b) texts kinds)
+    (λ m a b. let p = and_parts _ _ a in let q = and_parts _ _ b in whole_member context s m p.0 p.1 q.0 q.1)
+    (all_of_two _ _ (λ m. not (member_breaks context Names s m) && not (member_breaks context Source s m)) s.members (λ m a b. and_from _ _ a b) names sources)
+    (all_of_two _ _ (λ m. not (member_breaks context Texts s m) && is_some (target_kind m)) s.members (λ m a b. and_from _ _ a b) texts kinds)
 
 -- where no rule is broken and each member has a kind, nothing of the text is left out
 pub nothing_left_out : (raw : RawDefs) (context : Context) → first_broken raw context all_rules ≡ None → IsTrue (have_kinds raw) → LeavesNothingOut raw context.tables
@@ -293,12 +246,12 @@ nothing_left_out raw context h kinds =
     record {
       tables = all_of_three _ _ _ is_whole_table raw.tables (whole_table raw context) names.0.tables columns.0.tables key.0.tables;
       registrations = all_of_two (λ r. not (registration_breaks raw context Names r) && not (registration_breaks raw context Table r)) (λ r. not (registration_breaks raw context After r) && not (registration_breaks raw context Before r)) (is_whole_registration context.tables) raw.registrations
-          (λ r a b. let p = parts _ _ a in let q = parts _ _ b in whole_registration raw context r p.0 p.1 q.0 q.1)
-          (all_of_two _ _ (λ r. not (registration_breaks raw context Names r) && not (registration_breaks raw context Table r)) raw.registrations (λ r a b. joined _ _ a b) names.0.registrations table.0.registrations)
-          (all_of_two _ _ (λ r. not (registration_breaks raw context After r) && not (registration_breaks raw context Before r)) raw.registrations (λ r a b. joined _ _ a b) after.0.registrations before.0.registrations);
+          (λ r a b. let p = and_parts _ _ a in let q = and_parts _ _ b in whole_registration raw context r p.0 p.1 q.0 q.1)
+          (all_of_two _ _ (λ r. not (registration_breaks raw context Names r) && not (registration_breaks raw context Table r)) raw.registrations (λ r a b. and_from _ _ a b) names.0.registrations table.0.registrations)
+          (all_of_two _ _ (λ r. not (registration_breaks raw context After r) && not (registration_breaks raw context Before r)) raw.registrations (λ r a b. and_from _ _ a b) after.0.registrations before.0.registrations);
       sets = all_of_two _ _ (is_whole_set context.tables) raw.sets (whole_set raw context) names.0.sets
           (all_of_two (λ s. list_all (λ m. not (member_breaks context Names s m)) s.members && list_all (λ m. not (member_breaks context Source s m)) s.members) (λ s. list_all (λ m. not (member_breaks context Texts s m)) s.members && list_all (λ m. is_some (target_kind m)) s.members) (λ s. list_all (is_whole_member context.tables s) s.members) raw.sets
-          (λ s a b. let p = parts _ _ a in let q = parts _ _ b in whole_members context s p.0 p.1 q.0 q.1)
-          (all_of_two _ _ (λ s. list_all (λ m. not (member_breaks context Names s m)) s.members && list_all (λ m. not (member_breaks context Source s m)) s.members) raw.sets (λ s a b. joined _ _ a b) names.0.members source.0.members)
-          (all_of_two _ _ (λ s. list_all (λ m. not (member_breaks context Texts s m)) s.members && list_all (λ m. is_some (target_kind m)) s.members) raw.sets (λ s a b. joined _ _ a b) texts.0.members kinds));
+          (λ s a b. let p = and_parts _ _ a in let q = and_parts _ _ b in whole_members context s p.0 p.1 q.0 q.1)
+          (all_of_two _ _ (λ s. list_all (λ m. not (member_breaks context Names s m)) s.members && list_all (λ m. not (member_breaks context Source s m)) s.members) raw.sets (λ s a b. and_from _ _ a b) names.0.members source.0.members)
+          (all_of_two _ _ (λ s. list_all (λ m. not (member_breaks context Texts s m)) s.members && list_all (λ m. is_some (target_kind m)) s.members) raw.sets (λ s a b. and_from _ _ a b) texts.0.members kinds));
     }

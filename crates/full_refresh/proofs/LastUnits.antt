@@ -1,17 +1,9 @@
 -- The time at the last commit of a log is that of its last unit: proofs.
-use Rattle.std.proofs.Common.{◌≡◌, ℕ, ◌+◌, ◌<◌, ◌≤◌, true, List, [], ◌∷◌, ◌++◌, length, sym, ap, subst, ◌∙◌, arith}
-use Rattle.std.specs.Prelude.{nat_le, Option}
+use Rattle.std.proofs.Common.{◌≡◌, ℕ, ◌+◌, ◌<◌, ◌≤◌, true, List, [], ◌∷◌, ◌++◌, length, sym, ap, subst, ◌∙◌, arith, nat_le, le-leb, append_assoc, append-nil}
 use Rattle.std.specs.List.{AllByRecursion}
-use Rattle.std.proofs.lemmas.Bool.{le-leb}
-use Rattle.std.proofs.lemmas.List.{append_assoc, append-nil}
-use Rattle.repl_types.specs.laws.Lists.{all_append, all_weaker, filter_all}
-use Rattle.repl_types.specs.declared.record.Change.{Change}
-use Rattle.repl_types.specs.declared.record.LogRecord.{LogRecord}
+use Rattle.repl_model.specs.Words.{all_append, all_weaker, filter_all, Change, LogRecord, open_changes, unit_of, units, last_seq, last_time, last_commit, time_at, last_commit_commit, seqs_within, units_abort, units_change, units_commit}
 use Rattle.repl_types.specs.declared.record.LogRecord.TheVariants as records
-use Rattle.repl_types.specs.declared.record.SetId.{SetId}
 use Rattle.repl_types.specs.declared.unit.Unit.{Unit as LogUnit}
-use Rattle.repl_model.specs.Units.{open_changes, unit_of, units, last_seq, last_time, last_commit}
-use Rattle.repl_model.specs.SourceAt.{time_at}
 
 -- what is so of the empty list, and of a list with one more element if it is so of the list, is so of every list
 from_end : {X : Type 0} (P : List X → Type 0) → P [] → ((xs : List X) (x : X) → P xs → P (xs ++ x ∷ [])) → (xs : List X) → P xs
@@ -21,34 +13,25 @@ from_end {X} P none more xs = go [] xs none
     go front [] p = subst P (sym (append-nil front)) p
     go front (x ∷ back) p = subst P (append_assoc front (x ∷ []) back) (go (front ++ x ∷ []) back (more front x p))
 
--- What one more record does to the units of a log.
-pub record Grows : Type 0 where
-  pub change : (tx : ℕ) (change : Change) (log : List LogRecord) → units (log ++ records.Change tx change ∷ []) ≡ units log
-  pub commit : (tx time : ℕ) (authid : List ℕ) (origin : Option SetId) (log : List LogRecord) → units (log ++ records.Commit tx time authid origin ∷ []) ≡ units log ++ unit_of (length log + 1) time authid origin (open_changes tx log) ∷ []
-  pub last : (tx time : ℕ) (authid : List ℕ) (origin : Option SetId) (log : List LogRecord) → last_commit (log ++ records.Commit tx time authid origin ∷ []) ≡ length log + 1
-  pub abort : (tx : ℕ) (log : List LogRecord) → units (log ++ records.Abort tx ∷ []) ≡ units log
-  pub seqs : (log : List LogRecord) → AllByRecursion (λ u. (0 < u.head.seq) × (u.head.seq ≤ length log)) (units log)
-
 -- no unit lies after the last
 abbrev AllBefore : List LogUnit → Type 0
 AllBefore us = AllByRecursion (λ (u : LogUnit). u.head.seq ≤ last_seq us) us
 
-module _ (grows : Grows) where
-  none_before : AllBefore (units [])
-  unfolding units
-  none_before = tt
+none_before : AllBefore (units [])
+unfolding units
+none_before = tt
 
-  one_before : (log : List LogRecord) (x : LogRecord) → AllBefore (units log) → AllBefore (units (log ++ x ∷ []))
-  one_before log (records.Change tx change) all = subst AllBefore (sym (grows.change tx change log)) all
-  one_before log (records.Commit tx time authid origin) all =
-      let last = unit_of (length log + 1) time authid origin (open_changes tx log) in
-      let end : last_seq (units log ++ last ∷ []) ≡ length log + 1 = ap last_seq (sym (grows.commit tx time authid origin log)) ∙ grows.last tx time authid origin log in
-      subst AllBefore (sym (grows.commit tx time authid origin log)) (subst (λ (n : ℕ). AllByRecursion (λ (u : LogUnit). u.head.seq ≤ n) (units log ++ last ∷ [])) (sym end)
-      (all_append (λ (u : LogUnit). u.head.seq ≤ length log + 1) (units log) (last ∷ []) (all_weaker (λ (u : LogUnit). (0 < u.head.seq) × (u.head.seq ≤ length log)) (λ (u : LogUnit). u.head.seq ≤ length log + 1) (units log) (λ u h. omega (arith, h.1)) (grows.seqs log)) (omega arith, tt)))
-  one_before log (records.Abort tx) all = subst AllBefore (sym (grows.abort tx log)) all
+one_before : (log : List LogRecord) (x : LogRecord) → AllBefore (units log) → AllBefore (units (log ++ x ∷ []))
+one_before log (records.Change tx change) all = subst AllBefore (sym (units_change tx change log)) all
+one_before log (records.Commit tx time authid origin) all =
+    let last = unit_of (length log + 1) time authid origin (open_changes tx log) in
+    let end : last_seq (units log ++ last ∷ []) ≡ length log + 1 = ap last_seq (sym (units_commit tx time authid origin log)) ∙ last_commit_commit tx time authid origin log in
+    subst AllBefore (sym (units_commit tx time authid origin log)) (subst (λ (n : ℕ). AllByRecursion (λ (u : LogUnit). u.head.seq ≤ n) (units log ++ last ∷ [])) (sym end)
+    (all_append (λ (u : LogUnit). u.head.seq ≤ length log + 1) (units log) (last ∷ []) (all_weaker (λ (u : LogUnit). (0 < u.head.seq) × (u.head.seq ≤ length log)) (λ (u : LogUnit). u.head.seq ≤ length log + 1) (units log) (λ u h. omega (arith, h.1)) (seqs_within log)) (omega arith, tt)))
+one_before log (records.Abort tx) all = subst AllBefore (sym (units_abort tx log)) all
 
-  -- so the time there is that of the last
-  pub time_is_last : (log : List LogRecord) → time_at log (last_commit log) ≡ last_time (units log)
-  unfolding time_at
-  time_is_last log = ap last_time (filter_all (λ (u : LogUnit). nat_le u.head.seq (last_commit log)) (units log)
-      (all_weaker (λ (u : LogUnit). u.head.seq ≤ last_commit log) (λ (u : LogUnit). nat_le u.head.seq (last_commit log) ≡ true) (units log) (λ u h. le-leb u.head.seq (last_commit log) h) (from_end (λ (l : List LogRecord). AllBefore (units l)) none_before one_before log)))
+-- so the time there is that of the last
+pub time_is_last : (log : List LogRecord) → time_at log (last_commit log) ≡ last_time (units log)
+unfolding time_at
+time_is_last log = ap last_time (filter_all (λ (u : LogUnit). nat_le u.head.seq (last_commit log)) (units log)
+    (all_weaker (λ (u : LogUnit). u.head.seq ≤ last_commit log) (λ (u : LogUnit). nat_le u.head.seq (last_commit log) ≡ true) (units log) (λ u h. le-leb u.head.seq (last_commit log) h) (from_end (λ (l : List LogRecord). AllBefore (units l)) none_before one_before log)))

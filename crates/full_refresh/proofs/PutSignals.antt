@@ -1,20 +1,10 @@
 -- The transaction of a signal: proofs.
-use Rattle.std.proofs.Common.{◌≡◌, ℕ, subst}
-use Rattle.std.specs.Prelude.{Option, Some}
+use Rattle.std.proofs.Common.{◌≡◌, ℕ, subst, Option, Some}
+use Rattle.world_store.specs.Words.{b32, mark_spelling, SyncMark}
+use Rattle.site_store.specs.Words.{Contents, Kept, work, IsOpenAt, Sets, Puts, Rules, joined, GoesOn, goes_then, goes_put, goes_as}
+use Rattle.site_store.specs.declared.sites.Sites.{Sites}
 use Rattle.repl_types.specs.declared.area.Area.TheVariants as areas
 use Rattle.repl_types.specs.declared.unit.Unit.{Unit as LogUnit}
-use Rattle.keep_core.specs.Contents.{Contents}
-use Rattle.keep_core.specs.Kept.{Kept}
-use Rattle.row_codec.specs.Spelling.{b32}
-use Rattle.repl_records.specs.Prune.{mark_spelling}
-use Rattle.repl_records.specs.declared.prune.SyncMark.{SyncMark}
-use Rattle.site_store.specs.declared.sites.Sites.{Sites}
-use Rattle.site_store.specs.Views.{work, IsOpenAt}
-use Rattle.site_store.specs.Works.{Sets}
-use Rattle.site_store.specs.Calls.{Puts}
-use Rattle.site_store.specs.Damage.{Rules, joined}
-use Rattle.site_store.specs.one_server.Calls.{GoesOn}
-use Rattle.site_store.specs.one_server.laws.Steps.{goes_then, goes_put, goes_as}
 use Rattle.source_log.specs.Rules.{all_rules}
 use Rattle.source_log.specs.Units.{AppendsUnit, AppendsIfRoom, table_rules}
 use Rattle.full_refresh.specs.PutSignals.{PutsSignal}

@@ -1,16 +1,8 @@
 -- The steps of a refresh, one after another, and who is to blame if one fails: proofs.
-use Rattle.std.proofs.Common.{◌≡◌, inl, inr, subst}
-use Rattle.std.specs.Prelude.{Option}
-use Rattle.repl_types.specs.declared.area.Area.{Area}
-use Rattle.repl_types.specs.declared.status.DamageCause.{DamageCause}
-use Rattle.repl_types.specs.declared.fault.Fault.{Fault}
-use Rattle.keep_core.specs.Contents.{Contents}
-use Rattle.keep_core.specs.Kept.{Kept}
+use Rattle.std.proofs.Common.{◌≡◌, inl, inr, subst, Option}
+use Rattle.site_store.specs.Words.{Contents, Kept, Shows, Damages, Looks, Breaks, stops_as, stops_after, looks_sees}
 use Rattle.site_store.specs.declared.sites.Sites.{Sites}
-use Rattle.site_store.specs.Damage.{Shows, Damages}
-use Rattle.site_store.specs.one_server.Calls.{Looks, Breaks}
-use Rattle.site_store.specs.one_server.laws.Faults.{stops_as, stops_after}
-use Rattle.site_store.specs.one_server.laws.Reads.{looks_sees}
+use Rattle.repl_model.specs.Words.{Area, DamageCause, Fault}
 use Rattle.source_log.specs.Rules.{all_rules}
 use Rattle.subs_sets.specs.Rules.{state_rules}
 use Rattle.set_places.specs.declared.placed_set.PlacedSet.{PlacedSet}

@@ -1,36 +1,14 @@
 -- What a refresh makes of a world: proofs.
-use Rattle.std.proofs.Common.{◌≡◌, ◌⊎◌, ℕ, Bool, false, true, List, length, inl, inr, refl, sym, ap, subst, ◌∙◌}
-use Rattle.std.specs.Prelude.{Option}
+use Rattle.std.proofs.Common.{◌≡◌, ◌⊎◌, ℕ, Bool, false, true, List, length, inl, inr, refl, sym, ap, subst, ◌∙◌, Option}
 use Rattle.std.specs.Option.{option_map_or}
-use Rattle.repl_types.specs.declared.area.Area.{Area}
-use Rattle.repl_types.specs.declared.record.LogRecord.{LogRecord}
-use Rattle.repl_types.specs.declared.status.DamageCause.{DamageCause}
-use Rattle.repl_types.specs.declared.fault.Counts.{Counts}
-use Rattle.repl_types.specs.declared.fault.Fault.{Fault}
+use Rattle.world_store.specs.Words.{Head, head_of, Holds, Reveals, Stands, source_time, set_rows_refreshed, trail_entry}
+use Rattle.site_store.specs.Words.{Contents, Kept, names, held, sees}
+use Rattle.site_store.specs.declared.sites.Sites.{Sites}
+use Rattle.repl_model.specs.Words.{Area, DamageCause, Counts, Fault, TargetKind, base_point, refresh_entry, refreshed, after_action, Action, signals, refreshes, time_at, IsSound, read_only_sets, refresh, units, last_commit, last_time, Server, World, KnownSet, known_sets, known_stands, In}
 use Rattle.repl_types.specs.declared.fault.Fault.TheVariants as faults
 use Rattle.repl_types.specs.declared.fault.Stepped.TheVariants as steps
-use Rattle.keep_core.specs.Contents.{Contents}
-use Rattle.keep_core.specs.Kept.{Kept}
-use Rattle.repl_definitions.specs.declared.member.TargetKind.{TargetKind}
-use Rattle.repl_records.specs.declared.source_side.Head.{Head}
-use Rattle.repl_model.specs.AfterActions.{base_point, refresh_entry, refreshed, after_action}
-use Rattle.repl_model.specs.NextActions.{Action, signals, refreshes}
-use Rattle.repl_model.specs.SourceAt.{time_at}
-use Rattle.repl_model.specs.Sound.{IsSound}
-use Rattle.repl_model.specs.SoundDefinitions.{read_only_sets}
-use Rattle.repl_model.specs.Trails.{refresh}
-use Rattle.repl_model.specs.Units.{units, last_commit, last_time}
-use Rattle.repl_model.specs.World.{Server, World, KnownSet, known_sets}
-use Rattle.world_store.specs.LogRows.{head_of}
-use Rattle.world_store.specs.Stands.{Holds, Reveals, Stands}
-use Rattle.world_store.specs.TargetRows.{source_time, set_rows_refreshed, trail_entry}
-use Rattle.repl_model.specs.laws.KnownSets.{known_stands}
-use Rattle.lists.specs.laws.Members.{In}
-use Rattle.site_store.specs.declared.sites.Sites.{Sites}
-use Rattle.site_store.specs.Views.{names, held, sees}
-use Rattle.stored_commits.specs.actions.ActedServers.{RefreshHolds, OthersHoldAfterStep}
-use Rattle.stored_commits.specs.actions.StoredSteps.{is_numbered, PutsStep, refreshed_state, RefreshIsStored}
-use Rattle.world_commits.specs.actions.StaysSound.{NextActionsSound, HasRoom}
+use Rattle.stored_commits.specs.actions.StoredSteps.{is_numbered, PutsStep, refreshed_state}
+use Rattle.world_commits.specs.actions.StaysSound.{HasRoom}
 use Rattle.subs_sets.specs.States.{state_in}
 use Rattle.subs_sets.specs.declared.states.ReadOnlyState.{ReadOnlyState}
 use Rattle.set_places.specs.declared.placed_set.PlacedSet.{PlacedSet}
@@ -45,10 +23,14 @@ use Rattle.target_steps.specs.Taking.{CanStep}
 use Rattle.target_steps.specs.Steps.{PutsTargets, PutsSomeTargets}
 use Rattle.target_steps.specs.laws.Stepped.{none_numbered, counts_are, step_put, has_targets}
 use Rattle.full_refresh.specs.Refreshes.{IsRefreshNext, HasRefreshed}
+use Rattle.world_commits.specs.laws.ActionsStaySound.{next_actions_sound}
+use Rattle.stored_commits.specs.laws.Steps.{others_hold_step, refresh_holds}
+use Rattle.stored_commits.specs.laws.StepTables.{refresh_is_stored}
+use Rattle.full_refresh.proofs.LastUnits.{time_is_last}
 
 -- ---- in a world
 
-module _ (sound_next : NextActionsSound) (target_holds : RefreshHolds) (stored : RefreshIsStored) (time : (log : List LogRecord) → time_at log (last_commit log) ≡ last_time (units log)) (takes : TargetKind → Bool) (unnumbered : (kind : TargetKind) → takes kind ≡ true → is_numbered kind ≡ false) (w : World) (k : KnownSet) (set : PlacedSet) (sound : IsSound w) (placed : IsPlacedAs w k set) (read_only : IsReadOnly k) (next : IsRefreshNext takes k) where
+module _ (takes : TargetKind → Bool) (unnumbered : (kind : TargetKind) → takes kind ≡ true → is_numbered kind ≡ false) (w : World) (k : KnownSet) (set : PlacedSet) (sound : IsSound w) (placed : IsPlacedAs w k set) (read_only : IsReadOnly k) (next : IsRefreshNext takes k) where
   -- the set is one of the read-only sets
   among : In k (read_only_sets (known_sets w))
   among = is_among w k set placed read_only
@@ -59,7 +41,7 @@ module _ (sound_next : NextActionsSound) (target_holds : RefreshHolds) (stored :
 
   -- it is sound
   sound_after : IsSound after
-  sound_after = subst (λ (a : Action). IsSound (after_action w k a)) next.0 (sound_next w k sound among (λ is. by_other (sym is ∙ next.0)))
+  sound_after = subst (λ (a : Action). IsSound (after_action w k a)) next.0 (next_actions_sound w k sound among (λ is. by_other (sym is ∙ next.0)))
     where
       by_other : ◌≡◌ {A = Action} signals refreshes → HasRoom k
       by_other e = absurd (apart e)
@@ -73,7 +55,7 @@ module _ (sound_next : NextActionsSound) (target_holds : RefreshHolds) (stored :
 
   -- and the time there is that of the last commit
   time_is : source_time w k.at_target.def point ≡ last_time (units k.source.log)
-  time_is = ap (λ (o : Option Server). option_map_or (λ source. time_at source.log point) o 0) (known_stands w k placed.known).source ∙ time k.source.log
+  time_is = ap (λ (o : Option Server). option_map_or (λ source. time_at source.log point) o 0) (known_stands w k placed.known).source ∙ time_is_last k.source.log
 
   -- the refresh can be made, since its point is the last commit
   abbrev step : Step
@@ -101,31 +83,31 @@ module _ (sound_next : NextActionsSound) (target_holds : RefreshHolds) (stored :
         (step_put takes unnumbered w k set sound placed read_only step can next.1 kept shows sites reveals at.time known known_is counts c d holds puts_there (base_point k))
 
     -- so the target holds what the world after the refresh calls for
-    pub refresh_holds : Holds after (refreshed k.at_target.def (refresh_entry k) k.target) d
-    refresh_holds = target_holds w k set.at_target.number (refresh_entry k) c d sound among placed.at_target holds
-        (stored w k set.at_target.number point (base_point k) c d sound among placed.at_target sound_after holds (none_numbered takes unnumbered w k set sound placed read_only step can next.1) put
+    pub refreshed_holds : Holds after (refreshed k.at_target.def (refresh_entry k) k.target) d
+    refreshed_holds = refresh_holds w k set.at_target.number (refresh_entry k) c d sound among placed.at_target holds
+        (refresh_is_stored w k set.at_target.number point (base_point k) c d sound among placed.at_target sound_after holds (none_numbered takes unnumbered w k set sound placed read_only step can next.1) put
         (has_targets takes unnumbered w k set sound placed read_only step can next.1 kept shows sites reveals at.time known known_is counts c d holds puts_there (base_point k)))
 
   -- ---- at the servers
 
   module _ {K : Type 0} (kept : K → Kept) (shows : Area → DamageCause → Option Contents → Type 0) (s0 s1 s2 : Sites K) (stands : Stands (names s0) (held kept s0) w) (reveals : Reveals w k.source (sees kept s1 set.source)) (at : Head) (at_is : at ≡ head_of k.source) (known : ReadOnlyState) (known_is : known ≡ state_in w k) where
     -- once the refresh is put, they stand for the world after it
-    pub has_refreshed : OthersHoldAfterStep → HasStepped kept s0 s2 set.target (PutsSomeTargets kept takes shows s1 set (Refresh at.commit) at.time known) → HasBecome kept s0 s2 after
-    has_refreshed others stepped = has_become kept s0 s2 w set.target k.target (refreshed k.at_target.def (refresh_entry k)) (PutsSomeTargets kept takes shows s1 set (Refresh at.commit) at.time known) stands placed.target (λ s. refl) sound_after
-        (λ c d holds p. refresh_holds kept shows s1 reveals at at_is known known_is p.0 c d holds p.1)
-        (λ other c i apart holds. (others w k (refresh_entry k) other c holds).1) stepped
+    pub has_refreshed : HasStepped kept s0 s2 set.target (PutsSomeTargets kept takes shows s1 set (Refresh at.commit) at.time known) → HasBecome kept s0 s2 after
+    has_refreshed stepped = has_become kept s0 s2 w set.target k.target (refreshed k.at_target.def (refresh_entry k)) (PutsSomeTargets kept takes shows s1 set (Refresh at.commit) at.time known) stands placed.target (λ s. refl) sound_after
+        (λ c d holds p. refreshed_holds kept shows s1 reveals at at_is known known_is p.0 c d holds p.1)
+        (λ other c i apart holds. (others_hold_step w k (refresh_entry k) other c holds).1) stepped
 
     -- if the call failed, they may still stand for the world before it, and for the one after it only if a keeper failed
-    pub may_have_refreshed : OthersHoldAfterStep → (e : Fault) → (held kept s2 ≡ held kept s0) ⊎ ((e ≡ faults.Keeper set.target) × HasStepped kept s0 s2 set.target (PutsSomeTargets kept takes shows s1 set (Refresh at.commit) at.time known)) → HasBecome kept s0 s2 w ⊎ ((s : ℕ) × (e ≡ faults.Keeper s) × HasBecome kept s0 s2 after)
-    may_have_refreshed others e (inl same) = inl (subst (λ (h : List (Option Contents)). Stands (names s0) h w) (sym same) stands)
-    may_have_refreshed others e (inr stepped) = inr (set.target, stepped.0, has_refreshed others stepped.1)
+    pub may_have_refreshed : (e : Fault) → (held kept s2 ≡ held kept s0) ⊎ ((e ≡ faults.Keeper set.target) × HasStepped kept s0 s2 set.target (PutsSomeTargets kept takes shows s1 set (Refresh at.commit) at.time known)) → HasBecome kept s0 s2 w ⊎ ((s : ℕ) × (e ≡ faults.Keeper s) × HasBecome kept s0 s2 after)
+    may_have_refreshed e (inl same) = inl (subst (λ (h : List (Option Contents)). Stands (names s0) h w) (sym same) stands)
+    may_have_refreshed e (inr stepped) = inr (set.target, stepped.0, has_refreshed stepped.1)
 
     -- what is answered is the point and the rows
-    pub has_answered : OthersHoldAfterStep → (counts : Counts) → HasStepped kept s0 s2 set.target (PutsTargets kept takes shows s1 set (Refresh at.commit) at.time known counts) → HasRefreshed kept s0 s2 w k (steps.Refresh at.commit counts.rows)
-    has_answered others counts stepped =
+    pub has_answered : (counts : Counts) → HasStepped kept s0 s2 set.target (PutsTargets kept takes shows s1 set (Refresh at.commit) at.time known counts) → HasRefreshed kept s0 s2 w k (steps.Refresh at.commit counts.rows)
+    has_answered counts stepped =
         let r = revealed_at_place (names s0) (held kept s0) w set.target k.target stands placed.target in
         let d = stepped r.0 r.1 in
         let put = rows_are kept shows s1 reveals at at_is known known_is counts r.0 d.0 r.2 d.2 in (
-          has_refreshed others (λ b is. let e = stepped b is in (e.0, e.1, (counts, e.2))),
+          has_refreshed (λ b is. let e = stepped b is in (e.0, e.1, (counts, e.2))),
           λ i. steps.Refresh (at_is i).commit (put i),
         )

@@ -1,21 +1,10 @@
 -- The records of a set's signal can be put into a log: proofs.
-use Rattle.std.proofs.Common.{◌≡◌, ℕ, Bool, true, false, cond, List, [], ◌∷◌, ◌++◌, map, ap, arith}
-use Rattle.std.specs.Prelude.{Some, fold}
+use Rattle.std.proofs.Common.{◌≡◌, ℕ, Bool, true, false, cond, List, [], ◌∷◌, ◌++◌, map, ap, arith, Some, fold, bytes_eq}
 use Rattle.std.specs.List.{AllByRecursion, list_any}
-use Rattle.std.specs.Str.{bytes_eq}
 use Rattle.std.proofs.lemmas.Simd.{map-map}
-use Rattle.repl_types.specs.declared.record.LogRecord.{LogRecord}
+use Rattle.world_store.specs.Words.{IsLogRecord, Is64, IsName, log_storable}
+use Rattle.repl_model.specs.Words.{LogRecord, all_append, IsMember, IsSetDef, Member, SetDef, source_tables, signal_records, units, last_time}
 use Rattle.repl_types.specs.declared.record.LogRecord.TheVariants as records
-use Rattle.repl_types.specs.laws.Lists.{all_append}
-use Rattle.row_codec.specs.LogRecords.{IsLogRecord, HasLogSpelling, HasShortRows, log_spelling}
-use Rattle.row_codec.specs.Spelling.{Is64, IsName}
-use Rattle.row_codec.specs.Storable.{IsStorable}
-use Rattle.repl_definitions.specs.Members.{IsMember}
-use Rattle.repl_definitions.specs.Sets.{IsSetDef}
-use Rattle.repl_definitions.specs.declared.member.Member.{Member}
-use Rattle.repl_definitions.specs.declared.set.SetDef.{SetDef}
-use Rattle.repl_model.specs.AfterActions.{source_tables, signal_records}
-use Rattle.repl_model.specs.Units.{units, last_time}
 use Rattle.source_log.specs.Units.{own_change, own_commit, unit_records, MayBePut, MayAppendUnit}
 use Rattle.full_refresh.specs.Signals.{with_table, start_of, head_of_signal, unit_of_signal}
 
@@ -45,15 +34,15 @@ pub signal_is_unit : (def : SetDef) (log : List LogRecord) → unit_records (uni
 signal_is_unit def log = ap (λ (l : List LogRecord). l ++ records.Commit 0 (last_time (units log)) def.id.qual (Some def.id) ∷ []) (map-map own_change start_of (source_tables def))
 
 -- each of them can be put
-starts_may : ((x : LogRecord) → IsLogRecord x → HasShortRows x → IsStorable HasLogSpelling log_spelling x) → (names : List (List ℕ)) → AllByRecursion IsName names → AllByRecursion MayBePut (map own_change (map start_of names))
-starts_may storable [] all = tt
-starts_may storable (name ∷ names) all =
+starts_may : (names : List (List ℕ)) → AllByRecursion IsName names → AllByRecursion MayBePut (map own_change (map start_of names))
+starts_may [] all = tt
+starts_may (name ∷ names) all =
     let typed : IsLogRecord (own_change (start_of name)) = (omega arith, all.0) in
-    (record { typed = typed; storable = storable (own_change (start_of name)) typed tt }, starts_may storable names all.1)
+    (record { typed = typed; storable = log_storable (own_change (start_of name)) typed tt }, starts_may names all.1)
 
 -- and so can all records of a signal
-pub signal_may : ((x : LogRecord) → IsLogRecord x → HasShortRows x → IsStorable HasLogSpelling log_spelling x) → (def : SetDef) (time : ℕ) → IsSetDef def → Is64 time → MayAppendUnit (unit_of_signal def time)
-signal_may storable def time is small =
+pub signal_may : (def : SetDef) (time : ℕ) → IsSetDef def → Is64 time → MayAppendUnit (unit_of_signal def time)
+signal_may def time is small =
     let typed : IsLogRecord (own_commit (head_of_signal def time)) = (omega arith, small, is.0.0, is.0) in
-    let commit : MayBePut (own_commit (head_of_signal def time)) = record { typed = typed; storable = storable (own_commit (head_of_signal def time)) typed tt } in
-    all_append MayBePut (map own_change (map start_of (source_tables def))) (own_commit (head_of_signal def time) ∷ []) (starts_may storable (source_tables def) (tables_named def is)) (commit, tt)
+    let commit : MayBePut (own_commit (head_of_signal def time)) = record { typed = typed; storable = log_storable (own_commit (head_of_signal def time)) typed tt } in
+    all_append MayBePut (map own_change (map start_of (source_tables def))) (own_commit (head_of_signal def time) ∷ []) (starts_may (source_tables def) (tables_named def is)) (commit, tt)

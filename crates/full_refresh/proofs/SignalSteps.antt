@@ -1,26 +1,11 @@
 -- The steps of a signal, one after another, and what is known if one fails: proofs.
-use Rattle.std.proofs.Common.{◌≡◌, ℕ, List, [], map, sym, ap, subst, ◌∙◌}
-use Rattle.std.specs.Prelude.{Option, Some, None}
+use Rattle.std.proofs.Common.{◌≡◌, ℕ, List, [], map, sym, ap, subst, ◌∙◌, Option, Some, None}
 use Rattle.std.proofs.lemmas.Option.{slice_get_within, get_or_from_slice_get}
-use Rattle.repl_types.specs.declared.unit.Unit.{Unit as LogUnit}
-use Rattle.repl_types.specs.declared.unit.Placed.{Placed}
-use Rattle.repl_types.specs.declared.fault.Fault.{Fault}
-use Rattle.keep_core.specs.Contents.{Contents}
-use Rattle.keep_core.specs.Kept.{Kept}
-use Rattle.repl_records.specs.declared.prune.SyncMark.{SyncMark}
-use Rattle.repl_model.specs.AfterActions.{source_tables, signal_records}
-use Rattle.repl_model.specs.World.{empty_server, Server, World, KnownSet, server_in}
+use Rattle.world_store.specs.Words.{SyncMark, head_of, Reveals, Stands}
+use Rattle.site_store.specs.Words.{Contents, Kept, AllClosed, names, held, work, sees, Rules, joined, Shows, Damages, IsUndamaged, IsNoDamage, shown_first, shown_second, no_damage, Looks, Breaks, stops_as, stops_after, looks_sees}
 use Rattle.site_store.specs.declared.sites.Sites.{Sites}
-use Rattle.site_store.specs.Servers.{AllClosed}
-use Rattle.site_store.specs.Views.{names, held, work, sees}
-use Rattle.site_store.specs.Damage.{Rules, joined, Shows, Damages, IsUndamaged, IsNoDamage}
-use Rattle.site_store.specs.laws.Damage.{shown_first, shown_second, no_damage}
-use Rattle.site_store.specs.one_server.Calls.{Looks, Breaks}
-use Rattle.site_store.specs.one_server.laws.Faults.{stops_as, stops_after}
-use Rattle.site_store.specs.one_server.laws.Reads.{looks_sees}
-use Rattle.world_store.specs.LogRows.{head_of}
-use Rattle.world_store.specs.Stands.{Reveals, Stands}
-use Rattle.lists.specs.laws.Numbered.{at_place_in}
+use Rattle.repl_model.specs.Words.{Placed, Fault, source_tables, signal_records, empty_server, Server, World, KnownSet, server_in, at_place_in}
+use Rattle.repl_types.specs.declared.unit.Unit.{Unit as LogUnit}
 use Rattle.source_log.specs.Rules.{all_rules}
 use Rattle.source_log.specs.Scanning.{IsSeenAs}
 use Rattle.source_log.specs.Units.{unit_records, table_rules, HasNoRoomFor, ShowsUnitDamage}

@@ -1,34 +1,15 @@
 -- What a signal makes of a world: proofs.
-use Rattle.std.proofs.Common.{◌≡◌, ◌⊎◌, ℕ, ◌+◌, ◌<◌, ◌≤◌, Bool, cond, List, [], ◌∷◌, ◌++◌, length, map, inl, inr, refl, sym, ap, subst, ◌∙◌, arith}
-use Rattle.std.specs.Prelude.{Option, Some, None, IsTrue, ◌||◌}
+use Rattle.std.proofs.Common.{◌≡◌, ◌⊎◌, ℕ, ◌+◌, ◌<◌, ◌≤◌, Bool, cond, List, [], ◌∷◌, ◌++◌, length, map, inl, inr, refl, sym, ap, subst, ◌∙◌, arith, Option, Some, None, IsTrue, ◌||◌, bytes_eq}
 use Rattle.std.specs.List.{AllByRecursion}
-use Rattle.std.specs.Str.{bytes_eq}
 use Rattle.std.proofs.lemmas.List.{length-append, length-map}
-use Rattle.repl_types.specs.declared.record.LogRecord.{LogRecord}
-use Rattle.repl_types.specs.declared.unit.Unit.{Unit as LogUnit}
-use Rattle.repl_types.specs.declared.fault.Fault.{Fault}
-use Rattle.repl_types.specs.declared.fault.Fault.TheVariants as faults
-use Rattle.keep_core.specs.Contents.{Contents}
-use Rattle.keep_core.specs.Kept.{Kept}
-use Rattle.repl_records.specs.declared.prune.SyncMark.{SyncMark}
-use Rattle.repl_model.specs.Applicable.{is_signal, is_change_applicable}
-use Rattle.repl_model.specs.Longer.{with_more}
-use Rattle.repl_model.specs.NextActions.{Action, signals}
-use Rattle.repl_model.specs.AfterActions.{signal_records, signalled, after_action}
-use Rattle.repl_model.specs.Sound.{IsSound}
-use Rattle.repl_model.specs.SoundDefinitions.{read_only_sets, ServerKeepsRules}
-use Rattle.repl_model.specs.SoundLogs.{LogIsSound, log_limit}
-use Rattle.repl_model.specs.World.{Server, World, KnownSet, known_sets, tables_of}
-use Rattle.world_store.specs.Stands.{Holds, Stands}
-use Rattle.world_store.specs.Tables.{first_table}
-use Rattle.lists.specs.laws.Numbered.{at_place_in}
-use Rattle.lists.specs.laws.Members.{In, at_one, image_in}
-use Rattle.repl_model.specs.laws.GrowingServers.{name_itself}
-use Rattle.stored_commits.specs.logs.LongerServers.{Logged}
+use Rattle.world_store.specs.Words.{SyncMark, Holds, Stands, first_table}
+use Rattle.site_store.specs.Words.{Contents, Kept, names, held}
 use Rattle.site_store.specs.declared.sites.Sites.{Sites}
-use Rattle.site_store.specs.Views.{names, held}
-use Rattle.stored_commits.specs.actions.ActedServers.{with_mark, SignalHolds, OthersHoldAfterSignal}
-use Rattle.world_commits.specs.actions.StaysSound.{NextActionsSound}
+use Rattle.repl_model.specs.Words.{LogRecord, Fault, is_signal, is_change_applicable, with_more, Action, signals, signal_records, signalled, after_action, IsSound, read_only_sets, ServerKeepsRules, LogIsSound, log_limit, Server, World, KnownSet, known_sets, tables_of, at_place_in, In, at_one, image_in, name_itself}
+use Rattle.repl_types.specs.declared.unit.Unit.{Unit as LogUnit}
+use Rattle.repl_types.specs.declared.fault.Fault.TheVariants as faults
+use Rattle.stored_commits.specs.logs.LongerServers.{Logged}
+use Rattle.stored_commits.specs.actions.ActedServers.{with_mark}
 use Rattle.source_log.specs.Storing.{IsKept, StoresWhole}
 use Rattle.source_log.specs.Units.{own_change, own_commit, unit_records, AppendsUnit, HasNoRoomFor, HasUnit, ChangesFit}
 use Rattle.source_log.specs.laws.Whole.{held_whole, whole_reads, unit_whole}
@@ -41,6 +22,8 @@ use Rattle.set_places.specs.laws.Standing.{revealed_at_place}
 use Rattle.full_refresh.specs.PutSignals.{PutsSignal}
 use Rattle.full_refresh.specs.Signals.{start_of, IsSignalNext, HasSignalled, length_signalled}
 use Rattle.full_refresh.proofs.PutSignals.{PutsSome}
+use Rattle.world_commits.specs.laws.ActionsStaySound.{next_actions_sound}
+use Rattle.stored_commits.specs.laws.Signals.{others_hold_signal, signal_holds}
 
 -- the log of a source with a signal is sound if that of the signalled source is
 log_of_signalled : (k : KnownSet) → LogIsSound (signalled k.at_source.def k.source) → LogIsSound (with_more (signal_records k.at_source.def k.source.log) k.source)
@@ -55,7 +38,7 @@ starts_fit s (name ∷ names) = (refl, starts_fit s names)
 pub signal_fits : (s : Server) (unit : LogUnit) (def_tables : List (List ℕ)) → unit.changes ≡ map start_of def_tables → ChangesFit s unit
 signal_fits s unit tables is = subst (AllByRecursion (λ placed. IsTrue (is_signal placed.change || is_change_applicable (tables_of s) placed.change))) (sym is) (starts_fit s tables)
 
-module _ (sound_next : NextActionsSound) (source_holds : SignalHolds) (w : World) (k : KnownSet) (set : PlacedSet) (sound : IsSound w) (placed : IsPlacedAs w k set) (read_only : IsReadOnly k) (next : IsSignalNext k) (unit : LogUnit) (made : unit_records unit ≡ signal_records k.at_source.def k.source.log) (known : SyncMark) (marked : known ≡ record { mark = k.at_source.mark; signal = k.at_source.signal }) where
+module _ (w : World) (k : KnownSet) (set : PlacedSet) (sound : IsSound w) (placed : IsPlacedAs w k set) (read_only : IsReadOnly k) (next : IsSignalNext k) (unit : LogUnit) (made : unit_records unit ≡ signal_records k.at_source.def k.source.log) (known : SyncMark) (marked : known ≡ record { mark = k.at_source.mark; signal = k.at_source.signal }) where
   -- the records of the signal
   abbrev more : List LogRecord
   more = signal_records k.at_source.def k.source.log
@@ -74,7 +57,7 @@ module _ (sound_next : NextActionsSound) (source_holds : SignalHolds) (w : World
 
   -- it is sound if the log has room
   sound_after : length k.source.log + length more ≤ log_limit → IsSound after
-  sound_after room = subst (λ (a : Action). IsSound (after_action w k a)) next (sound_next w k sound among (λ is. room))
+  sound_after room = subst (λ (a : Action). IsSound (after_action w k a)) next (next_actions_sound w k sound among (λ is. room))
 
   -- the signalled source is one of its servers
   signalled_in : In (signalled k.at_source.def k.source) after
@@ -117,9 +100,9 @@ module _ (sound_next : NextActionsSound) (source_holds : SignalHolds) (w : World
       logged = record { log = longer.stores.log; source = longer.stores.source; in_flight = longer.stores.in_flight; head = longer.end; others = appended.others }
 
       -- with the mark it holds what the world after the signal calls for
-      pub signal_holds : Holds after (signalled k.at_source.def k.source) (with_mark set.at_source.number (record { mark = known.mark; signal = seq }) m)
-      signal_holds = subst (λ (s : SyncMark). Holds after (signalled k.at_source.def k.source) (with_mark set.at_source.number s m)) (λ i. record { mark = ap (λ (s : SyncMark). s.mark) (sym marked) i; signal = sym seq_is i })
-          (source_holds w k set.at_source.number c m sound among placed.at_source holds logged)
+      pub signalled_holds : Holds after (signalled k.at_source.def k.source) (with_mark set.at_source.number (record { mark = known.mark; signal = seq }) m)
+      signalled_holds = subst (λ (s : SyncMark). Holds after (signalled k.at_source.def k.source) (with_mark set.at_source.number s m)) (λ i. record { mark = ap (λ (s : SyncMark). s.mark) (sym marked) i; signal = sym seq_is i })
+          (signal_holds w k set.at_source.number c m sound among placed.at_source holds logged)
 
   -- ---- at the servers
 
@@ -130,13 +113,13 @@ module _ (sound_next : NextActionsSound) (source_holds : SignalHolds) (w : World
 
   module _ {K : Type 0} (kept_by : K → Kept) (s0 s1 : Sites K) (stands : Stands (names s0) (held kept_by s0) w) where
     -- once the signal is put, the servers stand for the world after it
-    pub has_signalled : OthersHoldAfterSignal → HasStepped kept_by s0 s1 set.source (PutsSome set.at_source.number known unit) → HasBecome kept_by s0 s1 after
-    has_signalled others stepped =
+    pub has_signalled : HasStepped kept_by s0 s1 set.source (PutsSome set.at_source.number known unit) → HasBecome kept_by s0 s1 after
+    has_signalled stepped =
         let r = revealed_at_place (names s0) (held kept_by s0) w set.source k.source stands placed.source in
         let d = (stepped r.0 r.1).2 in
         has_become kept_by s0 s1 w set.source k.source (signalled k.at_source.def) (PutsSome set.at_source.number known unit) stands placed.source (λ s. refl) (sound_after (room r.0 r.2 d.0 d.1.0 d.1.1))
-        (λ c e holds p. subst (Holds after (signalled k.at_source.def k.source)) (sym p.1.2) (signal_holds c holds p.0 p.1.0 p.1.1))
-        (λ other c i apart holds. others w k other c sound among i apart holds) stepped
+        (λ c e holds p. subst (Holds after (signalled k.at_source.def k.source)) (sym p.1.2) (signalled_holds c holds p.0 p.1.0 p.1.1))
+        (λ other c i apart holds. others_hold_signal w k other c sound among i apart holds) stepped
 
     -- and its seq is the last position of the log with it
     pub seq_signalled : (seq : ℕ) → HasStepped kept_by s0 s1 set.source (PutsSignal set.at_source.number known unit seq) → seq ≡ length_signalled k
@@ -154,11 +137,11 @@ module _ (sound_next : NextActionsSound) (source_holds : SignalHolds) (w : World
         omega (arith, full, many)
 
     -- if the call failed, they still stand for the world before it, or the signal was put
-    pub may_have_signalled : OthersHoldAfterSignal → (e : Fault) → (held kept_by s1 ≡ held kept_by s0) ⊎ ((e ≡ faults.Keeper set.source) × HasStepped kept_by s0 s1 set.source (PutsSome set.at_source.number known unit)) → HasBecome kept_by s0 s1 w ⊎ ((s : ℕ) × (e ≡ faults.Keeper s) × HasBecome kept_by s0 s1 after)
-    may_have_signalled others e (inl same) = inl (subst (λ (h : List (Option Contents)). Stands (names s0) h w) (sym same) stands)
-    may_have_signalled others e (inr stepped) = inr (set.source, stepped.0, has_signalled others stepped.1)
+    pub may_have_signalled : (e : Fault) → (held kept_by s1 ≡ held kept_by s0) ⊎ ((e ≡ faults.Keeper set.source) × HasStepped kept_by s0 s1 set.source (PutsSome set.at_source.number known unit)) → HasBecome kept_by s0 s1 w ⊎ ((s : ℕ) × (e ≡ faults.Keeper s) × HasBecome kept_by s0 s1 after)
+    may_have_signalled e (inl same) = inl (subst (λ (h : List (Option Contents)). Stands (names s0) h w) (sym same) stands)
+    may_have_signalled e (inr stepped) = inr (set.source, stepped.0, has_signalled stepped.1)
 
     -- what is answered tells which of both was so
-    pub has_answered : OthersHoldAfterSignal → (c : Contents) → Holds w k.source c → (answer : Option ℕ) → HasAnswered kept_by s0 s1 c answer → HasSignalled kept_by s0 s1 w k answer
-    has_answered others c holds None full = (subst (λ (h : List (Option Contents)). Stands (names s0) h w) (sym full.0) stands, has_no_room c holds full.1)
-    has_answered others c holds (Some seq) stepped = (has_signalled others (λ b is. let d = stepped b is in (d.0, d.1, (seq, d.2))), seq_signalled seq stepped)
+    pub has_answered : (c : Contents) → Holds w k.source c → (answer : Option ℕ) → HasAnswered kept_by s0 s1 c answer → HasSignalled kept_by s0 s1 w k answer
+    has_answered c holds None full = (subst (λ (h : List (Option Contents)). Stands (names s0) h w) (sym full.0) stands, has_no_room c holds full.1)
+    has_answered c holds (Some seq) stepped = (has_signalled (λ b is. let d = stepped b is in (d.0, d.1, (seq, d.2))), seq_signalled seq stepped)

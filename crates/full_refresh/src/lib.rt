@@ -16,7 +16,6 @@
 //! refresh is then at 5, unless more was committed before it.
 #![tactic(auto)]
 
-mod laws;
 mod refresh;
 mod signal_unit;
 mod signals;

@@ -12,7 +12,6 @@ ghost use Rattle.set_places.specs.Steps.{MayHaveBecome, BlamesUnchanged};
 ghost use Rattle.full_refresh.specs.Refreshes.{IsRefreshNext, HasRefreshed, IsRefresh};
 ghost use Rattle.full_refresh.specs.Refreshes.{ShowsDamage};
 
-use crate::laws::laws_of_refreshes;
 use keep_core::Keeper;
 use repl_types::{Fault, Stepped};
 use set_places::PlacedSet;
@@ -48,7 +47,6 @@ pub fn refresh_step<K: Keeper, T: Targets<K>>(
         (ShowsDamage K.kept T.shows sites.old set.now)) }
     ensures servers { KeepsServers K.kept sites.old sites.new }
 {
-    laws_of_refreshes();
     let end = last_commit(sites, alloc, set.source)?;
     let known = read_only_state(sites, alloc, set)?;
     let step = Step::Refresh { point: end.commit };

@@ -9,7 +9,6 @@ ghost use Rattle.source_log.specs.Units.{MayAppendUnit};
 ghost use Rattle.full_refresh.specs.Signals.{with_table, start_of, head_of_signal};
 ghost use Rattle.full_refresh.specs.Signals.{unit_of_signal};
 
-use crate::laws::laws_of_records;
 use repl_definitions::SetDef;
 use repl_types::{Change, List, Name, Placed, Unit, UnitHead};
 use std::alloc::{AllocError, Global};
@@ -77,7 +76,6 @@ pub fn signal_unit(alloc: Global, def: &SetDef, time: u64) -> Result<Unit, Alloc
     ensures unit { IfOk result (λ unit. unit ≡ unit_of_signal def.now time) }
     ensures may { IfOk result MayAppendUnit }
 {
-    laws_of_records();
     let names = source_tables(alloc, def)?;
     let changes = starts(alloc, names)?;
     let head = signal_head(def, time)?;

@@ -14,7 +14,6 @@ ghost use Rattle.set_places.specs.Steps.{MayHaveBecome, BlamesUnchanged};
 ghost use Rattle.full_refresh.specs.Signals.{IsSignalNext, HasSignalled, ShowsDamage};
 ghost use Rattle.full_refresh.specs.PutSignals.{IfWhole, HasPutSignal, MayHavePutSignal};
 
-use crate::laws::laws_of_signals;
 use crate::signal_unit::signal_unit;
 use keep_core::Keeper;
 use prune_control::read_mark;
@@ -106,7 +105,6 @@ pub fn signal_step<K: Keeper>(
     ensures same { result ≡ Ok None → held K.kept sites.new ≡ held K.kept sites.old }
     ensures servers { KeepsServers K.kept sites.old sites.new }
 {
-    laws_of_signals();
     let known = read_mark(sites, alloc, set)?;
     let head = last_commit(sites, alloc, set.source)?;
     let unit = signal_unit(alloc, &set.at_source.def, head.time)?;

@@ -1,6 +1,5 @@
 -- What is left of an input, byte by byte.
-use Rattle.std.proofs.Common.{◌≡◌, ℕ, List, ◌∷◌, ◌++◌, Option, Some, None, refl, ap}
-use Rattle.std.specs.Option.{option_map}
+use Rattle.std.proofs.Common.{◌≡◌, ℕ, List, ◌∷◌, ◌++◌, Option, Some, None, refl, ap, option_map}
 use Rattle.line_input.specs.declared.input.Input.{Input}
 use Rattle.line_input.specs.Input.{piece_left, left_of}
 

@@ -1,9 +1,7 @@
 -- What a script has left after one more line was read.
-use Rattle.std.proofs.Common.{◌≡◌, ◌≤◌, ◌<◌, ◌+◌, ◌++◌, ◌∷◌, [], ℕ, List, Option, Some, None, true, false, length, take, refl, sym, ap, ap₂, subst, ◌∙◌, arith, add-one, Bool}
+use Rattle.std.proofs.Common.{◌≡◌, ◌≤◌, ◌<◌, ◌+◌, ◌++◌, ◌∷◌, [], ℕ, List, Option, Some, None, true, false, length, take, refl, sym, ap, ap₂, subst, ◌∙◌, arith, add-one, Bool, nat_lt, if◌then◌else◌, is_some, option_map, option_to_list, IfSome}
 use Rattle.std.proofs.Math.Seq.{take-nil}
 use Rattle.std.proofs.lemmas.Bool.Decides.{nat_tests}
-use Rattle.std.specs.Prelude.{nat_lt, if◌then◌else◌, is_some}
-use Rattle.std.specs.Option.{option_map, option_to_list, IfSome}
 use Rattle.std.specs.Str.Lines.{lines}
 use Rattle.line_input.specs.Limits.{line_limit}
 use Rattle.line_input.specs.Input.{kept_limit, IsPlain, IsLineText, ReadsLine, left_of, budget}

@@ -1,5 +1,5 @@
 -- The lines of a script: which are skipped, and what each other line is to a run.
-use Rattle.std.specs.Prelude.{ℕ, ◌+◌, Bool, true, false, ◌||◌, ◌==◌, nat_lt, if◌then◌else◌, List, [], ◌∷◌, ◌++◌, length, drop, Option, Some, None}
+use Rattle.std.specs.Prelude.{ℕ, ◌+◌, Bool, false, ◌||◌, ◌==◌, nat_lt, if◌then◌else◌, List, [], ◌∷◌, ◌++◌, length, drop, Option, Some, None}
 use Rattle.std.specs.List.{list_all}
 use Rattle.std.specs.Option.{option_map, option_to_list}
 use Rattle.std.specs.Str.Lines.{lines}
@@ -56,10 +56,3 @@ script_from number (line ∷ more) = option_to_list (option_map (λ l. (number, 
 -- the lines of a script
 abbrev pub script_of : List ℕ → List (ℕ × ScriptLine)
 script_of input = script_from 1 (lines input)
-
--- a body line, be it within the limit or not
-abbrev pub is_body : ScriptLine → Bool
-is_body (command text) = false
-is_body (body text) = true
-is_body long_command = false
-is_body long_body = true

@@ -1,9 +1,8 @@
 -- What a script that is read has left, and what its reader keeps.
-use Rattle.std.specs.Prelude.{◌≡◌, ℕ, ◌+◌, ◌<◌, if◌then◌else◌, List, ◌++◌, length, take, drop, Option, Some, is_some}
+use Rattle.std.specs.Prelude.{◌≡◌, ℕ, ◌+◌, if◌then◌else◌, List, ◌++◌, drop, Option, Some, is_some}
 use Rattle.std.specs.Option.{option_map, option_to_list}
 use Rattle.std.specs.Str.Lines.{lines}
-use Rattle.line_input.specs.Limits.{line_limit}
-use Rattle.line_input.specs.Input.{left_of, total_of, budget, kept_limit, IsPlain, NothingAfterEnd}
+use Rattle.line_input.specs.Input.{left_of, total_of, budget, IsPlain, NothingAfterEnd}
 use Rattle.line_input.specs.Lines.{ScriptLine, command, body, long_command, long_body, script_line, script_from}
 use Rattle.line_input.specs.declared.kind.LineKind.{LineKind}
 use Rattle.line_input.specs.declared.kind.LineKind.TheVariants as kinds
@@ -51,11 +50,6 @@ pending s = budget s.input + waiting s
 -- if a read has met the end, the source has no bytes left, if it reveals them
 abbrev pub HasOneSource : Script → Option (List ℕ) → Type 0
 HasOneSource s later = NothingAfterEnd s.input later
-
--- the bytes that are kept of a line over the limit
-pub record IsLong (line kept : List ℕ) : Type 0 where
-  pub long : line_limit < length line
-  pub prefix : kept ≡ take kept_limit line
 
 -- of a line of this kind these bytes are kept: they have no line feed, and by themselves they are such a line too
 abbrev pub IsLineOf : LineKind → List ℕ → Type 0

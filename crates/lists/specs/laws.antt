@@ -3,3 +3,4 @@ pub mod Embedded
 pub mod Numbered
 pub mod Images
 pub mod Places
+pub mod Options

@@ -1,22 +1,10 @@
 -- All rows of a load are put at a server, kind by kind.
 use Rattle.std.proofs.Common.{◌≡◌, ℕ, length, ap, ◌∙◌, arith}
-use Rattle.repl_types.specs.declared.area.Area.TheVariants as areas
-use Rattle.repl_types.specs.declared.fault.Fault.{Fault}
-use Rattle.keep_core.specs.Contents.{Contents}
-use Rattle.keep_core.specs.Kept.{Kept}
-use Rattle.row_codec.specs.Spelling.{b32, short_text, set_spelling}
-use Rattle.repl_definitions.specs.Defined.{defined_table_spelling, defined_registration_spelling}
-use Rattle.repl_definitions.specs.Sets.{source_set_spelling, target_set_spelling}
-use Rattle.repl_records.specs.Capture.{registration_state_spelling}
-use Rattle.repl_records.specs.Prune.{mark_spelling}
+use Rattle.world_store.specs.Words.{b32, short_text, set_spelling, registration_state_spelling, mark_spelling}
+use Rattle.site_store.specs.Words.{Contents, Kept, work, IsOpenAt, NoDamage, WorksOn, Bounds, writes_of_one, both, AtServer, Fails, IsAtMost, at_most_itself, fails_within, works_on}
 use Rattle.site_store.specs.declared.sites.Sites.{Sites}
-use Rattle.site_store.specs.Views.{work, IsOpenAt}
-use Rattle.site_store.specs.Records.{NoDamage}
-use Rattle.site_store.specs.Steps.{WorksOn}
-use Rattle.site_store.specs.Calls.{Bounds, writes_of_one, both, AtServer, Fails}
-use Rattle.site_store.specs.laws.Counts.{IsAtMost, at_most_itself}
-use Rattle.site_store.specs.laws.Damage.{fails_within}
-use Rattle.site_store.specs.laws.Steps.{works_on}
+use Rattle.repl_model.specs.Words.{Fault, defined_table_spelling, defined_registration_spelling, source_set_spelling, target_set_spelling}
+use Rattle.repl_types.specs.declared.area.Area.TheVariants as areas
 use Rattle.load_defs.specs.Putting.{with_put, with_added, added_written}
 use Rattle.load_defs.specs.declared.rows.AddedRows.{AddedRows}
 use Rattle.load_defs.proofs.Faults.{at_most_both, fails_on}

@@ -1,19 +1,15 @@
 -- The commits of a load, server by server.
-use Rattle.std.proofs.Common.{◌≡◌, ℕ, zero, suc, ◌<◌, ◌≤◌, Bool, true, false, cond, List, [], ◌∷◌, ◌++◌, length, map, drop, refl, sym, ap, ap₂, subst, ◌∙◌, arith, append_assoc, append-nil}
-use Rattle.std.specs.Prelude.{Option}
-use Rattle.std.proofs.Math.Seq.{drop-cons}
-use Rattle.keep_core.specs.Contents.{Contents}
-use Rattle.keep_core.specs.Revealed.{Takes}
-use Rattle.keep_core.specs.laws.Revealed.{takes_nothing}
-use Rattle.repl_model.specs.World.{empty_server, Server, World}
+use Rattle.std.proofs.Common.{◌≡◌, ℕ, zero, suc, ◌<◌, ◌≤◌, Bool, true, false, cond, List, [], ◌∷◌, ◌++◌, length, map, drop, refl, sym, ap, ap₂, subst, ◌∙◌, arith, append_assoc, append-nil, Option, drop-cons}
+use Rattle.site_store.specs.Words.{Contents, Takes, takes_nothing}
+use Rattle.repl_model.specs.Words.{empty_server, Server, World}
 use Rattle.run_core.specs.Runs.{Event, commits, last_world, lines_of, Went, Stopped}
 use Rattle.run_core.specs.laws.Runs.{last_append, lines_append, no_part}
 use Rattle.spelled_defs.specs.declared.defs.Defs.{Defs}
 use Rattle.load_laws.specs.worlds.Loads.{load_server, server_at, load_first}
 use Rattle.load_laws.specs.planned.Path.{gains, commits_from}
-use Rattle.load_laws.specs.planned.PlannedLoads.{StaysWithoutGains}
 use Rattle.load_defs.specs.Loading.{load_commits}
 use Rattle.load_defs.proofs.Worlds.{none_loaded}
+use Rattle.load_laws.specs.laws.Gains.{stays_without_gains}
 
 -- the commit at the next server, if it gets something new
 abbrev commit_at : Defs → World → ℕ → List (Event World)
@@ -59,22 +55,22 @@ no_lines defs w (suc n) = lines_append (done defs w n) (commit_at defs w n) ∙ 
     pick false = refl
 
 -- a server that gets nothing new leaves the world as it is
-pub same_world : StaysWithoutGains → (defs : Defs) (w : World) (n : ℕ) → gains defs (server_at w n) ≡ false → load_first defs (suc n) w ≡ load_first defs n w
-same_world stays defs [] zero none = refl
-same_world stays defs [] (suc n) none = refl
-same_world stays defs (s ∷ ss) zero none = ap (λ (u : Server). u ∷ ss) (stays defs s none)
-same_world stays defs (s ∷ ss) (suc n) none = ap (λ (l : World). load_server defs s ∷ l) (same_world stays defs ss n none)
+pub same_world : (defs : Defs) (w : World) (n : ℕ) → gains defs (server_at w n) ≡ false → load_first defs (suc n) w ≡ load_first defs n w
+same_world defs [] zero none = refl
+same_world defs [] (suc n) none = refl
+same_world defs (s ∷ ss) zero none = ap (λ (u : Server). u ∷ ss) (stays_without_gains defs s none)
+same_world defs (s ∷ ss) (suc n) none = ap (λ (l : World). load_server defs s ∷ l) (same_world defs ss n none)
 
 -- the last world that was committed is that of the servers which are loaded
-pub last_done : StaysWithoutGains → (defs : Defs) (w : World) (n : ℕ) → last_world w (done defs w n) ≡ load_first defs n w
-last_done stays defs w zero = sym (none_loaded defs w)
-last_done stays defs w (suc n) = last_append w (done defs w n) (commit_at defs w n) ∙ ap (λ (v : World). last_world v (commit_at defs w n)) (last_done stays defs w n) ∙ pick (gains defs (server_at w n)) refl
+pub last_done : (defs : Defs) (w : World) (n : ℕ) → last_world w (done defs w n) ≡ load_first defs n w
+last_done defs w zero = sym (none_loaded defs w)
+last_done defs w (suc n) = last_append w (done defs w n) (commit_at defs w n) ∙ ap (λ (v : World). last_world v (commit_at defs w n)) (last_done defs w n) ∙ pick (gains defs (server_at w n)) refl
   where
     pick : (b : Bool) → gains defs (server_at w n) ≡ b → last_world (load_first defs n w) (cond b (commits (load_first defs (suc n) w) ∷ []) []) ≡ load_first defs (suc n) w
     pick true e = refl
-    pick false e = sym (same_world stays defs w n e)
+    pick false e = sym (same_world defs w n e)
 
-module _ (stays : StaysWithoutGains) (Means : List (Option Contents) → World → Type 0) (defs : Defs) (w : World) (h : List (Option Contents)) (t : Option (List ℕ)) where
+module _ (Means : List (Option Contents) → World → Type 0) (defs : Defs) (w : World) (h : List (Option Contents)) (t : Option (List ℕ)) where
   -- a load that came to some server stopped there
   pub stopped_at : (n : ℕ) → n ≤ length w → Means h (load_first defs n w) → Stopped Means (load_commits defs w) w h t t
   stopped_at n le at = record {
@@ -82,7 +78,7 @@ module _ (stays : StaysWithoutGains) (Means : List (Option Contents) → World �
     rest = left defs w n;
     part = [];
     split = parted defs w n le;
-    stands = subst (Means h) (sym (last_done stays defs w n)) at;
+    stands = subst (Means h) (sym (last_done defs w n)) at;
     bytes = subst (Takes t t) (sym (append-nil (lines_of (done defs w n)) ∙ no_lines defs w n)) (takes_nothing t);
     is_part = no_part (left defs w n);
   }
@@ -90,7 +86,7 @@ module _ (stays : StaysWithoutGains) (Means : List (Option Contents) → World �
   -- a load that came to all servers happened
   pub went_all : (n : ℕ) → n ≡ length w → Means h (load_first defs n w) → Went Means (load_commits defs w) w h t t
   went_all n all at = record {
-    stands = subst (Means h) (sym (ap (last_world w) whole ∙ last_done stays defs w n)) at;
+    stands = subst (Means h) (sym (ap (last_world w) whole ∙ last_done defs w n)) at;
     bytes = subst (Takes t t) (sym (ap lines_of whole ∙ no_lines defs w n)) (takes_nothing t);
   }
     where

@@ -1,21 +1,11 @@
 -- What contents are after the rows of a load were put.
-use Rattle.std.proofs.Common.{◌≡◌, ℕ, zero, suc, ◌<◌, Bool, cond, List, false, refl, sym, ap, ◌∙◌, arith}
+use Rattle.std.proofs.Common.{◌≡◌, ℕ, zero, suc, ◌<◌, Bool, cond, false, refl, sym, ap, ◌∙◌, arith, ◌==◌}
 use Rattle.std.proofs.lemmas.Bool.Decides.{nat_tests}
-use Rattle.std.specs.Prelude.{◌==◌, Option, Some, None}
-use Rattle.std.specs.Option.{option_or}
-use Rattle.repl_types.specs.declared.area.Area.{Area}
+use Rattle.world_store.specs.Words.{b32, short_text, set_spelling, registration_state_spelling, mark_spelling, first_table, definition_table, capture_table, prune_table, tables, Holds, no_first}
+use Rattle.site_store.specs.Words.{Contents, Table, with_table}
+use Rattle.repl_model.specs.Words.{Area, defined_table_spelling, defined_registration_spelling, source_set_spelling, target_set_spelling, Server, World}
 use Rattle.repl_types.specs.declared.area.Area.TheVariants as areas
-use Rattle.keep_core.specs.Contents.{Contents, Table, with_table}
-use Rattle.row_codec.specs.Spelling.{b32, short_text, set_spelling}
-use Rattle.repl_definitions.specs.Defined.{defined_table_spelling, defined_registration_spelling}
-use Rattle.repl_definitions.specs.Sets.{source_set_spelling, target_set_spelling}
-use Rattle.repl_records.specs.Capture.{registration_state_spelling}
-use Rattle.repl_records.specs.Prune.{mark_spelling}
-use Rattle.repl_model.specs.World.{Server, World}
 use Rattle.spelled_defs.specs.declared.defs.Defs.{Defs}
-use Rattle.world_store.specs.Tables.{no_rows, with_first, first_table, definition_table, capture_table, prune_table, tables}
-use Rattle.world_store.specs.Stands.{Holds}
-use Rattle.world_store.specs.laws.FirstStates.{no_first}
 use Rattle.stored_defs.specs.laws.Standing.{holds_defs}
 use Rattle.load_laws.specs.worlds.Loads.{load_server}
 use Rattle.load_laws.specs.stored.LoadedServers.{is_loaded, Loaded}

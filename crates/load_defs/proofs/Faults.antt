@@ -1,17 +1,9 @@
 -- Faults after other calls, where nothing shows damage; and what is left of the servers.
 use Rattle.std.proofs.Common.{ℕ, ◌∙◌, arith}
-use Rattle.repl_types.specs.declared.area.Area.{Area}
-use Rattle.repl_types.specs.declared.status.DamageCause.{DamageCause}
-use Rattle.repl_types.specs.declared.fault.Fault.{Fault}
-use Rattle.repl_types.specs.declared.fault.Fault.TheVariants as faults
-use Rattle.keep_core.specs.Contents.{Contents}
-use Rattle.keep_core.specs.Kept.{Kept}
+use Rattle.site_store.specs.Words.{Contents, Kept, fault_counts, NoDamage, WorksOn, Bounds, both, NoneFell, AtServer, Blames, Fails, IsAtMost, passes_then}
 use Rattle.site_store.specs.declared.sites.Sites.{Sites}
-use Rattle.site_store.specs.Views.{fault_counts}
-use Rattle.site_store.specs.Records.{NoDamage}
-use Rattle.site_store.specs.Steps.{WorksOn}
-use Rattle.site_store.specs.Calls.{Bounds, both, NoneFell, AtServer, Blames, Fails}
-use Rattle.site_store.specs.laws.Counts.{IsAtMost, passes_then}
+use Rattle.repl_model.specs.Words.{Area, DamageCause, Fault}
+use Rattle.repl_types.specs.declared.fault.Fault.TheVariants as faults
 
 -- the first bounds allow no more than both
 pub at_most_both : (x y : Bounds) → IsAtMost x (both x y)

@@ -1,30 +1,27 @@
 -- If no item of a text is new, nothing is loaded: proofs.
-use Rattle.std.proofs.Common.{◌≡◌, ℕ, suc, Bool, true, false, cond, not, List, [], ◌∷◌, length, map, refl, sym, ap, subst, ◌∙◌, inl, inr, arith}
-use Rattle.std.specs.Prelude.{IsTrue, count_by, filter}
+use Rattle.std.proofs.Common.{◌≡◌, ℕ, suc, Bool, true, false, cond, not, List, [], ◌∷◌, length, map, refl, sym, ap, subst, ◌∙◌, inl, inr, arith, IsTrue, count_by, filter}
 use Rattle.std.proofs.lemmas.List.Sums.{length-filter}
 use Rattle.std.specs.List.{AllByRecursion, list_any}
-use Rattle.repl_definitions.specs.declared.set.SetDef.{SetDef}
-use Rattle.keep_core.specs.Kept.{Kept}
-use Rattle.keep_core.specs.laws.Revealed.{takes_nothing}
-use Rattle.repl_model.specs.World.{Server, World, same_set}
-use Rattle.run_core.specs.Runs.{Event, commits, Went}
+use Rattle.world_store.specs.Words.{Stands}
+use Rattle.site_store.specs.Words.{Kept, takes_nothing, names, held}
 use Rattle.site_store.specs.declared.sites.Sites.{Sites}
-use Rattle.site_store.specs.Views.{names, held}
+use Rattle.repl_model.specs.Words.{SetDef, Server, World, same_set, In}
+use Rattle.run_core.specs.Runs.{Event, commits, Went}
 use Rattle.spelled_defs.specs.Spelled.{is_table, is_registration}
 use Rattle.spelled_defs.specs.declared.defs.Defs.{Defs}
 use Rattle.spelled_defs.specs.declared.defs.RegistrationAt.{RegistrationAt}
 use Rattle.spelled_defs.specs.declared.defs.TableAt.{TableAt}
-use Rattle.world_store.specs.Stands.{Stands}
 use Rattle.load_laws.specs.known.Known.{known_defs}
 use Rattle.load_plan.specs.declared.stored.StoredServer.{StoredServer}
 use Rattle.load_laws.specs.worlds.Loads.{load_first}
-use Rattle.lists.specs.laws.Members.{In}
 use Rattle.load_laws.specs.planned.Path.{gains, commits_from}
-use Rattle.load_laws.specs.planned.Planned.{stored_servers, known_stored}
-use Rattle.load_laws.specs.planned.PlannedLoads.{KnowsStored, AreKnown, KnownTextsAddNothing}
+use Rattle.load_laws.specs.planned.Planned.{known_stored}
+use Rattle.load_laws.specs.planned.PlannedLoads.{AreKnown}
 use Rattle.load_defs.specs.Counts.{loaded_counts, NoneIsNew}
 use Rattle.load_defs.specs.Loading.{AllHappened, load_commits}
 use Rattle.load_defs.proofs.AllServers.{InEach}
+use Rattle.load_laws.specs.laws.Known.{knows_stored}
+use Rattle.load_laws.specs.laws.AllKnown.{known_texts_add_nothing}
 
 -- if a filter keeps no element that fails a test, each passes it
 none_kept : {X : Type 0} (p : X → Bool) (xs : List X) → length (filter (λ x. not (p x)) xs) ≡ 0 → AllByRecursion (λ x. IsTrue (p x)) xs
@@ -58,9 +55,9 @@ no_commits defs w n (s ∷ ss) none =
     ∙ no_commits defs w (suc n) ss (λ t i. none t (inr i))
 
 -- so all of a load has happened before it begins
-pub none_left : KnowsStored → KnownTextsAddNothing → {K : Type 0} (kept : K → Kept) (s0 : Sites K) (defs : Defs) (stored : List StoredServer) → NoneIsNew (loaded_counts (known_stored stored) defs) → InEach kept s0 defs stored (AllHappened kept s0 s0 (load_commits defs))
-none_left knows idle kept s0 defs stored none raw w may is stands t =
-    let known : known_stored stored ≡ known_defs w = ap known_stored is ∙ knows w may.sound in
+pub none_left : {K : Type 0} (kept : K → Kept) (s0 : Sites K) (defs : Defs) (stored : List StoredServer) → NoneIsNew (loaded_counts (known_stored stored) defs) → InEach kept s0 defs stored (AllHappened kept s0 s0 (load_commits defs))
+none_left kept s0 defs stored none raw w may is stands t =
+    let known : known_stored stored ≡ known_defs w = ap known_stored is ∙ knows_stored w may.sound in
     let all : AreKnown w defs = all_known w defs (subst (λ (k : Defs). NoneIsNew (loaded_counts k defs)) known none) in
-    let nothing : load_commits defs w ≡ [] = ap (map commits) (no_commits defs w 0 w (λ s i. idle raw w defs s may.sound may.accepted all i)) in
+    let nothing : load_commits defs w ≡ [] = ap (map commits) (no_commits defs w 0 w (λ s i. known_texts_add_nothing raw w defs s may.sound may.accepted all i)) in
     subst (λ (events : List (Event World)). Went (Stands (names s0)) events w (held kept s0) t t) (sym nothing) (record { stands = stands; bytes = takes_nothing t })

@@ -1,29 +1,19 @@
 -- A text is loaded: what servers keep is read, the load is planned, and the servers are loaded.
-use Rattle.std.proofs.Common.{◌≡◌, ℕ, false, List, [], sym, ap, subst, ◌∙◌}
-use Rattle.std.specs.Prelude.{Option, None}
+use Rattle.std.proofs.Common.{◌≡◌, ℕ, false, List, [], sym, ap, subst, ◌∙◌, Option, None}
 use Rattle.std.specs.List.{AllByRecursion}
 use Rattle.std.specs.Option.{option_map_or}
-use Rattle.repl_types.specs.declared.area.Area.{Area}
-use Rattle.repl_types.specs.declared.refusal.Refusal.{Refusal}
-use Rattle.repl_types.specs.declared.status.DamageCause.{DamageCause}
-use Rattle.repl_types.specs.declared.fault.Fault.{Fault}
+use Rattle.world_store.specs.Words.{Stands}
+use Rattle.site_store.specs.Words.{Kept, names, held, fault_counts, Bounds, NoneFell, Blames, Stays, Fails}
+use Rattle.site_store.specs.declared.sites.Sites.{Sites}
+use Rattle.repl_model.specs.Words.{Area, Refusal, DamageCause, Fault, IsSetDef, IsSound, World, In, at_one, at_each}
 use Rattle.repl_types.specs.declared.fault.Fault.TheVariants as faults
 use Rattle.repl_commands.specs.declared.written.RawDefs.{RawDefs}
-use Rattle.repl_definitions.specs.Sets.{IsSetDef}
-use Rattle.repl_model.specs.Sound.{IsSound}
-use Rattle.repl_model.specs.SoundDefinitions.{DefinitionsAreSound}
-use Rattle.repl_model.specs.World.{World}
 use Rattle.run_core.specs.Runs.{Event, Went, Stopped}
 use Rattle.run_core.specs.laws.Runs.{stopped_before}
-use Rattle.keep_core.specs.Kept.{Kept}
-use Rattle.site_store.specs.declared.sites.Sites.{Sites}
-use Rattle.site_store.specs.Views.{names, held, fault_counts}
-use Rattle.site_store.specs.Calls.{Bounds, NoneFell, Blames, Stays, Fails}
 use Rattle.spelled_defs.specs.Context.{context_of}
 use Rattle.spelled_defs.specs.declared.defs.Defs.{Defs}
 use Rattle.checked_defs.specs.Broken.{all_rules, first_broken}
 use Rattle.checked_defs.specs.Whole.{LeavesNothingOut}
-use Rattle.world_store.specs.Stands.{Stands}
 use Rattle.stored_defs.specs.laws.Standing.{stands_on}
 use Rattle.load_laws.specs.known.Known.{known_defs}
 use Rattle.load_plan.specs.Limits.{has_many_tables, has_many_sets}
@@ -31,11 +21,9 @@ use Rattle.load_plan.specs.Refusals.{count_refusal, content_refusal}
 use Rattle.load_plan.specs.Additions.{additions_at}
 use Rattle.load_plan.specs.declared.stored.StoredServer.{StoredServer}
 use Rattle.load_laws.specs.rules.Accepted.{AreTyped, Accepted}
-use Rattle.load_laws.specs.rules.StaysSound.{HoldsLoaded}
-use Rattle.lists.specs.laws.Members.{In, at_one, at_each}
 use Rattle.load_laws.specs.planned.Planned.{stored_servers, known_stored}
-use Rattle.load_laws.specs.planned.PlannedLoads.{KnowsStored, HasRoom, SeesUnrefused, IsSeen}
-use Rattle.load_laws.specs.texts.AcceptedTexts.{TypesItems, StoresAdditions, AreStorable}
+use Rattle.load_laws.specs.planned.PlannedLoads.{IsSeen}
+use Rattle.load_laws.specs.texts.AcceptedTexts.{AreStorable}
 use Rattle.load_laws.specs.texts.Texts.{text_defs, defs_beside, KeepsRules}
 use Rattle.load_defs.specs.Counts.{loaded_counts}
 use Rattle.load_defs.specs.Loading.{MayLoad, HasLoaded, HasNotLoaded, AllHappened, SomeHappened, BlamesOrRefuses, load_commits, load_events, defs_in, refusal_in}
@@ -45,6 +33,12 @@ use Rattle.load_defs.specs.declared.counts.Loaded.{Loaded}
 use Rattle.load_defs.proofs.AllServers.{InEach}
 use Rattle.load_defs.proofs.Faults.{blames_after}
 use Rattle.load_defs.proofs.Standing.{stands_held}
+use Rattle.load_laws.specs.laws.Room.{has_room}
+use Rattle.load_laws.specs.laws.Storable.{stores_additions}
+use Rattle.load_laws.specs.laws.Known.{knows_stored}
+use Rattle.load_laws.specs.laws.Typed.{types_items}
+use Rattle.load_laws.specs.laws.Seen.{sees_unrefused}
+use Rattle.load_laws.specs.laws.DefinitionsStaySound.{definitions_stay_sound}
 
 -- The load of a text is planned: it isn't refused, and its definitions have spellings.
 pub record IsPlanned (raw : RawDefs) (stored : List StoredServer) : Type 0 where
@@ -54,32 +48,32 @@ pub record IsPlanned (raw : RawDefs) (stored : List StoredServer) : Type 0 where
   pub sets : AllByRecursion IsSetDef (defs_beside raw stored).sets
 
 -- servers have room for what they get, and can store it
-pub can_be_loaded : HasRoom → StoresAdditions → (raw : RawDefs) (stored : List StoredServer) → KeepsRules raw stored → content_refusal (defs_beside raw stored) stored ≡ None → AllByRecursion (CanBeLoaded (defs_beside raw stored)) stored
-can_be_loaded room stores raw stored keeps contents = at_each (CanBeLoaded (defs_beside raw stored)) stored can
+pub can_be_loaded : (raw : RawDefs) (stored : List StoredServer) → KeepsRules raw stored → content_refusal (defs_beside raw stored) stored ≡ None → AllByRecursion (CanBeLoaded (defs_beside raw stored)) stored
+can_be_loaded raw stored keeps contents = at_each (CanBeLoaded (defs_beside raw stored)) stored can
   where
     defs : Defs
     defs = defs_beside raw stored
 
     can : (server : StoredServer) → In server stored → CanBeLoaded (defs_beside raw stored) server
     can server there =
-        let fits = at_one (λ s. (has_many_tables defs s ≡ false) × (has_many_sets defs s ≡ false)) stored server (room defs stored keeps.counts) there in
-        record { tables = fits.0; sets = fits.1; rows = at_one (λ s. AreStorable (additions_at defs s)) stored server (stores raw stored keeps contents) there }
+        let fits = at_one (λ s. (has_many_tables defs s ≡ false) × (has_many_sets defs s ≡ false)) stored server (has_room defs stored keeps.counts) there in
+        record { tables = fits.0; sets = fits.1; rows = at_one (λ s. AreStorable (additions_at defs s)) stored server (stores_additions raw stored keeps contents) there }
 
 -- definitions that were planned may be loaded into the world
-may_load : KnowsStored → TypesItems → SeesUnrefused → HoldsLoaded DefinitionsAreSound → (raw : RawDefs) (stored : List StoredServer) (w : World) → IsSound w → stored ≡ stored_servers w → IsPlanned raw stored → MayLoad raw w (defs_beside raw stored)
-may_load knows types sees after raw stored w sound is plan = record { sound = sound; accepted = accepted; after = after raw w defs sound accepted }
+may_load : (raw : RawDefs) (stored : List StoredServer) (w : World) → IsSound w → stored ≡ stored_servers w → IsPlanned raw stored → MayLoad raw w (defs_beside raw stored)
+may_load raw stored w sound is plan = record { sound = sound; accepted = accepted; after = definitions_stay_sound raw w defs sound accepted }
   where
     defs : Defs
     defs = defs_beside raw stored
 
     known : known_stored stored ≡ known_defs w
-    known = ap known_stored is ∙ knows w sound
+    known = ap known_stored is ∙ knows_stored w sound
 
     typed : AreTyped defs
-    typed = let items = types raw stored plan.keeps in record { tables = items.0; registrations = items.1; sets = plan.sets }
+    typed = let items = types_items raw stored plan.keeps in record { tables = items.0; registrations = items.1; sets = plan.sets }
 
     seen : IsSeen w defs
-    seen = sees w defs sound typed (subst (λ (l : List StoredServer). count_refusal defs l ≡ None) is plan.keeps.counts) (subst (λ (l : List StoredServer). content_refusal defs l ≡ None) is plan.contents)
+    seen = sees_unrefused w defs sound typed (subst (λ (l : List StoredServer). count_refusal defs l ≡ None) is plan.keeps.counts) (subst (λ (l : List StoredServer). content_refusal defs l ≡ None) is plan.contents)
 
     accepted : Accepted raw w defs
     accepted = record {
@@ -132,10 +126,10 @@ module _ {K : Type 0} (kept : K → Kept) (s0 : Sites K) where
       planning_fails s1 (faults.Damaged s a cause) same h = absurd h
       planning_fails s1 (faults.Refused refusal) same h = λ w stands. (refusal_is w stands ∙ h, same)
 
-      module _ (plan : IsPlanned raw stored) (knows : KnowsStored) where
+      module _ (plan : IsPlanned raw stored) where
         -- what was known is what is known in the world
         known_is : (w : World) → Stands (names s0) (held kept s0) w → known_stored stored ≡ known_defs w
-        known_is w stands = ap known_stored (read w stands) ∙ knows w stands.sound
+        known_is w stands = ap known_stored (read w stands) ∙ knows_stored w stands.sound
 
         -- the load of the text commits what the load of its definitions does
         events_are : (w : World) → Stands (names s0) (held kept s0) w → load_events raw w ≡ load_commits (defs_beside raw stored) w
@@ -143,10 +137,10 @@ module _ {K : Type 0} (kept : K → Kept) (s0 : Sites K) where
             ap (λ (o : Option Refusal). option_map_or (λ refusal. []) o (load_commits (defs_in raw w) w)) (refusal_is w stands ∙ plan.accepted)
             ∙ ap (λ (k : Defs). load_commits (text_defs raw k) w) (sym (known_is w stands))
 
-        module _ (types : TypesItems) (sees : SeesUnrefused) (after : HoldsLoaded DefinitionsAreSound) (s1 s2 : Sites K) (x : Bounds) (stays : Stays kept s0 s1 x) where
+        module _ (s1 s2 : Sites K) (x : Bounds) (stays : Stays kept s0 s1 x) where
           -- what follows for each world for which the servers stand once they were read follows for each for which they stood
           from_each : (P : World → Type 0) → InEach kept s1 (defs_beside raw stored) stored P → (w : World) → Stands (names s0) (held kept s0) w → P w
-          from_each P each w stands = each raw w (may_load knows types sees after raw stored w stands.sound (read w stands) plan) (read w stands) (stands_on kept s0 s1 x w stays stands)
+          from_each P each w stands = each raw w (may_load raw stored w stands.sound (read w stands) plan) (read w stands) (stands_on kept s0 s1 x w stays stands)
 
           -- the first commits of the definitions are the first of the text
           some_happened : InEach kept s1 (defs_beside raw stored) stored (SomeHappened kept s1 s2 (load_commits (defs_beside raw stored))) → (w : World) → Stands (names s0) (held kept s0) w → SomeHappened kept s0 s2 (load_events raw) w

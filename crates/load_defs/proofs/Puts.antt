@@ -1,24 +1,11 @@
 -- Rows are put into a table inside a transaction, one after another.
-use Rattle.std.proofs.Common.{◌≡◌, ℕ, ◌+◌, ◌<◌, ◌≤◌, Bool, true, false, cond, List, [], ◌∷◌, ◌++◌, length, get_or, take, refl, sym, ap, subst, ◌∙◌, arith}
-use Rattle.std.specs.Prelude.{◌&&◌, ◌==◌, Option, Some, None, is_some}
-use Rattle.std.proofs.lemmas.Bool.{eqb-true, eq-eqb}
+use Rattle.std.proofs.Common.{◌≡◌, ℕ, ◌+◌, ◌<◌, ◌≤◌, Bool, true, false, cond, List, [], ◌∷◌, ◌++◌, length, get_or, take, refl, sym, ap, subst, ◌∙◌, arith, ◌&&◌, ◌==◌, Option, Some, None, is_some, eqb-true, eq-eqb}
 use Rattle.std.proofs.lemmas.List.{take_more, take_all, get_or-set_same}
 use Rattle.std.proofs.lemmas.List.Sums.{fold-append}
-use Rattle.repl_types.specs.Area.{same_area, area_number}
-use Rattle.repl_types.specs.declared.area.Area.{Area}
-use Rattle.repl_types.specs.declared.area.Area.TheVariants as areas
-use Rattle.repl_types.specs.declared.fault.Fault.{Fault}
-use Rattle.keep_core.specs.Contents.{Contents, Table, set_key, with_table, put_at}
-use Rattle.keep_core.specs.Kept.{Kept}
+use Rattle.site_store.specs.Words.{Contents, Table, set_key, with_table, put_at, Kept, work, IsOpenAt, Works, Sets, NoDamage, WorksOn, both, writes_of_one, AtServer, Puts, Fails, IsAtMost, works_none, works_put, works_on, open_below}
 use Rattle.site_store.specs.declared.sites.Sites.{Sites}
-use Rattle.site_store.specs.Views.{work, IsOpenAt}
-use Rattle.site_store.specs.Works.{Works, Sets}
-use Rattle.site_store.specs.Records.{NoDamage}
-use Rattle.site_store.specs.Steps.{WorksOn}
-use Rattle.site_store.specs.Calls.{both, writes_of_one, AtServer, Puts, Fails}
-use Rattle.site_store.specs.laws.Counts.{IsAtMost}
-use Rattle.site_store.specs.laws.Steps.{works_none, works_put, works_on}
-use Rattle.site_store.specs.laws.Transactions.{open_below}
+use Rattle.repl_model.specs.Words.{same_area, area_number, Area, Fault}
+use Rattle.repl_types.specs.declared.area.Area.TheVariants as areas
 use Rattle.load_laws.specs.planned.Planned.{with_rows}
 use Rattle.load_defs.specs.Putting.{with_put}
 use Rattle.load_defs.proofs.Faults.{fails_on}

@@ -1,15 +1,14 @@
 -- The servers stand for the next world of a load once one more of them holds what that calls for.
-use Rattle.std.proofs.Common.{◌≡◌, ℕ, zero, suc, ◌<◌, List, [], ◌∷◌, length, map, set, get_or, refl, sym, ap, subst, ◌∙◌, arith}
-use Rattle.std.specs.Prelude.{Option, Some, None}
+use Rattle.std.proofs.Common.{◌≡◌, ℕ, zero, suc, ◌<◌, List, [], ◌∷◌, length, map, set, get_or, refl, sym, ap, subst, ◌∙◌, arith, Option, Some, None}
 use Rattle.std.specs.List.{AllZip}
 use Rattle.std.proofs.lemmas.List.{length-map}
-use Rattle.keep_core.specs.Contents.{Contents}
-use Rattle.repl_model.specs.Sound.{IsSound}
-use Rattle.repl_model.specs.World.{empty_server, Server, World}
+use Rattle.world_store.specs.Words.{Holds, Reveals, Stands}
+use Rattle.site_store.specs.Words.{Contents}
+use Rattle.repl_model.specs.Words.{IsSound, empty_server, Server, World}
 use Rattle.spelled_defs.specs.declared.defs.Defs.{Defs}
-use Rattle.world_store.specs.Stands.{Holds, Reveals, Stands}
 use Rattle.load_laws.specs.worlds.Loads.{load_server, server_at, load_at}
-use Rattle.load_laws.specs.stored.LoadedServers.{Loaded, LoadedHolds, OthersHold}
+use Rattle.load_laws.specs.stored.LoadedServers.{Loaded}
+use Rattle.load_laws.specs.laws.StoredServers.{loaded_server_holds, others_hold_load}
 
 -- what holds of two lists place by place, by what holds at each place
 zip_others : {X Y : Type 0} (R S : X → Y → Type 0) (d : X) (xs : List X) (ys : List Y) → AllZip R xs ys → ((m : ℕ) (b : Y) → R (get_or xs m d) b → S (get_or xs m d) b) → AllZip S xs ys
@@ -51,11 +50,11 @@ revealed_at names h w n stands lt = at w h n stands.servers (omega (arith, lt, c
     at (s ∷ ss) (o ∷ os) (suc n) all lt = at ss os n all.1 (omega arith)
 
 -- once a server holds what the load makes of it, the servers stand for the world after
-pub stands_next : LoadedHolds → OthersHold → (names : List (List ℕ)) (h : List (Option Contents)) (defs : Defs) (w : World) (n : ℕ) (c d : Contents) → Stands names h w → IsSound (load_at defs n w) → Holds w (server_at w n) c → Loaded defs (server_at w n) c d → Stands names (set h n (Some d)) (load_at defs n w)
-stands_next loaded others names h defs w n c d stands sound holds puts = record {
+pub stands_next : (names : List (List ℕ)) (h : List (Option Contents)) (defs : Defs) (w : World) (n : ℕ) (c d : Contents) → Stands names h w → IsSound (load_at defs n w) → Holds w (server_at w n) c → Loaded defs (server_at w n) c d → Stands names (set h n (Some d)) (load_at defs n w)
+stands_next names h defs w n c d stands sound holds puts = record {
   sound = sound;
   named = names_stay defs w n ∙ stands.named;
   servers = zip_set (Reveals w) (Reveals (load_at defs n w)) (empty_server []) w h n (load_server defs (server_at w n)) (Some d) stands.servers
-      (λ m told r. (r.0, r.1, others defs w n m r.0 stands.sound r.2))
-      (d, refl, loaded defs w n c d stands.sound holds puts);
+      (λ m told r. (r.0, r.1, others_hold_load defs w n m r.0 stands.sound r.2))
+      (d, refl, loaded_server_holds defs w n c d stands.sound holds puts);
 }

@@ -1,32 +1,15 @@
 -- Reads of the tables of definitions of one server, one after another.
-use Rattle.std.proofs.Common.{◌≡◌, ℕ, ◌+◌, ◌<◌, ◌≤◌, List, [], length, map, get_or, sym, ap, subst, ◌∙◌, arith}
+use Rattle.std.proofs.Common.{◌≡◌, ℕ, ◌+◌, ◌<◌, ◌≤◌, List, [], length, map, get_or, sym, ap, subst, ◌∙◌, arith, Option, IfSome}
 use Rattle.std.proofs.Math.ListN.{get_or-map}
-use Rattle.std.specs.Prelude.{Option, IfSome}
-use Rattle.repl_types.specs.declared.area.Area.TheVariants as areas
-use Rattle.repl_types.specs.declared.fault.Fault.{Fault}
-use Rattle.keep_core.specs.Contents.{Contents}
-use Rattle.keep_core.specs.Kept.{Kept}
-use Rattle.repl_definitions.specs.declared.defined.DefinedTable.{DefinedTable}
-use Rattle.repl_definitions.specs.declared.defined.DefinedRegistration.{DefinedRegistration}
-use Rattle.repl_definitions.specs.declared.set.SourceSet.{SourceSet}
-use Rattle.repl_definitions.specs.declared.set.TargetSet.{TargetSet}
-use Rattle.repl_model.specs.World.{empty_server, Server, World, server_in}
-use Rattle.rows_in_order.specs.Rows.{table_from_rows}
+use Rattle.world_store.specs.Words.{table_from_rows, table_rows, registration_rows, source_set_rows, target_set_rows, definition_table, Stands, definition_limit, AreRows, Spells}
+use Rattle.site_store.specs.Words.{Contents, Kept, AllClosed, names, held, work, sees, Stays, Fails, reads_of_one, Damages, stays_then, stays_sees, stays_within}
 use Rattle.site_store.specs.declared.sites.Sites.{Sites}
-use Rattle.site_store.specs.Servers.{AllClosed}
-use Rattle.site_store.specs.Views.{names, held, work, sees}
-use Rattle.site_store.specs.Calls.{Stays, Fails, reads_of_one}
-use Rattle.site_store.specs.Damage.{Damages}
-use Rattle.site_store.specs.laws.Counts.{stays_then}
-use Rattle.world_store.specs.DefinitionRows.{table_rows, registration_rows, source_set_rows, target_set_rows}
-use Rattle.world_store.specs.Tables.{definition_table}
-use Rattle.world_store.specs.Stands.{Stands}
+use Rattle.repl_model.specs.Words.{Fault, DefinedTable, DefinedRegistration, SourceSet, TargetSet, empty_server, Server, World, server_in}
+use Rattle.repl_types.specs.declared.area.Area.TheVariants as areas
 use Rattle.stored_defs.specs.DefinitionReads.{in_defs, server_reads}
 use Rattle.stored_defs.specs.Reading.{HasRecords, table_rules}
-use Rattle.world_store.specs.SpelledRows.{definition_limit, AreRows, Spells}
 use Rattle.stored_defs.specs.Rules.{rules, may_be_key, may_be_value, ShowsDamage}
 use Rattle.stored_defs.specs.laws.Blaming.{fails_by_table, fails_later}
-use Rattle.site_store.specs.laws.Passing.{stays_sees, stays_within}
 use Rattle.stored_defs.specs.laws.DefinitionReads.{defs_more, one_in_defs}
 use Rattle.stored_defs.specs.laws.Standing.{read_is}
 use Rattle.load_plan.specs.declared.stored.StoredServer.{StoredServer}

@@ -1,6 +1,6 @@
 -- The worlds on the way of a load, server by server.
 use Rattle.std.proofs.Common.{◌≡◌, ℕ, zero, suc, [], ◌∷◌, length, refl, ap}
-use Rattle.repl_model.specs.World.{World}
+use Rattle.repl_model.specs.Words.{World}
 use Rattle.spelled_defs.specs.declared.defs.Defs.{Defs}
 use Rattle.load_laws.specs.worlds.Loads.{load_server, server_at, load_at, load_first}
 

@@ -13,7 +13,6 @@
 
 mod counts;
 mod known;
-mod laws;
 mod loading;
 mod plan;
 mod putting;

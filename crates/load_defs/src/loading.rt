@@ -12,7 +12,6 @@ ghost use Rattle.load_defs.specs.Counts.{NoneIsNew};
 ghost use Rattle.load_defs.specs.Loading.{HasLoaded, HasNotLoaded, BlamesOrRefuses};
 
 use crate::counts::{Loaded, none_is_new};
-use crate::laws::{laws_of_texts, laws_of_worlds};
 use crate::plan::plan_load;
 use crate::reading::read_servers;
 use crate::servers::load_servers;
@@ -46,8 +45,6 @@ pub fn load<K: Keeper>(sites: &mut Sites<K>, alloc: Global, raw: &RawDefs) -> Re
     ensures idle { IfOk result (λ loaded. NoneIsNew loaded
         → held K.kept sites.new ≡ held K.kept sites.old) }
 {
-    laws_of_texts();
-    laws_of_worlds();
     let stored = read_servers(sites, alloc)?;
     let plan = plan_load(alloc, raw, stored.as_slice())?;
     if none_is_new(&plan.loaded) {

@@ -16,7 +16,6 @@ ghost use Rattle.load_defs.specs.Planning.{IsRefusedBy};
 
 use crate::counts::{Loaded, count_new};
 use crate::known::known_of;
-use crate::laws::laws_of_texts;
 use checked_defs::check;
 use load_plan::{StoredServer, content_refusal, count_refusal};
 use repl_commands::{DefsError, RawDefs};
@@ -82,7 +81,6 @@ pub fn plan_load(alloc: Global, raw: &RawDefs, stored: &[StoredServer]) -> Resul
     ensures typed { IfOk result (λ plan. AllByRecursion IsSetDef plan.defs.sets) }
     ensures refused { IfErr result (IsRefusedBy (load_refusal raw.now stored.now)) }
 {
-    laws_of_texts();
     let known = known_of(alloc, stored)?;
     let defs = checked(alloc, raw, &known)?;
     refuse_unfit(alloc, &defs, stored)?;

@@ -15,7 +15,6 @@ ghost use Rattle.load_laws.specs.planned.PlannedLoads.{adds_nothing as adds_noth
 ghost use Rattle.load_defs.specs.Putting.{CanBeLoaded};
 ghost use Rattle.load_defs.specs.Loading.{MayLoad, load_commits, AllHappened, SomeHappened};
 
-use crate::laws::laws_of_worlds;
 use crate::putting::put_added;
 use crate::rows::added_rows;
 use keep_core::Keeper;
@@ -62,7 +61,6 @@ fn load_server<K: Keeper>(
     ensures blames { IfErr result (Blames K.kept sites.old sites.new (λ s a cause. ⊥)) }
     ensures servers { KeepsServers K.kept sites.old sites.new }
 {
-    laws_of_worlds();
     let added = additions_at(alloc, defs, stored)?;
     if adds_nothing(&added) {
         return Ok(());
@@ -94,7 +92,6 @@ pub fn load_servers<K: Keeper>(
     ensures blames { IfErr result (Blames K.kept sites.old sites.new (λ s a cause. ⊥)) }
     ensures servers { KeepsServers K.kept sites.old sites.new }
 {
-    laws_of_worlds();
     for server in 0..sites.len() {
         load_server(sites, alloc, server, defs, &stored[server as usize])?;
     }

@@ -4,3 +4,4 @@ pub mod rules
 pub mod stored
 pub mod planned
 pub mod texts
+pub mod laws

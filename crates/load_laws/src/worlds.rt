@@ -1,8 +1,8 @@
 //! What a load of definitions makes of a world, server by server.
 //!
 //! `specs/worlds/Loads.antt` says what each server gets: the tables, registrations and sets of a
-//! text that don't stand there yet. `a_load_stays_sound` shows that each world on the way is
-//! sound.
+//! text that don't stand there yet. The lemma `load_stays_sound` shows that each world on the way
+//! is sound.
 //!
 //! For example, after a load that stopped between two servers a set stands at one of its ends
 //! alone. It isn't known then, and the tables that its members have at that end stand there too.
@@ -11,15 +11,8 @@ ghost use Rattle.std.specs.Prelude.{◌≡◌, ◌∷◌, [], codes};
 ghost use Rattle.repl_model.specs.World.{empty_server};
 ghost use Rattle.repl_model.specs.WorkedWorld.{hq};
 ghost use Rattle.load_laws.specs.worlds.Loads.{load_server, load_first, load_all};
-ghost use Rattle.load_laws.specs.worlds.SoundLoads.{StaysSound};
 ghost use Rattle.load_laws.specs.worlds.WorkedLoads.{worked_defs, two_servers};
 ghost use Rattle.load_laws.specs.worlds.WorkedLoads.{loaded_hq, loaded_shop};
-
-/// Each world on the way of a load is sound, if the world before it is sound and the definitions of
-/// the last one are.
-pub fn a_load_stays_sound()
-    ensures { StaysSound }
-{}
 
 /// A load worked out. Between the two servers the set stands at its source alone. The same text
 /// once more changes nothing, and nothing of a server that has it all and has captured since.

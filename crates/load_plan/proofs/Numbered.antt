@@ -1,9 +1,7 @@
 -- Rows that are made of the elements that pass a test, each with its number.
-use Rattle.std.proofs.Common.{◌≡◌, ◌+◌, ◌<◌, ℕ, Bool, true, false, cond, List, [], ◌∷◌, ◌++◌, length, drop, map, slice_index_or, sym, ap, ◌∙◌}
-use Rattle.std.proofs.Math.Nat.{add_assoc, zero-add}
+use Rattle.std.proofs.Common.{◌≡◌, ◌+◌, ◌<◌, ℕ, Bool, true, false, cond, List, [], ◌∷◌, ◌++◌, length, drop, map, slice_index_or, sym, ap, ◌∙◌, add_assoc, zero-add, filter, count_by}
 use Rattle.std.proofs.lemmas.List.{append_assoc, drop_more}
 use Rattle.std.proofs.lemmas.List.Sums.{sum_by-drop_more}
-use Rattle.std.specs.Prelude.{filter, count_by}
 use Rattle.std.specs.List.{enumerate_from}
 
 -- what is left of a list is the element at its head, and then the rest

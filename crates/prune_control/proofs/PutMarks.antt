@@ -1,21 +1,10 @@
 -- The transaction in which a point is put as the mark of a set.
-use Rattle.std.proofs.Common.{◌≡◌, ℕ, ap, ◌∙◌}
-use Rattle.std.specs.Prelude.{Some}
-use Rattle.repl_types.specs.declared.area.Area.TheVariants as areas
-use Rattle.keep_core.specs.Kept.{Kept}
-use Rattle.row_codec.specs.Spelling.{b32}
-use Rattle.repl_records.specs.Prune.{mark_spelling}
-use Rattle.repl_records.specs.declared.prune.SyncMark.{SyncMark}
-use Rattle.repl_model.specs.Sound.{IsSound}
-use Rattle.repl_model.specs.World.{World, KnownSet}
+use Rattle.std.proofs.Common.{◌≡◌, ℕ, ap, ◌∙◌, Some}
+use Rattle.world_store.specs.Words.{b32, mark_spelling, SyncMark, Holds}
+use Rattle.site_store.specs.Words.{Kept, Puts, work, sees, IsOpenAt, Sets, Looks, GoesOn, goes_saw, goes_put, saw_then, any_seen}
 use Rattle.site_store.specs.declared.sites.Sites.{Sites}
-use Rattle.site_store.specs.Calls.{Puts}
-use Rattle.site_store.specs.Views.{work, sees, IsOpenAt}
-use Rattle.site_store.specs.Works.{Sets}
-use Rattle.site_store.specs.one_server.Calls.{Looks, GoesOn}
-use Rattle.site_store.specs.one_server.laws.Steps.{goes_saw, goes_put, saw_then}
-use Rattle.world_store.specs.Stands.{Holds}
-use Rattle.site_store.specs.laws.Passing.{any_seen}
+use Rattle.repl_model.specs.Words.{IsSound, World, KnownSet}
+use Rattle.repl_types.specs.declared.area.Area.TheVariants as areas
 use Rattle.set_places.specs.declared.placed_set.PlacedSet.{PlacedSet}
 use Rattle.set_places.specs.Members.{ForSource}
 use Rattle.set_places.specs.Places.{IsPlacedAs}

@@ -1,16 +1,9 @@
 -- The mark that is read of a found set.
-use Rattle.std.proofs.Common.{◌≡◌, refl, subst}
-use Rattle.std.specs.Prelude.{Option, Some, IfSome}
-use Rattle.repl_types.specs.declared.area.Area.TheVariants as areas
-use Rattle.keep_core.specs.Contents.{Contents}
-use Rattle.keep_core.specs.Kept.{Kept}
-use Rattle.row_codec.specs.Spelling.{b32}
-use Rattle.repl_records.specs.Prune.{mark_spelling, IsMark}
-use Rattle.repl_records.specs.declared.prune.SyncMark.{SyncMark}
+use Rattle.std.proofs.Common.{◌≡◌, refl, subst, Option, Some, IfSome}
+use Rattle.world_store.specs.Words.{b32, mark_spelling, IsMark, SyncMark}
+use Rattle.site_store.specs.Words.{Contents, Kept, RowIs, sees, if_seen}
 use Rattle.site_store.specs.declared.sites.Sites.{Sites}
-use Rattle.site_store.specs.Records.{RowIs}
-use Rattle.site_store.specs.Views.{sees}
-use Rattle.site_store.specs.laws.Passing.{if_seen}
+use Rattle.repl_types.specs.declared.area.Area.TheVariants as areas
 use Rattle.set_places.specs.declared.placed_set.PlacedSet.{PlacedSet}
 use Rattle.set_places.specs.Members.{ForSource}
 use Rattle.set_places.specs.Places.{HasSourceRow, IsPlacedAtSource}

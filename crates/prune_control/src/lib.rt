@@ -11,7 +11,6 @@
 //! `hq` is still 3. After `note` with the point 8 the mark is 8, and all else is as it was.
 #![tactic(auto)]
 
-mod laws;
 mod marks;
 mod noting;
 

@@ -13,7 +13,6 @@ ghost use Rattle.repl_model.specs.NextActions.{reports};
 ghost use Rattle.prune_control.specs.Noting.{IsReport, is_of_marks, ShowsDamage};
 ghost use Rattle.prune_control.specs.Putting.{PutsPoint};
 
-use crate::laws::laws_of_reports;
 use crate::marks::read_mark;
 use keep_core::Keeper;
 use repl_records::SyncMark;
@@ -73,7 +72,6 @@ pub fn note<K: Keeper>(
     ensures servers { KeepsServers K.kept sites.old sites.new }
     ensures reads { ReadsOnly is_of_marks K.kept sites.old sites.new }
 {
-    laws_of_reports();
     put_mark(sites, alloc, set, point)?;
     Ok(())
 }

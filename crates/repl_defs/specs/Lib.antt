@@ -8,3 +8,4 @@ pub mod ReadingPredicates
 pub mod ReadingTexts
 pub mod Trees
 pub mod Entries
+pub mod laws

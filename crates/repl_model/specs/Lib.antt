@@ -30,3 +30,4 @@ pub mod WorkedSums
 pub mod WorkedWorld
 pub mod WorkedActions
 pub mod laws
+pub mod Words

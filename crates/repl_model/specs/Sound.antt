@@ -1,5 +1,5 @@
 -- When a world is sound: what holds of logs, definitions, numbers and trails at every moment.
-use Rattle.std.specs.Prelude.{◌≡◌, ℕ, ◌<◌, ◌≤◌, Bool, true, IsTrue, ◌&&◌, ◌||◌, ◌==◌, List, [], ◌∷◌, length, map, Option, ⊤}
+use Rattle.std.specs.Prelude.{◌≡◌, ℕ, ◌<◌, ◌≤◌, Bool, true, IsTrue, ◌&&◌, ◌||◌, ◌==◌, List, [], ◌∷◌, length, Option, ⊤}
 use Rattle.std.specs.List.{AllByRecursion, list_any}
 use Rattle.std.specs.Option.{option_map_or}
 use Rattle.std.specs.Str.{bytes_eq}

@@ -5,7 +5,7 @@ use Rattle.repl_types.specs.declared.record.Change.TheVariants.{Stop}
 use Rattle.repl_types.specs.declared.record.LogRecord.{LogRecord}
 use Rattle.repl_types.specs.declared.record.LogRecord.TheVariants as records
 use Rattle.repl_definitions.specs.declared.set.SetDef.{SetDef}
-use Rattle.repl_model.specs.Trails.{Trail, refresh, block}
+use Rattle.repl_model.specs.Trails.{Trail, refresh}
 use Rattle.repl_model.specs.World.{Registered, SourceSide, TargetSide, Server, World, KnownSet}
 use Rattle.repl_model.specs.WorkedOrders.{orders, with_quantity, orders_insert, user_commit, signal_of}
 use Rattle.repl_model.specs.WorkedWorld.{copied_set}

@@ -1,7 +1,7 @@
 //! Laws of changes: change rows may be captured piece by piece, change rows alone make a copy, and
 //! a change can be undone.
 
-ghost use Rattle.std.specs.Prelude.{◌≡◌, ◌∷◌, [], ◌++◌, ◌≤◌, ℕ, IsTrue, List, length, Some};
+ghost use Rattle.std.specs.Prelude.{◌≡◌, ◌∷◌, [], ◌++◌, ◌≤◌, ℕ, IsTrue, List, Some};
 ghost use Rattle.std.specs.FinMap.{empty};
 ghost use Rattle.repl_types.specs.declared.record.Change.{Change};
 ghost use Rattle.repl_types.specs.declared.record.LogRecord.{LogRecord};
@@ -12,16 +12,6 @@ ghost use Rattle.repl_model.specs.Units.{last_commit};
 ghost use Rattle.repl_model.specs.ChangeRows.{changes_between, after_change_rows};
 ghost use Rattle.repl_model.specs.Applicable.{table_named, is_applicable};
 ghost use Rattle.repl_model.specs.Copies.{copy_at, KeepsWholeRows, LeavesKeys, is_key_fixed};
-
-/// Change rows may be captured piece by piece, and those up to a point never change.
-pub fn capture_by_pieces()
-    ensures joined { (log : List LogRecord) (reg : Registration) (low mid high : ℕ) → low ≤ mid
-        → mid ≤ high → changes_between log reg low high ≡ changes_between log reg low mid
-        ++ changes_between log reg mid high }
-    ensures earlier { (log : List LogRecord) (reg : Registration) (low high : ℕ) (r : LogRecord)
-        → high ≤ length log → changes_between (log ++ r ∷ []) reg low high
-        ≡ changes_between log reg low high }
-{}
 
 /// A copy that is kept only by the change rows of a registration, whole rows as they come, is the
 /// source: from no rows up to the last commit, and from a copy at one point up to a later one. The

@@ -18,27 +18,20 @@
 
 mod changes;
 mod expressions;
-mod log;
 mod longer_log;
 mod member_copies;
-mod sound;
 mod worked_actions;
 mod worked_copies;
 mod worked_logs;
 mod worked_sums;
 mod worked_world;
 
-pub use changes::{capture_by_pieces, copy_by_change_rows, undo};
+pub use changes::{copy_by_change_rows, undo};
 pub use expressions::{
     expressions_by_nodes, predicates_by_nodes, worked_expressions, worked_predicates,
 };
-pub use log::{empty_log, in_flight_grows, log_grows, source_grows, up_to_last_commit};
-pub use longer_log::{
-    a_longer_log_keeps, a_point_stays, changes_in_two_halves, copies_stay, histories_stay,
-    sets_of_a_longer_log,
-};
+pub use longer_log::changes_in_two_halves;
 pub use member_copies::whole_member;
-pub use sound::the_empty_world_is_sound;
 pub use worked_actions::{worked_blocks, worked_first_refresh, worked_gaps, worked_stop};
 pub use worked_copies::{
     worked_applicable, worked_change_rows, worked_interleaved, worked_point_in_time_copy,

@@ -6,3 +6,4 @@ pub mod SetState
 pub mod SourceSide
 pub mod TargetSide
 pub mod Trail
+pub mod Lengths

@@ -23,7 +23,7 @@ mod target_side;
 mod trail;
 
 pub use capture::{CaptureState, ChangeRow, RegState, UowRow};
-pub use laws::{first_states_have_spellings, records_of_64_values_are_storable};
+pub use laws::first_states_have_spellings;
 pub use prune::{Decided, RejectedUnit, SyncMark};
 pub use record_keys::{CdKey, InFlightKey, MemberKey, Single, UnitKey};
 pub use set_state::{LastNumber, SetState};

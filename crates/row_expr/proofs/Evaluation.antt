@@ -1,7 +1,6 @@
 -- The value of operations that wait for a side.
 use Rattle.std.proofs.Common.{◌≡◌, ◌+◌, List, [], ◌∷◌, ◌++◌, refl, sym, ap, ◌∙◌, arith}
-use Rattle.repl_types.specs.Value.{Values}
-use Rattle.repl_types.specs.declared.value.Value.{Value}
+use Rattle.repl_model.specs.Words.{Values, Value}
 use Rattle.row_expr.specs.declared.expression.Waiting.{Waiting}
 use Rattle.row_expr.specs.Evaluation.{operation_value, rest_size, rest_sizes, whole_value}
 

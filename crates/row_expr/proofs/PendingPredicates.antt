@@ -1,7 +1,6 @@
 -- How large predicates are, and the truth of pending left sides.
 use Rattle.std.proofs.Common.{◌≡◌, ℕ, ◌+◌, Bool, List, [], ◌∷◌, ◌++◌, length, length-append, refl, sym, ap, ◌∙◌, arith}
-use Rattle.repl_types.specs.Value.{Values}
-use Rattle.repl_definitions.specs.declared.predicate.Predicate.{Predicate, fold-roll-Predicate}
+use Rattle.repl_model.specs.Words.{Values, Predicate, fold-roll-Predicate}
 use Rattle.repl_definitions.specs.declared.predicate.Predicate.TheOpen as layer
 use Rattle.repl_definitions.specs.declared.predicate.Predicate.TheVariants as predicates
 use Rattle.row_expr.specs.declared.pending.LeftSide.{LeftSide}

@@ -1,19 +1,11 @@
 -- How parts that begin with reads are carried out.
-use Rattle.std.proofs.Common.{◌≡◌, ◌↔◌, ℕ, List, [], ◌∷◌, map, Bool, true, false, not, refl, sym, ap, subst}
-use Rattle.std.specs.Prelude.{Option, Some, IsTrue, slice_get}
-use Rattle.std.proofs.lemmas.List.{append-nil}
-use Rattle.keep_core.specs.Contents.{Contents}
-use Rattle.keep_core.specs.Kept.{Kept}
-use Rattle.keep_core.specs.Revealed.{Takes, TakesPrefix}
-use Rattle.repl_definitions.specs.declared.member.Member.{Member}
-use Rattle.repl_definitions.specs.declared.set.SetDef.{SetDef}
-use Rattle.repl_model.specs.Rules.{is_replica_set}
-use Rattle.repl_model.specs.World.{World, KnownSet}
+use Rattle.std.proofs.Common.{◌≡◌, ◌↔◌, ℕ, List, [], ◌∷◌, map, Bool, true, false, not, refl, sym, ap, subst, Option, Some, IsTrue, slice_get, append-nil}
+use Rattle.world_store.specs.Words.{Stands}
+use Rattle.site_store.specs.Words.{Contents, Kept, Takes, TakesPrefix, names, held}
+use Rattle.site_store.specs.declared.sites.Sites.{Sites}
+use Rattle.repl_model.specs.Words.{Member, SetDef, is_replica_set, World, KnownSet}
 use Rattle.run_core.specs.Runs.{Event, Went, Stopped, writes, is_refused}
 use Rattle.run_core.specs.laws.Quiet.{went_quiet, stopped_quiet}
-use Rattle.site_store.specs.Views.{names, held}
-use Rattle.site_store.specs.declared.sites.Sites.{Sites}
-use Rattle.world_store.specs.Stands.{Stands}
 use Rattle.run_commands.specs.parts.laws.Lines.{lines_quiet, lines_in_turn, none_refused}
 use Rattle.set_places.specs.Places.{IsPlacedAs, IsReadOnly, ForSet}
 use Rattle.set_places.specs.declared.placed_set.PlacedSet.{PlacedSet}

@@ -1,38 +1,26 @@
 -- The steps of a set, one after another, as a part of a run.
-use Rattle.std.proofs.Common.{◌≡◌, ◌∙◌, ℕ, suc, ◌+◌, ◌-◌, ◌<◌, ◌≤◌, List, [], ◌∷◌, ◌++◌, cond, Bool, true, false, ◌||◌, refl, sym, ap, subst, arith, append_assoc}
-use Rattle.std.specs.Prelude.{Option, Some, None, nat_lt, IsTrue, not}
+use Rattle.std.proofs.Common.{◌≡◌, ◌∙◌, ℕ, suc, ◌+◌, ◌-◌, ◌<◌, ◌≤◌, List, [], ◌∷◌, ◌++◌, cond, Bool, true, false, ◌||◌, refl, sym, ap, subst, arith, append_assoc, Option, Some, None, nat_lt, IsTrue, not, append-nil}
 use Rattle.std.specs.List.{list_all, list_any}
 use Rattle.std.specs.Option.{option_map_or}
 use Rattle.std.proofs.lemmas.Bool.{and_parts}
-use Rattle.std.proofs.lemmas.List.{append-nil}
-use Rattle.repl_types.specs.declared.record.SetId.{SetId}
-use Rattle.repl_types.specs.declared.refusal.Refusal.{Refusal}
+use Rattle.site_store.specs.Words.{Contents, Takes, TakesPrefix, takes_nothing}
+use Rattle.repl_model.specs.Words.{SetId, Refusal, Member, TargetKind, after_action, Action, signals, refreshes, blocks, reports, idles, refuses, next_action, is_replica, IsSound, log_limit, World, KnownSet, known_set}
 use Rattle.repl_types.specs.declared.refusal.Refusal.TheVariants as refusals
-use Rattle.keep_core.specs.Contents.{Contents}
-use Rattle.keep_core.specs.Revealed.{Takes, TakesPrefix}
-use Rattle.keep_core.specs.laws.Revealed.{takes_nothing}
-use Rattle.repl_definitions.specs.declared.member.Member.{Member}
-use Rattle.repl_definitions.specs.declared.member.TargetKind.{TargetKind}
 use Rattle.repl_definitions.specs.declared.member.TargetKind.TheVariants.{UserCopy, PointInTime, BaseAggregate, ChangeAggregate, Ccd, Replica}
-use Rattle.repl_model.specs.AfterActions.{after_action}
-use Rattle.repl_model.specs.NextActions.{Action, signals, refreshes, blocks, reports, idles, refuses, next_action}
-use Rattle.repl_model.specs.Rules.{is_replica}
-use Rattle.repl_model.specs.Sound.{IsSound}
-use Rattle.repl_model.specs.SoundLogs.{log_limit}
-use Rattle.repl_model.specs.World.{World, KnownSet, known_set}
 use Rattle.reply_text.specs.Replies.{reply_line}
 use Rattle.reply_text.specs.declared.reply.Reply.TheVariants as replies
 use Rattle.run_core.specs.Runs.{Event, commits, writes, last_world, lines_of, is_refused, Went, Stopped}
 use Rattle.run_core.specs.laws.Runs.{last_append, refused_append, went_both, stopped_in_first, stopped_in_second}
 use Rattle.run_core.specs.laws.Quiet.{went_quiet, stopped_quiet}
 use Rattle.run_commands.specs.parts.Refusing.{refused}
-use Rattle.world_commits.specs.actions.Resting.{commits_world, steps_left, NextActionsRest}
+use Rattle.world_commits.specs.actions.Resting.{commits_world, steps_left}
 use Rattle.world_commits.specs.actions.laws.Resting.{few_steps}
 use Rattle.apply_cycle.specs.Signals.{length_signalled}
 use Rattle.apply_copies.specs.Copies.{is_user_copy}
 use Rattle.run_commands.specs.apply.Progress.{progress_of, step_of}
 use Rattle.run_commands.specs.apply.StepEvents.{Outcome, declines, rests, makes, making, outcome_of, is_carried_out, next_outcome, outcome, events_of, events_from, most_steps, apply_events}
 use Rattle.run_commands.specs.declared.apply.steps.Progress.TheVariants.{Refused, Rested, Made}
+use Rattle.world_commits.specs.laws.Resting.{each_leaves_fewer}
 
 -- ---- sets that are carried out
 
@@ -63,8 +51,8 @@ record Nears (id : SetId) (w v : World) : Type 0 where
   fewer : steps_left l < steps_left k
 
 -- a step that made a world made it so
-nears : NextActionsRest → (number : ℕ) (id : SetId) (w v : World) (line : List ℕ) → IsSound w → outcome number id w ≡ makes v line → Nears id w v
-nears rest number id w v line sound is = by_known (known_set w id) refl is
+nears : (number : ℕ) (id : SetId) (w v : World) (line : List ℕ) → IsSound w → outcome number id w ≡ makes v line → Nears id w v
+nears number id w v line sound is = by_known (known_set w id) refl is
   where
     by_action : (k : KnownSet) (a : Action) → outcome_of w k a ≡ makes v line
         → IsTrue (commits_world a) × (after_action w k a ≡ v)
@@ -83,7 +71,7 @@ nears rest number id w v line sound is = by_known (known_set w id) refl is
     by_carried k known true carried is =
         let read_only = not_replicas k.at_target.def.members carried in
         let made = by_action k (next_action k) is in
-        let l = rest w k id sound known read_only made.0 in
+        let l = each_leaves_fewer w k id sound known read_only made.0 in
         record { k = k; l = l.0; known = known; next = subst (λ (u : World). known_set u id ≡ Some l.0) made.1 l.1; fewer = l.2 }
     by_carried k known false carried is = absurd cc
 
@@ -166,13 +154,13 @@ module _ (Means : List (Option Contents) → World → Type 0) (number : ℕ) (i
       so_far = record { stands = applies.stands; bytes = applies.bytes }
 
       -- one more step was made
-      pub made_more : NextActionsRest → ((x : List (Option Contents)) (v : World) → Means x v → IsSound v) → Went Means (step_of (outcome number id here)) here h2 u u2 → Made ≡ progress_of (outcome number id here) → Applies (n + 1) h2 u2
-      made_more rest sounds went is =
+      pub made_more : ((x : List (Option Contents)) (v : World) → Means x v → IsSound v) → Went Means (step_of (outcome number id here)) here h2 u u2 → Made ≡ progress_of (outcome number id here) → Applies (n + 1) h2 u2
+      made_more sounds went is =
           let o = made_some (outcome number id here) is in
           let v = o.0 in
           let line = o.1 in
           let step = commits v ∷ writes line ∷ [] in
-          let nearer = nears rest number id here v line (sounds h here applies.stands) o.2 in
+          let nearer = nears number id here v line (sounds h here applies.stands) o.2 in
           let same : applies.k ≡ nearer.k = cc in
           let one : Went Means step here h2 u u2 = subst (λ (x : Outcome). Went Means (step_of x) here h2 u u2) o.2 went in
           let both : Went Means (applies.done ++ step) w h2 t u2 = went_both Means w applies.done step h h2 t u u2 so_far one in

@@ -1,29 +1,16 @@
 -- What an append of the records that wait means as events.
-use Rattle.std.proofs.Common.{◌≡◌, inl, inr, ℕ, ◌<◌, ◌+◌, List, [], ◌∷◌, ◌++◌, length, cond, Bool, true, false, refl, sym, ap, subst, ◌∙◌, arith}
-use Rattle.std.specs.Prelude.{Option, Some, None, Result, Ok, Err, IsSome, is_none}
+use Rattle.std.proofs.Common.{◌≡◌, inl, inr, ℕ, ◌<◌, ◌+◌, List, [], ◌∷◌, ◌++◌, length, false, refl, sym, ap, subst, ◌∙◌, arith, Option, Some, None, Result, Ok, Err, IsSome, is_none, append-nil, length-append}
 use Rattle.std.specs.Option.{option_map_or}
-use Rattle.std.specs.Str.{bytes_eq}
-use Rattle.std.proofs.lemmas.List.{append-nil, length-append}
-use Rattle.repl_types.specs.declared.record.LogRecord.{LogRecord}
-use Rattle.repl_types.specs.declared.refusal.Refusal.{Refusal}
+use Rattle.repl_model.specs.Words.{LogRecord, Refusal, AppendError, Fault, grown, Server, World, server_in, grown_nothing}
+use Rattle.world_store.specs.Words.{Stands}
+use Rattle.site_store.specs.Words.{Contents, Kept, takes_nothing, KeepsServers, HoldsOrInDoubt, AllClosed, HasNone, IsPlace, names, held, work}
+use Rattle.site_store.specs.declared.sites.Sites.{Sites}
 use Rattle.repl_types.specs.declared.refusal.Refusal.TheVariants as refusals
-use Rattle.repl_types.specs.declared.call_errors.AppendError.{AppendError}
 use Rattle.repl_types.specs.declared.call_errors.AppendError.TheVariants as errors
-use Rattle.repl_types.specs.declared.fault.Fault.{Fault}
 use Rattle.repl_types.specs.declared.fault.Fault.TheVariants as fault
-use Rattle.keep_core.specs.Contents.{Contents}
-use Rattle.keep_core.specs.Kept.{Kept}
-use Rattle.keep_core.specs.laws.Revealed.{takes_nothing}
-use Rattle.repl_model.specs.Longer.{with_more, grown}
-use Rattle.repl_model.specs.World.{Server, World, server_in}
 use Rattle.run_core.specs.Runs.{Event, last_world, is_refused, Went, Stopped}
 use Rattle.run_core.specs.laws.Runs.{stopped_before, stopped_in_second}
-use Rattle.site_store.specs.Calls.{KeepsServers, HoldsOrInDoubt}
-use Rattle.site_store.specs.Servers.{AllClosed, HasNone, IsPlace}
-use Rattle.site_store.specs.Views.{names, held, work}
-use Rattle.site_store.specs.declared.sites.Sites.{Sites}
 use Rattle.set_places.specs.laws.Commits.{unchanged_if_damaged}
-use Rattle.world_store.specs.Stands.{Stands}
 use Rattle.stored_defs.specs.laws.Standing.{server_at_place, no_server}
 use Rattle.source_log.specs.Appending.{taken as taken_records, append_error, StandGrown, HasAppended, HasNotAppended, BlamesFault}
 use Rattle.source_log.specs.Rules.{all_rules, ShowsDamage}
@@ -37,15 +24,6 @@ use Rattle.run_commands.specs.feed.FeedEvents.{commit_events, error_events, serv
 use Rattle.run_commands.specs.declared.feed.feed.Feed.{Feed}
 
 -- ---- a commit of records
-
--- a log that is made longer by nothing stays, and with it the world
-grown_nothing : (name : List ℕ) (w : World) → grown name [] w ≡ w
-grown_nothing name [] = refl
-grown_nothing name (s ∷ ss) = λ i. same (bytes_eq name s.name) i ∷ grown_nothing name ss i
-  where
-    same : (b : Bool) → cond b (with_more [] s) s ≡ s
-    same true = ap (λ (l : List LogRecord). record s { log = l }) (append-nil s.log)
-    same false = refl
 
 -- a commit of some records happened, if the servers stand for the world that has them
 commit_went : (S : List (Option Contents) → World → Type 0) (name : List ℕ) (rs : List LogRecord) (w : World) (h : List (Option Contents)) (t : Option (List ℕ)) → S h (grown name rs w) → Went S

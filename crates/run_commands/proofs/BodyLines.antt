@@ -1,21 +1,16 @@
 -- What a run does at the lines of a feed, one after another.
-use Rattle.std.proofs.Common.{◌≡◌, ◌+◌, ℕ, List, length, [], ◌∷◌, ◌++◌, Bool, true, false, sym, ap, ◌∙◌}
-use Rattle.std.specs.Prelude.{Option, Some, None, Result, Ok, Err, IfOk, IfSome, is_some, is_none, if◌then◌else◌}
+use Rattle.std.proofs.Common.{◌≡◌, ◌+◌, ℕ, List, length, [], ◌∷◌, ◌++◌, Bool, true, false, sym, ap, ◌∙◌, Option, Some, None, Result, Ok, Err, IfOk, IfSome, is_some, is_none, if◌then◌else◌, append-nil}
 use Rattle.std.specs.Option.{option_map, option_map_or}
-use Rattle.std.proofs.lemmas.List.{append-nil}
-use Rattle.repl_types.specs.declared.record.LogRecord.{LogRecord}
+use Rattle.world_store.specs.Words.{Stands}
+use Rattle.site_store.specs.Words.{Kept, AllClosed, HasNone, IsPlace, names, held, work}
+use Rattle.site_store.specs.declared.sites.Sites.{Sites}
+use Rattle.repl_model.specs.Words.{LogRecord, Server, World}
 use Rattle.repl_types.specs.declared.refusal.Refusal.TheVariants as refusals
-use Rattle.keep_core.specs.Kept.{Kept}
 use Rattle.log_text.specs.Records.{record_of}
-use Rattle.repl_model.specs.World.{Server, World}
 use Rattle.reply_text.specs.Replies.{reply_line}
 use Rattle.reply_text.specs.declared.reply.Reply.TheVariants as replies
 use Rattle.run_core.specs.Runs.{Event, writes, last_world, is_refused}
 use Rattle.run_core.specs.laws.Runs.{stopped_in_first}
-use Rattle.site_store.specs.Servers.{AllClosed, HasNone, IsPlace}
-use Rattle.site_store.specs.Views.{names, held, work}
-use Rattle.site_store.specs.declared.sites.Sites.{Sites}
-use Rattle.world_store.specs.Stands.{Stands}
 use Rattle.stored_defs.specs.laws.Standing.{server_at_place, no_server}
 use Rattle.run_commands.specs.parts.Parts.{IsPart}
 use Rattle.run_commands.specs.declared.parts.run_error.RunError.{RunError}

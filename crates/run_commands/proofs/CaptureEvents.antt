@@ -1,20 +1,14 @@
 -- How a capture is carried out.
-use Rattle.std.proofs.Common.{◌≡◌, ◌∙◌, ℕ, ◌<◌, List, [], ◌∷◌, ◌++◌, length, map, take, Bool, false, refl, sym, ap, subst, arith}
-use Rattle.std.specs.Prelude.{Option, Some, IsSome}
+use Rattle.std.proofs.Common.{◌≡◌, ◌∙◌, ℕ, ◌<◌, List, [], ◌∷◌, ◌++◌, length, map, take, Bool, false, refl, sym, ap, subst, arith, Option, Some, IsSome}
 use Rattle.std.specs.Option.{option_map_or}
+use Rattle.world_store.specs.Words.{Stands}
+use Rattle.site_store.specs.Words.{Kept, Takes, TakesPrefix, KeepsServers, Blames, AllClosed, HasNone, IsPlace, names, held, work}
+use Rattle.site_store.specs.declared.sites.Sites.{Sites}
+use Rattle.repl_model.specs.Words.{Fault, World, server_in}
 use Rattle.repl_types.specs.declared.refusal.Refusal.TheVariants as refusals
-use Rattle.repl_types.specs.declared.fault.Fault.{Fault}
 use Rattle.repl_types.specs.declared.fault.Fault.TheVariants as faults
-use Rattle.keep_core.specs.Kept.{Kept}
-use Rattle.keep_core.specs.Revealed.{Takes, TakesPrefix}
-use Rattle.repl_model.specs.World.{World, server_in}
 use Rattle.run_core.specs.Runs.{Event, commits, writes, is_refused, Stopped}
 use Rattle.run_core.specs.laws.Runs.{stopped_in_first}
-use Rattle.site_store.specs.Calls.{KeepsServers, Blames}
-use Rattle.site_store.specs.Servers.{AllClosed, HasNone, IsPlace}
-use Rattle.site_store.specs.Views.{names, held, work}
-use Rattle.site_store.specs.declared.sites.Sites.{Sites}
-use Rattle.world_store.specs.Stands.{Stands}
 use Rattle.world_commits.specs.captures.Captures.{captured, taken_units}
 use Rattle.capture_core.specs.Capturing.{batch_ends, captured_counts, HasCapturedAll, HasStopped, capture_events as capture_commits}
 use Rattle.capture_core.specs.Rules.{rules, ShowsDamage}

@@ -1,17 +1,12 @@
 -- A line that is read as a record is that of a user's.
-use Rattle.std.proofs.Common.{ℕ, true, refl, arith}
-use Rattle.std.specs.Prelude.{IsTrue, not, ◌==◌, Some, None}
+use Rattle.std.proofs.Common.{ℕ, true, refl, arith, IsTrue, not, ◌==◌, Some, None}
 use Rattle.std.proofs.lemmas.Bool.{and_from}
 use Rattle.std.proofs.lemmas.Bool.Decides.{nat_tests}
 use Rattle.std.proofs.lemmas.List.Elements.{recursion_from_All}
-use Rattle.repl_types.specs.Value.{Values}
-use Rattle.repl_types.specs.ValueText.{IsValue}
-use Rattle.repl_types.specs.declared.record.Change.{Change}
+use Rattle.world_store.specs.Words.{IsChange, Is32, IsRow}
+use Rattle.repl_model.specs.Words.{Values, IsValue, Change, LogRecord}
 use Rattle.repl_types.specs.declared.record.Change.TheVariants.{Insert, Update, Delete, Start, Stop}
-use Rattle.repl_types.specs.declared.record.LogRecord.{LogRecord}
 use Rattle.repl_types.specs.declared.record.LogRecord.TheVariants as records
-use Rattle.row_codec.specs.LogRecords.{IsChange}
-use Rattle.row_codec.specs.Spelling.{Is32, IsRow}
 use Rattle.log_text.specs.RecordText.{IsUserTx, IsRecordRow, IsUserChange, IsWritable}
 use Rattle.source_log.specs.Storing.{MayAppend}
 

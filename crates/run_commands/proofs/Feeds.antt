@@ -1,10 +1,8 @@
 -- Feeds after their lines.
-use Rattle.std.proofs.Common.{◌≡◌, ◌<◌, ◌≤◌, ◌+◌, ℕ, [], ◌∷◌, ◌++◌, length, Bool, true, false, refl, sym, subst, arith}
-use Rattle.std.specs.Prelude.{Option, Some, None, IfSome, ◌||◌, nat_le, if◌then◌else◌}
+use Rattle.std.proofs.Common.{◌≡◌, ◌<◌, ◌≤◌, ◌+◌, ℕ, [], ◌∷◌, ◌++◌, length, Bool, true, false, refl, sym, subst, arith, Option, Some, None, IfSome, ◌||◌, nat_le, if◌then◌else◌, length-append}
 use Rattle.std.proofs.lemmas.Bool.Decides.{nat_tests}
-use Rattle.std.proofs.lemmas.List.{length-append}
 use Rattle.std.proofs.lemmas.List.Elements.{All-from_recursion, All-push, recursion_from_All}
-use Rattle.repl_types.specs.declared.record.LogRecord.{LogRecord}
+use Rattle.repl_model.specs.Words.{LogRecord}
 use Rattle.line_input.specs.Limits.{input_limit}
 use Rattle.source_log.specs.Storing.{MayAppend}
 use Rattle.run_commands.specs.feed.FeedEvents.{after_record}

@@ -1,20 +1,16 @@
 -- The steps of the set of a name, which is looked for first.
-use Rattle.std.proofs.Common.{◌≡◌, ◌∙◌, ◌+◌, ℕ, [], ◌∷◌, sym, ap}
-use Rattle.std.specs.Prelude.{Option, Some, None}
+use Rattle.std.proofs.Common.{◌≡◌, ◌∙◌, ◌+◌, ℕ, [], ◌∷◌, sym, ap, Option, Some, None}
 use Rattle.std.specs.Option.{option_map_or}
-use Rattle.repl_types.specs.declared.record.SetId.{SetId}
+use Rattle.world_store.specs.Words.{Stands}
+use Rattle.site_store.specs.Words.{Kept, Looks, names, held}
+use Rattle.site_store.specs.declared.sites.Sites.{Sites}
+use Rattle.repl_model.specs.Words.{SetId, World, KnownSet}
 use Rattle.repl_types.specs.declared.refusal.Refusal.TheVariants as refusals
-use Rattle.keep_core.specs.Kept.{Kept}
-use Rattle.repl_model.specs.World.{World, KnownSet}
 use Rattle.reply_text.specs.Replies.{reply_line}
 use Rattle.reply_text.specs.declared.reply.Reply.TheVariants as replies
 use Rattle.run_core.specs.Runs.{writes}
 use Rattle.run_commands.specs.parts.Refusing.{refused}
 use Rattle.run_commands.specs.parts.laws.Looking.{stood_before}
-use Rattle.site_store.specs.one_server.Calls.{Looks}
-use Rattle.site_store.specs.Views.{names, held}
-use Rattle.site_store.specs.declared.sites.Sites.{Sites}
-use Rattle.world_store.specs.Stands.{Stands}
 use Rattle.set_places.specs.Places.{IsKnownAs}
 use Rattle.set_places.specs.declared.placed_set.PlacedSet.{PlacedSet}
 use Rattle.apply_cycle.specs.Cycling.{MakesAtMost}

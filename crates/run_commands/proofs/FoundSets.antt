@@ -1,19 +1,11 @@
 -- A set that was found and is carried out.
-use Rattle.std.proofs.Common.{◌≡◌, List, [], ◌∷◌, true, not, sym, subst}
-use Rattle.std.specs.Prelude.{IsTrue, Some}
+use Rattle.std.proofs.Common.{◌≡◌, List, [], ◌∷◌, true, not, sym, subst, IsTrue, Some}
 use Rattle.std.proofs.lemmas.Bool.{and_parts}
 use Rattle.std.specs.List.{AllByRecursion, list_all}
-use Rattle.repl_types.specs.declared.fault.Fault.{Fault}
-use Rattle.repl_types.specs.declared.fault.Fault.TheVariants as faults
-use Rattle.keep_core.specs.Kept.{Kept}
-use Rattle.repl_definitions.specs.declared.member.Member.{Member}
-use Rattle.repl_definitions.specs.declared.set.SetDef.{SetDef}
-use Rattle.repl_model.specs.AfterActions.{after_action}
-use Rattle.repl_model.specs.NextActions.{next_action}
-use Rattle.repl_model.specs.Rules.{is_replica_set}
-use Rattle.repl_model.specs.Sound.{IsSound}
-use Rattle.repl_model.specs.World.{World, KnownSet}
+use Rattle.site_store.specs.Words.{Kept}
 use Rattle.site_store.specs.declared.sites.Sites.{Sites}
+use Rattle.repl_model.specs.Words.{Fault, Member, SetDef, after_action, next_action, is_replica_set, IsSound, World, KnownSet}
+use Rattle.repl_types.specs.declared.fault.Fault.TheVariants as faults
 use Rattle.set_places.specs.Places.{IsPlacedAs, IsReadOnly}
 use Rattle.set_places.specs.Steps.{MayHaveBecome}
 use Rattle.set_places.specs.declared.placed_set.PlacedSet.{PlacedSet}

@@ -1,15 +1,9 @@
 -- Why a load failed.
-use Rattle.std.proofs.Common.{◌≡◌, ℕ, ◌<◌, length}
-use Rattle.std.specs.Prelude.{Some}
-use Rattle.repl_types.specs.declared.area.Area.{Area}
-use Rattle.repl_types.specs.declared.status.DamageCause.{DamageCause}
-use Rattle.repl_types.specs.declared.fault.Fault.{Fault}
-use Rattle.repl_types.specs.declared.fault.Fault.TheVariants as faults
-use Rattle.keep_core.specs.Kept.{Kept}
-use Rattle.site_store.specs.Calls.{KeepsServers, Blames}
-use Rattle.site_store.specs.Servers.{AllClosed}
-use Rattle.site_store.specs.Views.{names, held, work}
+use Rattle.std.proofs.Common.{◌≡◌, ℕ, ◌<◌, length, Some}
+use Rattle.site_store.specs.Words.{Kept, KeepsServers, Blames, AllClosed, names, held, work}
 use Rattle.site_store.specs.declared.sites.Sites.{Sites}
+use Rattle.repl_model.specs.Words.{Area, DamageCause, Fault}
+use Rattle.repl_types.specs.declared.fault.Fault.TheVariants as faults
 use Rattle.stored_defs.specs.Rules.{rules, ShowsDamage}
 use Rattle.stored_defs.specs.laws.Standing.{none_damaged}
 use Rattle.load_defs.specs.Loading.{BlamesOrRefuses}

@@ -1,27 +1,21 @@
 -- How the text of a load is carried out.
-use Rattle.std.proofs.Common.{◌≡◌, ◌++◌, ◌∷◌, [], ◌∙◌, ℕ, List, Bool, true, false, refl, sym, ap, subst, map}
-use Rattle.std.specs.Prelude.{Option, Some, None, if◌then◌else◌, option_and_then}
+use Rattle.std.proofs.Common.{◌≡◌, ◌++◌, ◌∷◌, [], ◌∙◌, ℕ, List, Bool, true, false, refl, sym, ap, subst, map, Option, Some, None, if◌then◌else◌, option_and_then, append-nil}
 use Rattle.std.specs.Option.{option_map_or}
 use Rattle.std.specs.Str.{is_utf8}
-use Rattle.std.proofs.lemmas.List.{append-nil}
 use Rattle.std.proofs.lemmas.Str.{IsUtf8-from_is_utf8, is_utf8-from_IsUtf8}
+use Rattle.world_store.specs.Words.{Stands}
+use Rattle.site_store.specs.Words.{Kept, Takes, TakesPrefix, names, held}
+use Rattle.site_store.specs.declared.sites.Sites.{Sites}
+use Rattle.repl_model.specs.Words.{Refusal, Fault, World}
 use Rattle.toml.specs.Data.{Members}
 use Rattle.toml.specs.Parse.{parse_document}
-use Rattle.repl_types.specs.declared.refusal.Refusal.{Refusal}
-use Rattle.repl_types.specs.declared.fault.Fault.{Fault}
 use Rattle.repl_types.specs.declared.fault.Fault.TheVariants as faults
-use Rattle.keep_core.specs.Kept.{Kept}
-use Rattle.keep_core.specs.Revealed.{Takes, TakesPrefix}
 use Rattle.repl_commands.specs.declared.written.RawDefs.{RawDefs}
 use Rattle.raw_defs.specs.Raw.{AreRawDefs, raw_defs_of}
 use Rattle.raw_defs.specs.Shape.{fits_item}
 use Rattle.raw_defs.specs.declared.shape.ItemKind.TheVariants as items
-use Rattle.repl_model.specs.World.{World}
 use Rattle.run_core.specs.Runs.{Event, commits, writes, last_world, lines_of, is_refused, Went, Stopped}
 use Rattle.run_core.specs.laws.Runs.{went_both, stopped_in_line, stopped_in_first, stopped_in_second}
-use Rattle.site_store.specs.Views.{names, held}
-use Rattle.site_store.specs.declared.sites.Sites.{Sites}
-use Rattle.world_store.specs.Stands.{Stands}
 use Rattle.load_laws.specs.planned.Path.{load_path}
 use Rattle.load_defs.specs.Loading.{defs_in, load_commits, load_events, refusal_in, HasLoaded, HasNotLoaded, SomeHappened}
 use Rattle.load_defs.specs.declared.counts.Loaded.{Loaded}

@@ -1,15 +1,11 @@
 -- A step of the set of a name, which is looked for first.
-use Rattle.std.proofs.Common.{◌≡◌, ◌∙◌, ℕ, cond, Bool, true, false, sym, ap, subst}
-use Rattle.std.specs.Prelude.{Option, Some, None}
+use Rattle.std.proofs.Common.{◌≡◌, ◌∙◌, ℕ, cond, Bool, true, false, sym, ap, subst, Option, Some, None}
 use Rattle.std.specs.Option.{option_map_or, IfSome}
-use Rattle.repl_types.specs.declared.record.SetId.{SetId}
-use Rattle.repl_types.specs.declared.refusal.Refusal.TheVariants as refusals
-use Rattle.keep_core.specs.Kept.{Kept}
-use Rattle.repl_model.specs.NextActions.{next_action}
-use Rattle.repl_model.specs.World.{World, KnownSet}
-use Rattle.site_store.specs.Views.{names, held}
+use Rattle.world_store.specs.Words.{Stands}
+use Rattle.site_store.specs.Words.{Kept, names, held}
 use Rattle.site_store.specs.declared.sites.Sites.{Sites}
-use Rattle.world_store.specs.Stands.{Stands}
+use Rattle.repl_model.specs.Words.{SetId, next_action, World, KnownSet}
+use Rattle.repl_types.specs.declared.refusal.Refusal.TheVariants as refusals
 use Rattle.set_places.specs.Places.{IsKnownAs, IsPlacedAs, IsPlaced}
 use Rattle.set_places.specs.declared.placed_set.PlacedSet.{PlacedSet}
 use Rattle.run_commands.specs.apply.StepEvents.{declines, outcome_of, is_carried_out, next_outcome, outcome}

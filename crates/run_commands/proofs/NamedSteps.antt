@@ -1,13 +1,10 @@
 -- A step after others, by the names that the servers had at first.
-use Rattle.std.proofs.Common.{◌≡◌, ℕ, List, sym, subst}
-use Rattle.std.specs.Prelude.{Option, Ok}
-use Rattle.repl_types.specs.declared.record.SetId.{SetId}
-use Rattle.keep_core.specs.Kept.{Kept}
-use Rattle.repl_model.specs.World.{World}
-use Rattle.run_core.specs.Runs.{Went, Stopped}
-use Rattle.site_store.specs.Views.{names, held}
+use Rattle.std.proofs.Common.{◌≡◌, ℕ, List, sym, subst, Option, Ok}
+use Rattle.world_store.specs.Words.{Stands}
+use Rattle.site_store.specs.Words.{Kept, names, held}
 use Rattle.site_store.specs.declared.sites.Sites.{Sites}
-use Rattle.world_store.specs.Stands.{Stands}
+use Rattle.repl_model.specs.Words.{SetId, World}
+use Rattle.run_core.specs.Runs.{Went, Stopped}
 use Rattle.run_commands.specs.apply.Progress.{step_of, progress_of, is_refusal}
 use Rattle.run_commands.specs.declared.apply.steps.Progress.{Progress}
 use Rattle.run_commands.specs.parts.Parts.{IsPart}

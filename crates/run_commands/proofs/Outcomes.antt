@@ -1,39 +1,19 @@
 -- What a step of a set came to, as events of a run.
-use Rattle.std.proofs.Common.{◌≡◌, ◌≢◌, ◌∙◌, ◌⊎◌, inl, inr, ℕ, ◌<◌, ◌≤◌, List, [], ◌∷◌, cond, Bool, true, false, refl, sym, ap, subst, arith}
-use Rattle.std.specs.Prelude.{Option, nat_lt, IsTrue}
-use Rattle.std.specs.Str.{bytes_eq}
-use Rattle.std.proofs.lemmas.Bool.Decides.{nat_tests}
-use Rattle.std.proofs.lemmas.List.{length-append, append-nil}
-use Rattle.repl_types.specs.declared.refusal.Refusal.{Refusal}
+use Rattle.std.proofs.Common.{◌≡◌, ◌≢◌, ◌∙◌, ◌⊎◌, inl, inr, ℕ, ◌≤◌, List, [], ◌∷◌, cond, Bool, refl, sym, ap, subst, arith, Option, IsTrue, bytes_eq, length-append, append-nil, lt-ltb, le-ltb}
+use Rattle.world_store.specs.Words.{Stands}
+use Rattle.site_store.specs.Words.{Contents, Kept, Takes, TakesPrefix, names, held}
+use Rattle.site_store.specs.declared.sites.Sites.{Sites}
+use Rattle.repl_model.specs.Words.{Refusal, Fault, Stepped, signal_records, signalled, after_action, Action, signals, refreshes, blocks, reports, idles, refuses, next_action, IsSound, log_limit, LogIsSound, Server, World, KnownSet, In, at_one, image_in, name_itself}
 use Rattle.repl_types.specs.declared.refusal.Refusal.TheVariants as refusals
-use Rattle.repl_types.specs.declared.fault.Fault.{Fault}
 use Rattle.repl_types.specs.declared.fault.Fault.TheVariants as faults
-use Rattle.repl_types.specs.declared.fault.Stepped.{Stepped}
 use Rattle.repl_types.specs.declared.fault.Stepped.TheVariants as steps
-use Rattle.keep_core.specs.Contents.{Contents}
-use Rattle.keep_core.specs.Kept.{Kept}
-use Rattle.keep_core.specs.Revealed.{Takes, TakesPrefix}
-use Rattle.repl_model.specs.AfterActions.{signal_records, signalled, after_action}
-use Rattle.repl_model.specs.NextActions.{Action, signals, refreshes, blocks, reports, idles, refuses, next_action}
-use Rattle.repl_model.specs.Sound.{IsSound}
-use Rattle.repl_model.specs.SoundLogs.{log_limit, LogIsSound}
-use Rattle.repl_model.specs.World.{Server, World, KnownSet}
 use Rattle.reply_text.specs.Steps.{step_line}
 use Rattle.run_core.specs.Runs.{commits, writes, lines_of, is_refused, Went, Stopped}
 use Rattle.run_core.specs.laws.Quiet.{went_quiet, stopped_quiet}
 use Rattle.run_core.specs.laws.Runs.{stopped_before, stopped_after, stopped_in_line}
 use Rattle.run_commands.specs.parts.Refusing.{refused}
 use Rattle.world_commits.specs.actions.Resting.{commits_world}
-use Rattle.repl_model.specs.laws.KnownSets.{known_stands}
-use Rattle.lists.specs.laws.Members.{In, at_one, found_in, image_in}
-use Rattle.repl_model.specs.laws.GrowingServers.{same_name, name_itself}
-use Rattle.site_store.specs.Views.{names, held}
-use Rattle.site_store.specs.declared.sites.Sites.{Sites}
-use Rattle.world_store.specs.Stands.{Stands}
-use Rattle.set_places.specs.Places.{IsPlacedAs}
 use Rattle.set_places.specs.Steps.{HasBecome, MayHaveBecome}
-use Rattle.set_places.specs.declared.placed_set.PlacedSet.{PlacedSet}
-use Rattle.set_places.specs.laws.Known.{placed_def}
 use Rattle.apply_cycle.specs.Signals.{length_signalled}
 use Rattle.apply_cycle.specs.Stepping.{answer_of, IsAnswer, IsRefused, HasMade}
 use Rattle.run_commands.specs.apply.Progress.{progress_told, line_told, progress_of, is_refusal, step_of}
@@ -72,17 +52,9 @@ room_after w k i sound =
     let here : In (signalled k.at_source.def k.source) (after_action w k signals) = subst (λ (b : Bool). In (cond b (signalled k.at_source.def k.source) k.source) (after_action w k signals)) (name_itself name) (image_in with_one w k.source i) in
     omega (arith, (at_one LogIsSound (after_action w k signals) (signalled k.at_source.def k.source) sound.logs here).short, length-append k.source.log (signal_records k.at_source.def k.source.log))
 
--- a limit that is kept isn't passed
-not_above : (n m : ℕ) → m ≤ n → nat_lt n m ≡ false
-not_above n m le = grind (arith, nat_tests)
-
--- one that is passed is
-above : (n m : ℕ) → n < m → nat_lt n m ≡ true
-above n m lt = grind (arith, nat_tests)
-
 -- an action whose world is sound is made
 made_if_sound : (w : World) (k : KnownSet) → In k.source w → (a : Action) → Commits a → IsSound (after_action w k a) → outcome_of w k a ≡ making w k a
-made_if_sound w k i signals by sound = ap (λ (b : Bool). cond b (declines (refusals.LogFull k.source.name)) (making w k signals)) (not_above log_limit (length_signalled k) (room_after w k i sound))
+made_if_sound w k i signals by sound = ap (λ (b : Bool). cond b (declines (refusals.LogFull k.source.name)) (making w k signals)) (le-ltb log_limit (length_signalled k) (room_after w k i sound))
 made_if_sound w k i refreshes by sound = refl
 made_if_sound w k i (blocks upto) by sound = refl
 made_if_sound w k i reports by sound = refl
@@ -93,18 +65,11 @@ made_if_sound w k i (refuses place) by sound = absurd cc
 pub declined : (w : World) (k : KnownSet) (refusal : Refusal) → IsRefused k refusal → outcome_of w k (next_action k) ≡ declines refusal
 declined w k (refusals.LogFull name) is =
     subst (λ (a : Action). outcome_of w k a ≡ declines (refusals.LogFull name)) (sym is.0)
-    (ap (λ (b : Bool). cond b (declines (refusals.LogFull k.source.name)) (making w k signals)) (above log_limit (length_signalled k) is.1) ∙ ap (λ (n : List ℕ). declines (refusals.LogFull n)) (sym is.2))
+    (ap (λ (b : Bool). cond b (declines (refusals.LogFull k.source.name)) (making w k signals)) (lt-ltb log_limit (length_signalled k) is.1) ∙ ap (λ (n : List ℕ). declines (refusals.LogFull n)) (sym is.2))
 declined w k (refusals.RefreshDisabled place) is = ap (outcome_of w k) is
 declined w k other is = absurd is
 
 -- ---- names
-
--- the name of a set's source that its definition has is that of the source
-pub source_name : (w : World) (k : KnownSet) (set : PlacedSet) → IsSound w → IsPlacedAs w k set → set.at_source.def.source ≡ k.source.name
-source_name w k set sound placed =
-    let stands = known_stands w k placed.known in
-    let found = found_in (λ (server : Server). bytes_eq k.at_target.def.source server.name) w k.source stands.source in
-    ap (λ d. d.source) (placed_def w k set sound placed) ∙ ap (λ d. d.source) placed.target_def ∙ same_name k.at_target.def.source k.source.name found.1
 
 -- ---- events
 

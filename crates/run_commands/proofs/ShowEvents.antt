@@ -1,22 +1,15 @@
 -- How the rows of a table and all that a server has of a kind are shown.
-use Rattle.std.proofs.Common.{◌≡◌, ℕ, List, [], ◌∷◌, ◌++◌, map, Bool, true, false, refl, sym, ap, subst, ◌∙◌}
-use Rattle.std.specs.Prelude.{Option, Some, None, is_some}
-use Rattle.std.specs.List.{flat_map}
+use Rattle.std.proofs.Common.{◌≡◌, ℕ, List, [], ◌∷◌, ◌++◌, map, Bool, true, false, refl, sym, ap, subst, ◌∙◌, Option, Some, None, is_some, flat_map}
 use Rattle.std.specs.Option.{option_map_or}
 use Rattle.std.proofs.lemmas.Option.{same_Some}
+use Rattle.world_store.specs.Words.{Stands}
+use Rattle.site_store.specs.Words.{Kept, Takes, TakesPrefix, AllClosed, HasNone, IsPlace, names, held, work, Bounds}
+use Rattle.site_store.specs.declared.sites.Sites.{Sites}
+use Rattle.repl_model.specs.Words.{ShowError, Server, World, server_named, server_in}
 use Rattle.repl_types.specs.declared.refusal.Refusal.TheVariants as refusals
-use Rattle.repl_types.specs.declared.call_errors.ShowError.{ShowError}
 use Rattle.repl_types.specs.declared.call_errors.ShowError.TheVariants as shows
-use Rattle.keep_core.specs.Kept.{Kept}
-use Rattle.keep_core.specs.Revealed.{Takes, TakesPrefix}
-use Rattle.repl_model.specs.World.{Server, World, server_named, server_in}
 use Rattle.run_core.specs.Runs.{Event, writes, lines_of, is_refused}
 use Rattle.run_core.specs.laws.Quiet.{IsQuiet}
-use Rattle.site_store.specs.Servers.{AllClosed, HasNone, IsPlace}
-use Rattle.site_store.specs.Views.{names, held, work}
-use Rattle.site_store.specs.Calls.{Bounds}
-use Rattle.site_store.specs.declared.sites.Sites.{Sites}
-use Rattle.world_store.specs.Stands.{Stands}
 use Rattle.stored_defs.specs.laws.Standing.{server_at_place, no_server}
 use Rattle.shows.specs.servers.Showing.{IsUndamagedShow}
 use Rattle.shows.specs.tables.Rules.{rules, ShowsDamage}

@@ -1,19 +1,9 @@
 -- How `status` of a server is carried out.
-use Rattle.std.proofs.Common.{◌≡◌, ℕ, List, map, false, sym, ap}
-use Rattle.std.specs.Prelude.{Option, Some}
+use Rattle.std.proofs.Common.{◌≡◌, ℕ, List, map, false, sym, ap, Option, Some}
 use Rattle.std.specs.Option.{option_map_or}
 use Rattle.repl_types.specs.declared.refusal.Refusal.TheVariants as refusals
-use Rattle.repl_types.specs.declared.call_errors.ShowError.{ShowError}
 use Rattle.repl_types.specs.declared.call_errors.ShowError.TheVariants as shows
-use Rattle.keep_core.specs.Kept.{Kept}
-use Rattle.keep_core.specs.Revealed.{Takes, TakesPrefix}
-use Rattle.repl_model.specs.World.{World, Server, server_in}
 use Rattle.run_core.specs.Runs.{Event, writes}
-use Rattle.site_store.specs.Servers.{AllClosed, HasNone, IsPlace}
-use Rattle.site_store.specs.Views.{names, held, work}
-use Rattle.site_store.specs.Calls.{Bounds, Stays}
-use Rattle.site_store.specs.declared.sites.Sites.{Sites}
-use Rattle.world_store.specs.Stands.{Stands}
 use Rattle.stored_defs.specs.laws.Standing.{server_at_place, no_server}
 use Rattle.shows.specs.servers.Rules.{rules}
 use Rattle.shows.specs.servers.Showing.{FailsToShow, IsUndamagedShow}
@@ -27,6 +17,10 @@ use Rattle.run_commands.specs.declared.parts.run_error.RunError.TheVariants as e
 use Rattle.run_commands.specs.parts.laws.Damage.{status_shown, failed_cause}
 use Rattle.run_commands.specs.parts.laws.Lines.{lines_written, lines_begun}
 use Rattle.std.proofs.lemmas.Option.{same_Some}
+use Rattle.world_store.specs.Words.{Stands}
+use Rattle.site_store.specs.Words.{Kept, Takes, TakesPrefix, AllClosed, HasNone, IsPlace, names, held, work, Bounds, Stays}
+use Rattle.site_store.specs.declared.sites.Sites.{Sites}
+use Rattle.repl_model.specs.Words.{ShowError, World, Server, server_in}
 use Rattle.run_commands.specs.status.StatusEvents.{status_events}
 
 module _ {K : Type 0} (kept : K → Kept) (s0 : Sites K) (closed : AllClosed (work kept s0)) where

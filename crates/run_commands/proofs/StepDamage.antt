@@ -1,30 +1,13 @@
 -- Damage that a step met is damage by the rules of a run.
-use Rattle.std.proofs.Common.{◌≡◌, ◌⊎◌, inl, inr, ℕ, ◌<◌, List, length, map, false, sym, subst}
-use Rattle.std.proofs.lemmas.Bool.{true≢false}
-use Rattle.std.specs.Prelude.{zero, Option, Some, None}
-use Rattle.repl_types.specs.declared.area.Area.{Area}
-use Rattle.repl_types.specs.declared.area.Area.TheVariants as areas
-use Rattle.repl_types.specs.declared.status.DamageCause.{DamageCause}
-use Rattle.repl_types.specs.declared.status.DamageCause.TheVariants as causes
-use Rattle.repl_types.specs.declared.unit.Placed.{Placed}
-use Rattle.repl_types.specs.declared.fault.Fault.{Fault}
-use Rattle.repl_types.specs.declared.fault.Fault.TheVariants as faults
-use Rattle.keep_core.specs.Contents.{Contents}
-use Rattle.keep_core.specs.Kept.{Kept}
-use Rattle.repl_definitions.specs.declared.set.SetDef.{SetDef}
-use Rattle.repl_model.specs.AfterActions.{source_tables}
-use Rattle.repl_model.specs.Applicable.{is_signal}
-use Rattle.repl_model.specs.World.{World}
-use Rattle.lists.specs.laws.Members.{in_map}
+use Rattle.std.proofs.Common.{◌≡◌, ◌⊎◌, inl, inr, ℕ, ◌<◌, List, length, map, false, sym, subst, true≢false, zero, Option, Some, None}
+use Rattle.world_store.specs.Words.{Stands}
+use Rattle.site_store.specs.Words.{Contents, Kept, KeepsServers, HoldsOrInDoubt, Rules, joined, Shows, Damages, IsNoDamage, shown_first, shown_second, AllClosed, names, held, work, sees, if_seen}
 use Rattle.site_store.specs.declared.sites.Sites.{Sites}
-use Rattle.site_store.specs.Calls.{KeepsServers, HoldsOrInDoubt}
-use Rattle.site_store.specs.Damage.{Rules, joined, Shows, Damages, IsNoDamage}
-use Rattle.site_store.specs.laws.Damage.{shown_first, shown_second}
-use Rattle.site_store.specs.Servers.{AllClosed}
-use Rattle.site_store.specs.Views.{names, held, work, sees}
-use Rattle.site_store.specs.laws.Passing.{if_seen}
+use Rattle.repl_model.specs.Words.{Area, DamageCause, Placed, Fault, SetDef, source_tables, is_signal, World, in_map}
+use Rattle.repl_types.specs.declared.area.Area.TheVariants as areas
+use Rattle.repl_types.specs.declared.status.DamageCause.TheVariants as causes
+use Rattle.repl_types.specs.declared.fault.Fault.TheVariants as faults
 use Rattle.set_places.specs.laws.Commits.{unchanged_if_damaged}
-use Rattle.world_store.specs.Stands.{Stands}
 use Rattle.source_log.specs.Rules.{all_rules}
 use Rattle.source_log.specs.Units.{calls_for_table, is_unfit_table}
 use Rattle.subs_sets.specs.Rules as sets

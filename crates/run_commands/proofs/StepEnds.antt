@@ -1,10 +1,9 @@
 -- The events of one step as those of the command `step`.
-use Rattle.std.proofs.Common.{◌≡◌, ◌∙◌, ℕ, List, [], ◌∷◌, ◌++◌, ap, sym}
-use Rattle.repl_model.specs.World.{World}
+use Rattle.std.proofs.Common.{◌≡◌, ◌∙◌, ℕ, List, [], ◌∷◌, ◌++◌, ap, sym, Option}
+use Rattle.site_store.specs.Words.{Contents}
+use Rattle.repl_model.specs.Words.{World}
 use Rattle.run_core.specs.Runs.{Event, Stopped, writes}
 use Rattle.run_core.specs.laws.Runs.{stopped_in_first}
-use Rattle.keep_core.specs.Contents.{Contents}
-use Rattle.std.specs.Prelude.{Option}
 use Rattle.run_commands.specs.apply.Progress.{progress_of, step_of}
 use Rattle.run_commands.specs.apply.StepEvents.{Outcome, declines, rests, makes, events_of}
 use Rattle.run_commands.specs.declared.apply.steps.Progress.TheVariants.{Refused, Rested, Made}

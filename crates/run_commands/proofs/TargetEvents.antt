@@ -1,25 +1,15 @@
 -- How a set and a target are shown.
-use Rattle.std.proofs.Common.{◌≡◌, ◌∙◌, ℕ, ◌<◌, List, [], ◌∷◌, length, map, cond, Bool, true, false, refl, sym, ap, subst}
-use Rattle.std.specs.Prelude.{Option, Some, None, IsSome, slice_get}
+use Rattle.std.proofs.Common.{◌≡◌, ◌∙◌, ℕ, ◌<◌, List, [], ◌∷◌, length, map, cond, Bool, true, false, refl, sym, ap, subst, Option, Some, None, IsSome, slice_get}
 use Rattle.std.specs.Option.{option_map_or}
 use Rattle.std.proofs.lemmas.Option.{same_Some}
-use Rattle.repl_types.specs.declared.record.SetId.{SetId}
-use Rattle.repl_types.specs.declared.refusal.Refusal.TheVariants as refusals
-use Rattle.repl_types.specs.declared.call_errors.ShowError.{ShowError}
-use Rattle.repl_types.specs.declared.call_errors.ShowError.TheVariants as shows
-use Rattle.keep_core.specs.Kept.{Kept}
-use Rattle.repl_definitions.specs.declared.member.Member.{Member}
-use Rattle.repl_definitions.specs.declared.member.TargetKind.{TargetKind}
-use Rattle.repl_definitions.specs.declared.member.TargetKind.TheVariants.{UserCopy, PointInTime, BaseAggregate, ChangeAggregate, Ccd, Replica}
-use Rattle.repl_definitions.specs.declared.set.SetDef.{SetDef}
-use Rattle.repl_model.specs.Rules.{is_replica_set}
-use Rattle.repl_model.specs.World.{Server, World, KnownSet, server_in}
-use Rattle.run_core.specs.Runs.{Event, writes}
-use Rattle.site_store.specs.Servers.{AllClosed, HasNone, IsPlace}
-use Rattle.site_store.specs.Views.{names, held, work}
-use Rattle.site_store.specs.Calls.{KeepsServers}
+use Rattle.world_store.specs.Words.{Stands}
+use Rattle.site_store.specs.Words.{Kept, AllClosed, HasNone, IsPlace, names, held, work, KeepsServers}
 use Rattle.site_store.specs.declared.sites.Sites.{Sites}
-use Rattle.world_store.specs.Stands.{Stands}
+use Rattle.repl_model.specs.Words.{SetId, ShowError, Member, TargetKind, SetDef, is_replica_set, Server, World, KnownSet, server_in}
+use Rattle.repl_types.specs.declared.refusal.Refusal.TheVariants as refusals
+use Rattle.repl_types.specs.declared.call_errors.ShowError.TheVariants as shows
+use Rattle.repl_definitions.specs.declared.member.TargetKind.TheVariants.{UserCopy, PointInTime, BaseAggregate, ChangeAggregate, Ccd, Replica}
+use Rattle.run_core.specs.Runs.{Event, writes}
 use Rattle.stored_defs.specs.laws.Standing.{server_at_place, no_server}
 use Rattle.shows.specs.servers.Showing.{IsUndamagedShow}
 use Rattle.run_commands.specs.parts.Causes.{PartHasCause}

@@ -1,10 +1,9 @@
 -- The lines of steps that were made, and a set that doesn't come to rest.
-use Rattle.std.proofs.Common.{◌≡◌, ℕ, List, refl, sym, subst}
-use Rattle.std.specs.Prelude.{Option}
+use Rattle.std.proofs.Common.{◌≡◌, ℕ, List, refl, sym, subst, Option}
+use Rattle.site_store.specs.Words.{Takes}
+use Rattle.repl_model.specs.Words.{Stepped}
 use Rattle.repl_types.specs.declared.status.DamageCause.TheVariants as causes
-use Rattle.repl_types.specs.declared.fault.Stepped.{Stepped}
 use Rattle.repl_types.specs.declared.fault.Stepped.TheVariants as steps
-use Rattle.keep_core.specs.Revealed.{Takes}
 use Rattle.reply_text.specs.Steps.{step_line}
 use Rattle.run_commands.specs.parts.Causes.{FoundByRead}
 use Rattle.run_commands.specs.apply.Progress.{progress_told, line_told, TakesStep, TellsNoRest}

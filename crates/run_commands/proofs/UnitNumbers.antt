@@ -1,22 +1,13 @@
 -- The number of the server of a name.
-use Rattle.std.proofs.Common.{◌≡◌, ◌≢◌, ◌∙◌, ℕ, ◌<◌, List, [], length, cond, Bool, true, false, refl, sym, ap, subst, arith}
-use Rattle.std.specs.Prelude.{Option, Some, None, nat_lt, slice_index_or}
-use Rattle.std.specs.Str.{bytes_eq}
+use Rattle.std.proofs.Common.{◌≡◌, ◌≢◌, ◌∙◌, ℕ, ◌<◌, List, [], length, cond, Bool, true, false, refl, sym, ap, subst, arith, Option, Some, None, nat_lt, slice_index_or, bytes_eq, lt-ltb}
 use Rattle.std.proofs.lemmas.Bool.Decides.{nat_tests}
 use Rattle.std.proofs.lemmas.List.Sums.{position_or_len_is}
-use Rattle.keep_core.specs.Kept.{Kept}
-use Rattle.repl_model.specs.World.{empty_server, World, server_in}
-use Rattle.repl_model.specs.laws.GrowingServers.{name_itself, same_name}
-use Rattle.site_store.specs.Servers.{AllClosed, HasNone, IsPlace}
-use Rattle.site_store.specs.Views.{names, held, work}
+use Rattle.world_store.specs.Words.{Stands}
+use Rattle.site_store.specs.Words.{Kept, AllClosed, HasNone, IsPlace, names, held, work}
 use Rattle.site_store.specs.declared.sites.Sites.{Sites}
-use Rattle.world_store.specs.Stands.{Stands}
+use Rattle.repl_model.specs.Words.{empty_server, World, server_in, name_itself, same_name}
 use Rattle.stored_defs.specs.laws.Standing.{name_at_place, same_count}
 use Rattle.run_commands.specs.capture.CaptureEvents.{is_named, number_named}
-
--- a place in a list is below its length
-below_length : (n m : ℕ) → n < m → nat_lt n m ≡ true
-below_length n m lt = grind (arith, nat_tests)
 
 -- a length isn't
 not_below : (n : ℕ) → nat_lt n n ≡ false
@@ -46,7 +37,7 @@ module _ {K : Type 0} (kept : K → Kept) (s0 : Sites K) (closed : AllClosed (wo
       let before = λ (k : ℕ) (lt : k < n). other_name k (λ same. s0.servers.apart k n lt place.within (same ∙ sym place.is)) in
       let here : is_named name (server_in w n) ≡ true = subst (λ (l : List ℕ). bytes_eq name l ≡ true) (sym place.is ∙ named_at n) (name_itself name) in
       ap (by_count w) (position_or_len_is (is_named name) w n (empty_server []) (omega arith) before (λ lt. here))
-      ∙ ap (λ (b : Bool). cond b (Some n) None) (below_length n (length w) within)
+      ∙ ap (λ (b : Bool). cond b (Some n) None) (lt-ltb n (length w) within)
 
   -- if no server has a name, it has no number
   pub no_number : HasNone (names s0) name → number_named name w ≡ None

@@ -1,19 +1,15 @@
 -- The answers to the lines of a script, and to its end, as parts of its run.
-use Rattle.std.proofs.Common.{◌≡◌, ◌≤◌, ◌+◌, ◌++◌, ◌∷◌, [], ℕ, List, Bool, sym, subst}
-use Rattle.std.specs.Prelude.{Option, Some, ◌||◌}
-use Rattle.std.specs.Option.{option_map, IfSome}
-use Rattle.keep_core.specs.Contents.{Contents}
-use Rattle.keep_core.specs.Kept.{Kept}
-use Rattle.repl_model.specs.World.{World}
+use Rattle.std.proofs.Common.{◌≡◌, ◌≤◌, ◌+◌, ◌++◌, ◌∷◌, [], ℕ, List, Bool, sym, subst, Option, Some, ◌||◌, option_map, IfSome}
+use Rattle.world_store.specs.Words.{Stands}
+use Rattle.site_store.specs.Words.{Contents, Kept, names, held}
+use Rattle.site_store.specs.declared.sites.Sites.{Sites}
+use Rattle.repl_model.specs.Words.{World}
 use Rattle.run_core.specs.Runs.{Went, Stopped, is_refused}
 use Rattle.line_input.specs.Lines.{ScriptLine}
 use Rattle.line_input.specs.Script.{next_kind, line_number, line_text, next_line, line_of, lines_left, IsLineOf}
 use Rattle.line_input.specs.laws.MadeLines.{MakesLine, makes_line}
 use Rattle.line_input.specs.declared.kind.LineKind.{LineKind}
 use Rattle.line_input.specs.declared.script.Script.{Script}
-use Rattle.site_store.specs.Views.{names, held}
-use Rattle.site_store.specs.declared.sites.Sites.{Sites}
-use Rattle.world_store.specs.Stands.{Stands}
 use Rattle.run_commands.specs.parts.Parts.{Happened, StoppedIn}
 use Rattle.run_commands.specs.parts.laws.Parts.{happened_since, stopped_since}
 use Rattle.session_core.specs.Answers.{Follows}

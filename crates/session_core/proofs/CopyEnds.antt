@@ -1,13 +1,11 @@
 -- Why a run ends early that feeds the lines of an input.
-use Rattle.std.proofs.Common.{◌≡◌, ◌≤◌, ◌<◌, ℕ, List, length, Result, Err, subst, arith}
-use Rattle.std.specs.Prelude.{Option, Some, None}
-use Rattle.std.specs.Option.{option_map, IfSome}
-use Rattle.keep_core.specs.Kept.{Kept}
+use Rattle.std.proofs.Common.{◌≡◌, ◌≤◌, ◌<◌, ℕ, List, length, Result, Err, subst, arith, Option, Some, None, option_map, IfSome}
+use Rattle.site_store.specs.Words.{Kept}
+use Rattle.site_store.specs.declared.sites.Sites.{Sites}
 use Rattle.line_input.specs.Input.{InputHasCause}
 use Rattle.line_input.specs.Limits.{input_limit}
 use Rattle.line_input.specs.declared.input.InputError.{InputError}
 use Rattle.line_input.specs.declared.input.InputError.TheVariants as inputs
-use Rattle.site_store.specs.declared.sites.Sites.{Sites}
 use Rattle.run_commands.specs.parts.Causes.{BlamesStreams, BlamesServers}
 use Rattle.run_commands.specs.parts.ExitStatus.{status_of_error}
 use Rattle.run_commands.specs.parts.RunErrors.{error_of_input}

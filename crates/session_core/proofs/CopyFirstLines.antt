@@ -1,18 +1,15 @@
 -- What is read of an input, as its next line.
-use Rattle.std.proofs.Common.{◌≡◌, ◌≢◌, ◌∙◌, ℕ, ◌+◌, ◌<◌, ◌≤◌, Bool, List, [], ◌∷◌, length, refl, sym, ap, arith}
-use Rattle.std.specs.Prelude.{Option, Some, None, if◌then◌else◌}
-use Rattle.std.specs.Option.{option_map, IfSome}
+use Rattle.std.proofs.Common.{◌≡◌, ◌≢◌, ◌∙◌, ℕ, ◌+◌, ◌<◌, ◌≤◌, Bool, List, [], ◌∷◌, length, refl, sym, ap, arith, Option, Some, None, if◌then◌else◌, option_map, IfSome, lt-ltb, le-ltb}
 use Rattle.std.specs.Str.Lines.{lines}
 use Rattle.std.proofs.lemmas.Option.{same_Some}
 use Rattle.std.proofs.lemmas.List.{nil_from_length, length-append}
-use Rattle.std.proofs.lemmas.Bool.{lt-ltb, le-ltb}
+use Rattle.repl_model.specs.Words.{World}
 use Rattle.line_input.specs.Limits.{line_limit, input_limit}
 use Rattle.line_input.specs.Input.{piece_left, left_of, total_of, NextLineIs, ReadsLine}
 use Rattle.line_input.specs.declared.input.Input.{Input}
 use Rattle.line_input.specs.declared.input.Next.{Next}
 use Rattle.line_input.specs.declared.input.Next.TheVariants.{End, Line, LongLine}
 use Rattle.repl_types.specs.declared.refusal.Refusal.TheVariants as refusals
-use Rattle.repl_model.specs.World.{World}
 use Rattle.run_core.specs.Runs.{Event}
 use Rattle.run_commands.specs.parts.Parts.{then_events}
 use Rattle.run_commands.specs.feed.FeedEvents.{refused_events}

@@ -1,15 +1,12 @@
 -- How a run goes on that feeds the lines of an input, line by line.
-use Rattle.std.proofs.Common.{◌≡◌, ◌≢◌, ◌∙◌, ◌||◌, ℕ, ◌+◌, List, [], ◌∷◌, ◌++◌, append_assoc, Bool, refl, sym, ap, subst}
-use Rattle.std.specs.Prelude.{Option, Some, None, is_none}
+use Rattle.std.proofs.Common.{◌≡◌, ◌≢◌, ◌∙◌, ◌||◌, ℕ, ◌+◌, List, [], ◌∷◌, ◌++◌, append_assoc, Bool, refl, sym, ap, subst, Option, Some, None, is_none, append-nil}
 use Rattle.std.specs.Str.Lines.{lines}
-use Rattle.std.proofs.lemmas.List.{append-nil}
-use Rattle.keep_core.specs.Contents.{Contents}
-use Rattle.keep_core.specs.Revealed.{Takes}
+use Rattle.site_store.specs.Words.{Contents, Takes}
+use Rattle.repl_model.specs.Words.{World}
 use Rattle.line_input.specs.Input.{NextLineIs, ReadsLine, IsLineText}
 use Rattle.line_input.specs.laws.Lines.{next_line_made}
 use Rattle.line_input.specs.declared.input.Next.{Next}
 use Rattle.line_input.specs.declared.input.Next.TheVariants.{End}
-use Rattle.repl_model.specs.World.{World}
 use Rattle.run_core.specs.Runs.{Event, last_world, lines_of, is_refused, Going, Went, Stopped}
 use Rattle.run_core.specs.laws.Runs.{refused_append, stopped_in_first, went_both, stopped_in_second, goes_on, done_after, stops_in, no_part}
 use Rattle.run_commands.specs.parts.Parts.{then_events}

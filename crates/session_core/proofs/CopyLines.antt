@@ -1,18 +1,13 @@
 -- The lines of an input, and its end, as parts of the run that feeds them.
-use Rattle.std.proofs.Common.{◌≡◌, ◌≢◌, ◌∙◌, ◌+◌, ◌||◌, ◌<◌, ◌≤◌, ℕ, List, length, Bool, true, false, refl, sym, ap, subst, arith}
-use Rattle.std.specs.Prelude.{Option, Some, None, is_some, is_none, not}
-use Rattle.std.specs.Option.{IfSome}
-use Rattle.std.proofs.lemmas.Bool.{true≢false}
-use Rattle.keep_core.specs.Contents.{Contents}
-use Rattle.keep_core.specs.Kept.{Kept}
+use Rattle.std.proofs.Common.{◌≡◌, ◌≢◌, ◌∙◌, ◌+◌, ◌||◌, ◌<◌, ◌≤◌, ℕ, List, length, Bool, true, false, refl, sym, ap, subst, arith, Option, Some, None, is_some, is_none, not, IfSome, true≢false}
+use Rattle.world_store.specs.Words.{Stands}
+use Rattle.site_store.specs.Words.{Contents, Kept, names, held}
+use Rattle.site_store.specs.declared.sites.Sites.{Sites}
+use Rattle.repl_model.specs.Words.{World}
 use Rattle.line_input.specs.Input.{ReadsLine, IsLineText}
 use Rattle.line_input.specs.declared.input.Next.{Next}
 use Rattle.line_input.specs.declared.input.Next.TheVariants.{End, Line, LongLine}
-use Rattle.repl_model.specs.World.{World}
 use Rattle.run_core.specs.Runs.{Went, Stopped, is_refused}
-use Rattle.site_store.specs.Views.{names, held}
-use Rattle.site_store.specs.declared.sites.Sites.{Sites}
-use Rattle.world_store.specs.Stands.{Stands}
 use Rattle.run_commands.specs.parts.Parts.{Happened, StoppedIn}
 use Rattle.run_commands.specs.parts.laws.Parts.{happened_since, stopped_since}
 use Rattle.run_commands.specs.feed.Feeds.{IsFeed}

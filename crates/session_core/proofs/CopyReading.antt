@@ -1,17 +1,12 @@
 -- Parts of a run that read its input, after parts that don't.
-use Rattle.std.proofs.Common.{◌≡◌, ◌∙◌, ◌||◌, ℕ, List, Bool, false, sym, ap, subst, arith}
-use Rattle.std.specs.Prelude.{Option, Some, None, Result, Ok, Err, IsErrAnd}
+use Rattle.std.proofs.Common.{◌≡◌, ◌∙◌, ◌||◌, ℕ, List, Bool, false, sym, ap, subst, arith, Option, Some, None, Result, Ok, Err, IsErrAnd}
 use Rattle.std.proofs.lemmas.Result.{err_from_is_err_and, on_err_weaker}
-use Rattle.keep_core.specs.Contents.{Contents}
-use Rattle.keep_core.specs.Kept.{Kept}
-use Rattle.repl_model.specs.World.{World}
+use Rattle.world_store.specs.Words.{Stands}
+use Rattle.site_store.specs.Words.{Contents, Kept, AllClosed, names, held, work, keeps_itself, keeps_then}
+use Rattle.site_store.specs.declared.sites.Sites.{Sites}
+use Rattle.repl_model.specs.Words.{World}
 use Rattle.run_core.specs.Runs.{Event, last_world, Went, Stopped, is_refused}
 use Rattle.run_core.specs.laws.Runs.{refused_append, went_both, stopped_in_first, stopped_in_second}
-use Rattle.site_store.specs.Servers.{AllClosed}
-use Rattle.site_store.specs.Views.{names, held, work}
-use Rattle.site_store.specs.declared.sites.Sites.{Sites}
-use Rattle.site_store.specs.laws.Counts.{keeps_itself, keeps_then}
-use Rattle.world_store.specs.Stands.{Stands}
 use Rattle.run_commands.specs.parts.Parts.{then_events, Happened, IsPart}
 use Rattle.run_commands.specs.parts.laws.Exits.{ok_also, if_err_also}
 use Rattle.run_commands.specs.parts.laws.Parts.{stands_after}

@@ -1,15 +1,9 @@
 -- The lines of what was refused, which are written last.
-use Rattle.std.proofs.Common.{◌≡◌, ◌∙◌, ℕ, List, [], ◌∷◌, Bool, true, false, refl, sym, ap, subst}
-use Rattle.std.specs.Prelude.{Option, Result}
-use Rattle.std.proofs.lemmas.List.{append-nil}
-use Rattle.keep_core.specs.Kept.{Kept}
-use Rattle.keep_core.specs.Revealed.{Takes, TakesPrefix}
-use Rattle.repl_model.specs.World.{World}
-use Rattle.run_core.specs.Runs.{Event, refuses, is_refused, lines_of}
-use Rattle.site_store.specs.Servers.{AllClosed}
-use Rattle.site_store.specs.Views.{work}
-use Rattle.site_store.specs.laws.Counts.{keeps_itself}
+use Rattle.std.proofs.Common.{◌≡◌, ◌∙◌, ℕ, List, [], ◌∷◌, Bool, true, false, refl, sym, ap, subst, Option, Result, append-nil}
+use Rattle.site_store.specs.Words.{Kept, Takes, TakesPrefix, AllClosed, work, keeps_itself}
 use Rattle.site_store.specs.declared.sites.Sites.{Sites}
+use Rattle.repl_model.specs.Words.{World}
+use Rattle.run_core.specs.Runs.{Event, refuses, is_refused, lines_of}
 use Rattle.run_commands.specs.parts.Parts.{IsPart, WritesLine}
 use Rattle.run_commands.specs.parts.laws.Composing.{part_written}
 use Rattle.run_commands.specs.declared.parts.run_error.RunError.{RunError}

@@ -1,6 +1,5 @@
 -- What the program keeps of body lines from one line to the next.
-use Rattle.std.proofs.Common.{◌≡◌, ◌≤◌, ◌+◌, ℕ, ap, arith}
-use Rattle.std.specs.Prelude.{Option, Some, None, is_some, if◌then◌else◌}
+use Rattle.std.proofs.Common.{◌≡◌, ◌≤◌, ◌+◌, ℕ, ap, arith, Option, Some, None, is_some, if◌then◌else◌}
 use Rattle.line_input.specs.Script.{next_kind, line_number, waiting}
 use Rattle.line_input.specs.declared.kind.LineKind.{LineKind}
 use Rattle.line_input.specs.declared.script.Script.{Script}

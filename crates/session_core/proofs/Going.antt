@@ -1,13 +1,8 @@
 -- How a run of a script goes on, line by line.
-use Rattle.std.proofs.Common.{◌≡◌, ℕ, ◌+◌, List, [], ◌∷◌, ◌++◌, append_assoc, refl, sym, ap, ap₂, subst, ◌∙◌, Bool, false}
-use Rattle.std.specs.Prelude.{Option, Some, None, ◌||◌}
-use Rattle.std.specs.Option.{option_map, IfSome}
+use Rattle.std.proofs.Common.{◌≡◌, ℕ, ◌+◌, List, [], ◌∷◌, ◌++◌, append_assoc, refl, sym, ap, ap₂, subst, ◌∙◌, Bool, false, Option, Some, None, ◌||◌, option_map, IfSome, append-nil}
 use Rattle.std.specs.Str.Lines.{lines}
-use Rattle.std.proofs.lemmas.List.{append-nil}
-use Rattle.keep_core.specs.Contents.{Contents}
-use Rattle.keep_core.specs.Revealed.{Takes}
-use Rattle.keep_core.specs.laws.Revealed.{takes_nothing}
-use Rattle.repl_model.specs.World.{World}
+use Rattle.site_store.specs.Words.{Contents, Takes, takes_nothing}
+use Rattle.repl_model.specs.Words.{World}
 use Rattle.run_core.specs.Runs.{Event, last_world, lines_of, is_refused, Going, Went, Stopped}
 use Rattle.run_core.specs.laws.Runs.{refused_append, went_both, stopped_in_second, goes_on, done_after, stops_in, no_part}
 use Rattle.line_input.specs.Lines.{ScriptLine, script_from, script_of}

@@ -1,8 +1,7 @@
 -- What is said of an input of which the source may reveal nothing.
-use Rattle.std.proofs.Common.{ℕ, List, []}
-use Rattle.std.specs.Prelude.{Option, Some, None}
-use Rattle.keep_core.specs.Contents.{Contents}
-use Rattle.repl_model.specs.World.{World}
+use Rattle.std.proofs.Common.{ℕ, List, [], Option, Some, None}
+use Rattle.site_store.specs.Words.{Contents}
+use Rattle.repl_model.specs.Words.{World}
 use Rattle.run_core.specs.Runs.{Event, Stopped}
 use Rattle.run_core.specs.laws.Runs.{stopped_before}
 use Rattle.session_core.specs.Inputs.{OfInput}

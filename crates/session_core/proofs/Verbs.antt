@@ -1,10 +1,8 @@
 -- Which words begin the commands that are carried out, and which commands take no body.
-use Rattle.std.proofs.Common.{◌≡◌, ◌≢◌, ℕ, List, [], Bool, true, false, codes, refl, sym, ap, subst}
-use Rattle.std.specs.Prelude.{Option, Some, None, IsSome, IsTrue, slice_get, ◌||◌}
-use Rattle.std.specs.Str.{bytes_eq}
+use Rattle.std.proofs.Common.{◌≡◌, ◌≢◌, ℕ, List, [], Bool, true, false, codes, refl, sym, ap, subst, Option, Some, None, IsSome, IsTrue, slice_get, ◌||◌, bytes_eq}
 use Rattle.std.proofs.lemmas.Option.{same_Some}
 use Rattle.std.proofs.lemmas.Slice.Eq.{bytes_eq-Decides}
-use Rattle.repl_types.specs.declared.record.SetId.{SetId}
+use Rattle.repl_model.specs.Words.{SetId}
 use Rattle.repl_commands.specs.declared.command.Command.{Command}
 use Rattle.repl_commands.specs.declared.command.Command.TheVariants.{Load, Feed, Capture, CaptureCold, Prune, PruneNormal, Step, Apply, Refresh, Stop, Generate, Rounds, Audit, StatusServer, StatusSet, ShowSource, ShowCd, ShowUow, ShowLog, ShowTarget, ShowTrail, ShowRejected}
 use Rattle.script_text.specs.Commands.{command_words}

@@ -1,10 +1,7 @@
 -- How far a run came, whatever its status.
-use Rattle.std.proofs.Common.{◌≡◌, ℕ, List, [], ◌++◌, Bool, true, false, refl, sym, subst}
-use Rattle.std.specs.Prelude.{Option, Some, None, IsTrue}
-use Rattle.std.proofs.lemmas.List.{append-nil}
-use Rattle.keep_core.specs.Contents.{Contents}
-use Rattle.repl_model.specs.World.{World}
-use Rattle.repl_types.specs.declared.status.Status.{Status}
+use Rattle.std.proofs.Common.{◌≡◌, ℕ, List, [], Bool, true, false, refl, sym, Option, Some, None, IsTrue, append-nil}
+use Rattle.site_store.specs.Words.{Contents}
+use Rattle.repl_model.specs.Words.{World, Status}
 use Rattle.run_core.specs.Runs.{Event, last_world, Stopped}
 use Rattle.session_core.specs.Inputs.{OfInput}
 use Rattle.session_core.specs.Session.{is_done, Ran}

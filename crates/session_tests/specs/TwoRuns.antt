@@ -1,5 +1,5 @@
 -- What two runs over the same servers come to, one after the other.
-use Rattle.std.specs.Prelude.{◌≡◌, ℕ, List, ◌++◌, Option}
+use Rattle.std.specs.Prelude.{◌≡◌, List, ◌++◌, Option}
 use Rattle.keep_core.specs.Contents.{Contents}
 use Rattle.repl_model.specs.World.{World}
 use Rattle.run_core.specs.Runs.{Event, last_world}

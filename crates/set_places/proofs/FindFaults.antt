@@ -1,24 +1,10 @@
 -- Why no set was found, after reads of other servers.
 use Rattle.std.proofs.Common.{ℕ, ◌<◌, List, length, subst}
-use Rattle.repl_types.specs.declared.area.Area.{Area}
-use Rattle.repl_types.specs.declared.area.Area.TheVariants as areas
-use Rattle.repl_types.specs.declared.status.DamageCause.{DamageCause}
-use Rattle.repl_types.specs.declared.fault.Fault.{Fault}
-use Rattle.keep_core.specs.Kept.{Kept}
-use Rattle.repl_model.specs.World.{World}
+use Rattle.world_store.specs.Words.{Stands, Spells}
+use Rattle.site_store.specs.Words.{Kept, Misread, Misspelt, AllClosed, names, held, work, sees, reads_of_one, AtServer, Fails, Shows, IsNoDamage, at_most_itself, get_fails, Looks, Stops, stops_at, stops_as, stops_after, looks_sees}
 use Rattle.site_store.specs.declared.sites.Sites.{Sites}
-use Rattle.site_store.specs.Records.{Misread, Misspelt}
-use Rattle.site_store.specs.Servers.{AllClosed}
-use Rattle.site_store.specs.Views.{names, held, work, sees}
-use Rattle.site_store.specs.Calls.{reads_of_one, AtServer, Fails}
-use Rattle.site_store.specs.Damage.{Shows, IsNoDamage}
-use Rattle.site_store.specs.laws.Counts.{at_most_itself}
-use Rattle.site_store.specs.laws.Steps.{get_fails}
-use Rattle.site_store.specs.one_server.Calls.{Looks, Stops}
-use Rattle.site_store.specs.one_server.laws.Faults.{stops_at, stops_as, stops_after}
-use Rattle.site_store.specs.one_server.laws.Reads.{looks_sees}
-use Rattle.world_store.specs.Stands.{Stands}
-use Rattle.world_store.specs.SpelledRows.{Spells}
+use Rattle.repl_model.specs.Words.{Area, DamageCause, Fault, World}
+use Rattle.repl_types.specs.declared.area.Area.TheVariants as areas
 use Rattle.stored_defs.specs.Rules.{rules, ShowsDamage}
 use Rattle.stored_defs.specs.laws.Standing.{none_damaged}
 

@@ -1,32 +1,14 @@
 -- Which set of a name is known in a world, once the rows at its ends were looked for.
 use borrow.Author.Count.{below_more}
-use Rattle.std.proofs.Common.{◌≡◌, ◌≢◌, ℕ, ◌+◌, ◌<◌, [], length, refl, sym, ap, subst, ◌∙◌, arith}
-use Rattle.std.specs.Prelude.{Option, Some, None, true, IfSome, slice_get}
+use Rattle.std.proofs.Common.{◌≡◌, ◌≢◌, ℕ, ◌+◌, ◌<◌, [], length, refl, sym, ap, subst, ◌∙◌, arith, Option, Some, None, true, IfSome, slice_get, bytes_eq}
 use Rattle.std.specs.Option.{option_and_then, option_map, option_map_or}
 use Rattle.std.proofs.lemmas.Bool.{false≢true, not-true}
-use Rattle.std.specs.Str.{bytes_eq}
 use Rattle.std.proofs.lemmas.Option.{none-some, slice_get_within, get_or_from_slice_get}
-use Rattle.repl_types.specs.declared.area.Area.TheVariants as areas
-use Rattle.repl_types.specs.declared.record.SetId.{SetId}
-use Rattle.keep_core.specs.Kept.{Kept}
-use Rattle.row_codec.specs.Spelling.{set_spelling}
-use Rattle.repl_definitions.specs.Sets.{target_set_spelling, IsTargetSet}
-use Rattle.repl_definitions.specs.declared.set.SetDef.{SetDef}
-use Rattle.repl_definitions.specs.declared.set.TargetSet.{TargetSet}
-use Rattle.repl_model.specs.Sound.{IsSound}
-use Rattle.repl_model.specs.World.{empty_server, SourceSide, TargetSide, Server, World, KnownSet, same_set, server_named, source_side, target_side, known_from, known_sets, known_set, server_in}
-use Rattle.repl_model.specs.SoundDefinitions.{ServerKeepsRules, KnownSetKeepsRules}
+use Rattle.world_store.specs.Words.{set_spelling, Stands}
+use Rattle.site_store.specs.Words.{Kept, RowIs, AllClosed, names, held, work, sees, Looks, if_seen}
 use Rattle.site_store.specs.declared.sites.Sites.{Sites}
-use Rattle.site_store.specs.Records.{RowIs}
-use Rattle.site_store.specs.Servers.{AllClosed}
-use Rattle.site_store.specs.Views.{names, held, work, sees}
-use Rattle.site_store.specs.one_server.Calls.{Looks}
-use Rattle.world_store.specs.Stands.{Stands}
-use Rattle.lists.specs.laws.Numbered.{in_numbered, numbered_place, at_place_in}
-use Rattle.repl_model.specs.laws.KnownSets.{known_stands, known_in}
-use Rattle.lists.specs.laws.Members.{In, at_one, found_in}
-use Rattle.repl_model.specs.laws.GrowingServers.{same_id, name_itself}
-use Rattle.site_store.specs.laws.Passing.{if_seen}
+use Rattle.repl_model.specs.Words.{SetId, target_set_spelling, IsTargetSet, SetDef, TargetSet, IsSound, empty_server, SourceSide, TargetSide, Server, World, KnownSet, same_set, server_named, source_side, target_side, known_from, known_sets, known_set, server_in, ServerKeepsRules, KnownSetKeepsRules, in_numbered, numbered_place, at_place_in, known_stands, known_in, In, at_one, found_in, same_id, name_itself}
+use Rattle.repl_types.specs.declared.area.Area.TheVariants as areas
 use Rattle.stored_defs.specs.laws.Standing.{same_count, keeps_at, stands_on}
 use Rattle.set_places.specs.declared.placed_set.PlacedSet.{PlacedSet}
 use Rattle.set_places.specs.Finding.{IsFoundIn, IsFoundFrom, IsKnownAt}

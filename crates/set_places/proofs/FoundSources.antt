@@ -1,25 +1,11 @@
 -- What is found of the source of a set whose row stands at its target.
-use Rattle.std.proofs.Common.{◌≡◌, ℕ, ◌<◌, [], length, refl, sym, ap, subst, ◌∙◌, arith}
-use Rattle.std.specs.Prelude.{Option, Some, None, IfSome, slice_get}
-use Rattle.std.specs.Option.{option_and_then, option_map}
+use Rattle.std.proofs.Common.{◌≡◌, ℕ, ◌<◌, [], length, refl, sym, ap, subst, ◌∙◌, arith, Option, Some, None, IfSome, slice_get, option_and_then, option_map}
 use Rattle.std.proofs.lemmas.Option.{slice_get-get_or}
-use Rattle.repl_types.specs.declared.area.Area.TheVariants as areas
-use Rattle.repl_types.specs.declared.record.SetId.{SetId}
-use Rattle.keep_core.specs.Contents.{Contents, Table}
-use Rattle.keep_core.specs.Kept.{Kept}
-use Rattle.row_codec.specs.Spelling.{set_spelling}
-use Rattle.repl_definitions.specs.Sets.{source_set_spelling, IsSourceSet, target_set_spelling}
-use Rattle.repl_definitions.specs.declared.set.SourceSet.{SourceSet}
-use Rattle.repl_definitions.specs.declared.set.TargetSet.{TargetSet}
-use Rattle.repl_model.specs.World.{empty_server, World, source_side, server_in}
-use Rattle.rows_in_order.specs.Rows.{table_from_rows}
+use Rattle.world_store.specs.Words.{set_spelling, table_from_rows, source_set_rows, target_set_rows, Stands}
+use Rattle.site_store.specs.Words.{Contents, Table, Kept, RowIs, AllClosed, HasNone, IsPlace, names, held, work, sees, if_seen}
 use Rattle.site_store.specs.declared.sites.Sites.{Sites}
-use Rattle.site_store.specs.Records.{RowIs}
-use Rattle.site_store.specs.Servers.{AllClosed, HasNone, IsPlace}
-use Rattle.site_store.specs.Views.{names, held, work, sees}
-use Rattle.world_store.specs.DefinitionRows.{source_set_rows, target_set_rows}
-use Rattle.world_store.specs.Stands.{Stands}
-use Rattle.site_store.specs.laws.Passing.{if_seen}
+use Rattle.repl_model.specs.Words.{SetId, source_set_spelling, IsSourceSet, target_set_spelling, SourceSet, TargetSet, empty_server, World, source_side, server_in}
+use Rattle.repl_types.specs.declared.area.Area.TheVariants as areas
 use Rattle.stored_defs.specs.laws.Standing.{same_count, keeps_at, seen_at, holds_defs, server_at_place, no_server}
 use Rattle.set_places.specs.Finding.{IsFoundFrom}
 use Rattle.set_places.specs.Places.{HasSourceRow}

@@ -1,22 +1,11 @@
 -- The registration that is read for a member of a found set.
-use Rattle.std.proofs.Common.{◌≡◌, ℕ, ◌<◌, List, length, get_or, refl, sym, ap, subst, ◌∙◌}
-use Rattle.std.specs.Prelude.{Option, Some, IfSome, slice_get}
+use Rattle.std.proofs.Common.{◌≡◌, ℕ, ◌<◌, List, length, get_or, refl, sym, ap, subst, ◌∙◌, Option, Some, IfSome, slice_get}
 use Rattle.std.proofs.lemmas.Option.{slice_get-get_or}
-use Rattle.repl_types.specs.declared.area.Area.TheVariants as areas
-use Rattle.keep_core.specs.Contents.{Contents, Table}
-use Rattle.keep_core.specs.Kept.{Kept}
-use Rattle.row_codec.specs.Spelling.{short_text}
-use Rattle.repl_definitions.specs.Defined.{defined_registration_spelling, IsDefinedRegistration}
-use Rattle.repl_definitions.specs.declared.defined.DefinedRegistration.{DefinedRegistration}
-use Rattle.repl_definitions.specs.declared.member.Member.{Member}
-use Rattle.repl_definitions.specs.declared.set.SetDef.{SetDef}
-use Rattle.repl_model.specs.SoundDefinitions.{ServerKeepsRules}
+use Rattle.world_store.specs.Words.{short_text}
+use Rattle.site_store.specs.Words.{Contents, Table, Kept, RowIs, sees, if_seen}
 use Rattle.site_store.specs.declared.sites.Sites.{Sites}
-use Rattle.site_store.specs.Records.{RowIs}
-use Rattle.site_store.specs.Views.{sees}
-use Rattle.lists.specs.laws.Numbered.{at_place_in}
-use Rattle.lists.specs.laws.Members.{at_one}
-use Rattle.site_store.specs.laws.Passing.{if_seen}
+use Rattle.repl_model.specs.Words.{defined_registration_spelling, IsDefinedRegistration, DefinedRegistration, Member, SetDef, ServerKeepsRules, at_place_in, at_one}
+use Rattle.repl_types.specs.declared.area.Area.TheVariants as areas
 use Rattle.stored_defs.specs.laws.Standing.{holds_defs}
 use Rattle.set_places.specs.declared.placed_set.PlacedSet.{PlacedSet}
 use Rattle.set_places.specs.Members.{ForSource, IsRegistrationOf, is_called_for}

@@ -3,7 +3,6 @@
 use keep_core::Keeper;
 use keep_map::{BytesSink, BytesSource, MapKeeper};
 use load_defs::load;
-use load_laws::a_text_that_is_read_is_whole;
 use raw_defs::read_defs;
 use repl_records::CopyRow;
 use repl_types::{List, Name, Row, Status};
@@ -58,7 +57,6 @@ pub fn servers_with(
 
 /// Loads the definitions of a text.
 fn load_text(alloc: Global, sites: &mut Sites<MapKeeper>, text: &str) -> Result<(), Fail> {
-    a_text_that_is_read_is_whole();
     let raw = read_defs(alloc, text.as_bytes())?;
     sites.rollback_all();
     load(sites, alloc, &raw)?;

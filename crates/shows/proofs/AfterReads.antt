@@ -1,14 +1,9 @@
 -- What holds after reads: no transaction is open, and the servers stand for the same worlds.
 use Rattle.std.proofs.Common.{◌∙◌}
-use Rattle.keep_core.specs.Kept.{Kept}
-use Rattle.repl_model.specs.World.{World, KnownSet}
+use Rattle.world_store.specs.Words.{Stands}
+use Rattle.site_store.specs.Words.{Kept, AllClosed, names, held, work, Looks, looks_sees, stays_closed}
 use Rattle.site_store.specs.declared.sites.Sites.{Sites}
-use Rattle.site_store.specs.Servers.{AllClosed}
-use Rattle.site_store.specs.Views.{names, held, work}
-use Rattle.site_store.specs.one_server.Calls.{Looks}
-use Rattle.site_store.specs.one_server.laws.Reads.{looks_sees}
-use Rattle.world_store.specs.Stands.{Stands}
-use Rattle.site_store.specs.laws.Passing.{stays_closed}
+use Rattle.repl_model.specs.Words.{World, KnownSet}
 use Rattle.stored_defs.specs.laws.Standing.{stands_on}
 use Rattle.set_places.specs.declared.placed_set.PlacedSet.{PlacedSet}
 use Rattle.set_places.specs.Members.{ForSource}

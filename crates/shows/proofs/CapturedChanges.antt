@@ -1,30 +1,13 @@
 -- The change rows of a registration as they stand.
-use Rattle.std.proofs.Common.{◌≡◌, ℕ, ◌*◌, ◌<◌, ◌≤◌, Bool, true, false, cond, ◌&&◌, List, [], ◌∷◌, map, length, length-append, refl, ap, ◌∙◌, arith, lit≤}
-use Rattle.std.specs.Prelude.{max, nat_lt, nat_le}
+use Rattle.std.proofs.Common.{◌≡◌, ℕ, ◌*◌, ◌<◌, ◌≤◌, Bool, true, false, cond, ◌&&◌, List, [], ◌∷◌, map, length, length-append, refl, ap, ◌∙◌, arith, lit≤, max, nat_lt, nat_le}
 use Rattle.std.specs.List.{AllByRecursion}
 use Rattle.std.proofs.lemmas.List.{length-map}
 use Rattle.std.proofs.lemmas.Nat.{mul-le}
-use Rattle.repl_types.specs.laws.Lists.{all_weaker, all_filter}
-use Rattle.repl_types.specs.declared.record.Change.{Change}
+use Rattle.world_store.specs.Words.{b64, sequence_spelling, length64, IsChangeKey, change_key_spelling, IsChangeRow, CdKey, ChangeRow, change_rows_of, RowFits}
+use Rattle.site_store.specs.Words.{count_max}
+use Rattle.repl_model.specs.Words.{all_weaker, all_filter, Change, CdRow, Registration, units, units_between, shows_nothing, insert_row, update_row, delete_row, rows_of, rows_of_placed, change_rows, changes_between, LogIsSound, log_limit, Registered, Server, at_each, each_image}
 use Rattle.repl_types.specs.declared.record.Change.TheVariants.{Insert, Update, Delete, Start, Stop}
-use Rattle.repl_types.specs.declared.change_row.CdRow.{CdRow}
-use Rattle.repl_types.specs.declared.change_row.Registration.{Registration}
 use Rattle.repl_types.specs.declared.unit.Unit.{Unit as LogUnit}
-use Rattle.row_codec.specs.Spelling.{b64, sequence_spelling}
-use Rattle.row_codec.specs.laws.Numbers.{length64}
-use Rattle.repl_records.specs.RecordKeys.{IsChangeKey, change_key_spelling}
-use Rattle.repl_records.specs.Capture.{IsChangeRow}
-use Rattle.repl_records.specs.declared.record_keys.CdKey.{CdKey}
-use Rattle.repl_records.specs.declared.capture.ChangeRow.{ChangeRow}
-use Rattle.keep_core.specs.Revealed.{count_max}
-use Rattle.repl_model.specs.Units.{units}
-use Rattle.repl_model.specs.SourceAt.{units_between}
-use Rattle.repl_model.specs.ChangeRows.{shows_nothing, insert_row, update_row, delete_row, rows_of, rows_of_placed, change_rows, changes_between}
-use Rattle.repl_model.specs.SoundLogs.{LogIsSound, log_limit}
-use Rattle.repl_model.specs.World.{Registered, Server}
-use Rattle.lists.specs.laws.Members.{at_each, each_image}
-use Rattle.world_store.specs.CaptureRows.{change_rows_of}
-use Rattle.world_store.specs.SpelledRows.{RowFits}
 use Rattle.shows.specs.tables.Replies.{captured_changes, change_text, stored_change_line}
 use Rattle.shows.specs.tables.Records.{AreShown, rows_text}
 use Rattle.shows.specs.tables.laws.Texts.{text_shown}

@@ -1,27 +1,11 @@
 -- What is shown of the change rows and the units of servers that stand for a world.
-use Rattle.std.proofs.Common.{◌≡◌, ℕ, ◌<◌, List, [], length, sym, ap, subst, ◌∙◌}
-use Rattle.std.specs.Prelude.{Option, Some, None, IfSome}
+use Rattle.std.proofs.Common.{◌≡◌, ℕ, ◌<◌, List, [], length, sym, ap, subst, ◌∙◌, Option, Some, None, IfSome}
 use Rattle.std.specs.Option.{option_map_or}
-use Rattle.repl_types.specs.declared.area.Area.TheVariants as areas
-use Rattle.keep_core.specs.Contents.{Table}
-use Rattle.keep_core.specs.Kept.{Kept}
-use Rattle.keep_core.specs.Revealed.{Takes, TakesPrefix}
-use Rattle.row_codec.specs.Spelling.{Is64, b64, short_text}
-use Rattle.repl_definitions.specs.Defined.{defined_registration_spelling, IsDefinedRegistration}
-use Rattle.repl_definitions.specs.declared.defined.DefinedRegistration.{DefinedRegistration}
-use Rattle.repl_records.specs.Capture.{change_row_spelling, IsChangeRow, uow_spelling, IsUow}
-use Rattle.repl_records.specs.RecordKeys.{change_key_spelling, IsChangeKey}
-use Rattle.repl_model.specs.Rules.{RegistrationKeepsRules}
-use Rattle.repl_model.specs.SoundDefinitions.{KeepsTable}
-use Rattle.repl_model.specs.World.{Registered, ServerTable, World, server_in}
+use Rattle.world_store.specs.Words.{Is64, b64, short_text, change_row_spelling, IsChangeRow, uow_spelling, IsUow, change_key_spelling, IsChangeKey, change_rows_of, uow_rows, Stands}
+use Rattle.site_store.specs.Words.{Table, Kept, Takes, TakesPrefix, AllClosed, names, held, work, sees, RowIs}
 use Rattle.site_store.specs.declared.sites.Sites.{Sites}
-use Rattle.site_store.specs.Servers.{AllClosed}
-use Rattle.site_store.specs.Views.{names, held, work, sees}
-use Rattle.site_store.specs.Records.{RowIs}
-use Rattle.world_store.specs.CaptureRows.{change_rows_of, uow_rows}
-use Rattle.world_store.specs.Stands.{Stands}
-use Rattle.lists.specs.laws.Numbered.{at_place_in}
-use Rattle.lists.specs.laws.Members.{at_one}
+use Rattle.repl_model.specs.Words.{defined_registration_spelling, IsDefinedRegistration, DefinedRegistration, RegistrationKeepsRules, KeepsTable, Registered, ServerTable, World, server_in, at_place_in, at_one}
+use Rattle.repl_types.specs.declared.area.Area.TheVariants as areas
 use Rattle.stored_defs.specs.laws.Standing.{holds_defs, keeps_at}
 use Rattle.shows.specs.tables.Replies.{change_reply, change_text, registered_named, stored_change_line, stored_unit_line, unit_text}
 use Rattle.shows.specs.tables.Records.{AreShown, rows_text, TakesRows, TakesSomeRows}

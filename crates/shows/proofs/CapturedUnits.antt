@@ -1,27 +1,12 @@
 -- The units of a sound log, and the rows of the unit-of-work table as they stand.
-use Rattle.std.proofs.Common.{◌≡◌, ℕ, ◌<◌, ◌≤◌, ◌^◌, Bool, true, false, cond, ◌&&◌, List, [], ◌∷◌, length, Some, arith}
-use Rattle.std.specs.Prelude.{◌==◌, nat_lt, nat_le, find}
+use Rattle.std.proofs.Common.{◌≡◌, ℕ, ◌<◌, ◌≤◌, ◌^◌, Bool, ◌&&◌, length, arith, nat_lt, nat_le}
 use Rattle.std.specs.List.{AllByRecursion, filter}
-use Rattle.std.specs.Option.{option_map_or}
 use Rattle.std.proofs.lemmas.List.{length-map}
-use Rattle.lists.specs.laws.Members.{each_image}
-use Rattle.repl_types.specs.laws.Lists.{all_weaker}
+use Rattle.repl_model.specs.Words.{each_image, all_weaker, units, NumbersAreSound, LogIsSound, Server, code_in, units_few}
+use Rattle.world_store.specs.Words.{Is64, b64, length64, IsUow, UowRow, key_before, uow_rows, RowFits, filter_few}
 use Rattle.repl_types.specs.declared.unit.Unit.{Unit as LogUnit}
-use Rattle.row_codec.specs.Spelling.{Is64, b64}
-use Rattle.row_codec.specs.laws.Numbers.{length64}
-use Rattle.repl_records.specs.Capture.{IsUow, IsCode}
-use Rattle.repl_records.specs.declared.capture.UowRow.{UowRow}
-use Rattle.repl_model.specs.Units.{units}
-use Rattle.repl_model.specs.Sound.{NumbersAreSound}
-use Rattle.repl_model.specs.SoundLogs.{LogIsSound}
-use Rattle.repl_model.specs.World.{Server, code_in}
-use Rattle.rows_in_order.specs.laws.ByNumber.{key_before}
-use Rattle.world_store.specs.CaptureRows.{uow_rows}
-use Rattle.world_store.specs.SpelledRows.{RowFits}
-use Rattle.world_store.specs.laws.FewRows.{filter_few}
 use Rattle.shows.specs.tables.Replies.{captured_units, stored_unit_line, unit_text}
 use Rattle.shows.specs.tables.Records.{AreShown, rows_text}
-use Rattle.shows.proofs.FewRows.{units_few}
 use Rattle.shows.proofs.LogRecords.{in_order}
 use Rattle.shows.specs.tables.laws.Texts.{text_shown}
 use Rattle.cd_tables.specs.laws.InOrder.{Below, rows_rise}

@@ -1,57 +1,21 @@
 -- What is seen at servers that stand for a world, and that it shows no damage: proofs.
-use Rattle.std.proofs.Common.{◌≡◌, ℕ, zero, suc, ◌<◌, ◌≤◌, ◌^◌, Bool, true, false, cond, List, [], ◌∷◌, ◌++◌, length, map, append-nil, refl, sym, ap, subst, ◌∙◌, arith}
-use Rattle.std.specs.Prelude.{◌==◌, Option, Some, None, IfSome, find, fold}
+use Rattle.std.proofs.Common.{◌≡◌, ℕ, zero, suc, ◌<◌, ◌≤◌, ◌^◌, Bool, true, false, cond, List, [], ◌∷◌, ◌++◌, length, map, append-nil, refl, sym, ap, subst, ◌∙◌, arith, ◌==◌, Option, Some, None, IfSome, find, fold, eqb-true}
 use Rattle.std.specs.List.{AllByRecursion, filter_map, flat_map}
-use Rattle.std.proofs.lemmas.Bool.{eqb-true}
 use Rattle.std.proofs.lemmas.Grind.{flat_map-append}
 use Rattle.std.specs.Option.{option_map, option_map_or, option_or}
+use Rattle.world_store.specs.Words.{Is64, IsName, IsSet, b32, short_text, set_spelling, Head, CaptureState, RegState, SyncMark, single_spelling, head_spelling, IsHead, capture_spelling, registration_state_spelling, mark_spelling, first_head, first_capture, registration_rows, source_set_rows, table_from_rows, head_of, head_rows, capture_state, capture_rows, registration_state_rows, mark_rows, tables, first_table, with_first, Holds, Stands, registration_rows_are, source_rows_are}
+use Rattle.site_store.specs.Words.{Contents, Table, Kept, AllClosed, names, held, work, sees, or_first, RowIs, StateIs, Blames, Shows, IsSpelt, IsUndamaged, IsNoDamage, rows_spelt, spelt_undamaged, no_damage}
+use Rattle.site_store.specs.declared.sites.Sites.{Sites}
+use Rattle.repl_model.specs.Words.{time_limit, Area, Fault, DefinedRegistration, SourceSet, defined_registration_spelling, IsDefinedRegistration, source_set_spelling, IsSourceSet, units, empty_server, Registered, ServerTable, Server, World, server_in, LogIsSound, ServerKeepsRules}
 use Rattle.subs_sets.specs.laws.States.{first_or}
 use Rattle.subs_sets.specs.laws.Undamaged.{there_first}
-use Rattle.repl_types.specs.Sizes.{time_limit}
-use Rattle.repl_types.specs.declared.area.Area.{Area}
 use Rattle.repl_types.specs.declared.area.Area.TheVariants as areas
 use Rattle.repl_types.specs.declared.status.DamageCause.TheVariants as causes
 use Rattle.repl_types.specs.declared.unit.Unit.{Unit as LogUnit}
-use Rattle.repl_types.specs.declared.fault.Fault.{Fault}
-use Rattle.keep_core.specs.Contents.{Contents, Table}
-use Rattle.keep_core.specs.Kept.{Kept}
-use Rattle.keep_core.specs.Revealed.{Takes, TakesPrefix}
-use Rattle.row_codec.specs.Spelling.{Is64, IsName, IsSet, b32, short_text, set_spelling}
-use Rattle.repl_definitions.specs.declared.defined.DefinedRegistration.{DefinedRegistration}
-use Rattle.repl_definitions.specs.declared.set.SourceSet.{SourceSet}
-use Rattle.repl_definitions.specs.Defined.{defined_registration_spelling, IsDefinedRegistration}
-use Rattle.repl_definitions.specs.Sets.{source_set_spelling, IsSourceSet}
-use Rattle.repl_records.specs.declared.source_side.Head.{Head}
-use Rattle.repl_records.specs.declared.capture.CaptureState.{CaptureState}
-use Rattle.repl_records.specs.declared.capture.RegState.{RegState}
-use Rattle.repl_records.specs.declared.prune.SyncMark.{SyncMark}
-use Rattle.repl_records.specs.RecordKeys.{single_spelling}
-use Rattle.repl_records.specs.SourceSide.{head_spelling, IsHead}
-use Rattle.repl_records.specs.Capture.{capture_spelling, registration_state_spelling}
-use Rattle.repl_records.specs.Prune.{mark_spelling}
-use Rattle.repl_records.specs.FirstStates.{first_head, first_capture}
 use Rattle.reply_text.specs.declared.reply.Reply.TheVariants as replies
 use Rattle.reply_text.specs.Replies.{reply_line}
 use Rattle.reply_text.specs.Status.{registration_line, source_set_line}
-use Rattle.world_store.specs.DefinitionRows.{registration_rows, source_set_rows}
-use Rattle.repl_model.specs.Units.{units}
-use Rattle.repl_model.specs.World.{empty_server, Registered, ServerTable, Server, World, server_in}
-use Rattle.repl_model.specs.SoundLogs.{LogIsSound}
-use Rattle.repl_model.specs.SoundDefinitions.{ServerKeepsRules}
-use Rattle.rows_in_order.specs.Rows.{table_from_rows}
-use Rattle.site_store.specs.declared.sites.Sites.{Sites}
-use Rattle.site_store.specs.Servers.{AllClosed}
-use Rattle.site_store.specs.Views.{names, held, work, sees}
-use Rattle.site_store.specs.Records.{or_first, RowIs, StateIs}
-use Rattle.site_store.specs.Calls.{Blames}
-use Rattle.site_store.specs.Damage.{Shows, IsSpelt, IsUndamaged, IsNoDamage}
-use Rattle.site_store.specs.laws.Damage.{rows_spelt, spelt_undamaged, no_damage}
-use Rattle.world_store.specs.LogRows.{head_of, head_rows}
-use Rattle.world_store.specs.CaptureRows.{capture_state, capture_rows, registration_state_rows, mark_rows}
-use Rattle.world_store.specs.Tables.{tables, first_table, with_first}
-use Rattle.world_store.specs.Stands.{Holds, Stands}
 use Rattle.stored_defs.specs.Reading.{AllStand, HasRecords}
-use Rattle.world_store.specs.laws.DefinitionRows.{registration_rows_are, source_rows_are}
 use Rattle.stored_defs.specs.laws.Standing.{all_at_place, holds_defs, holds_spelt, keeps_at, read_is, same_count, seen_at}
 use Rattle.shows.specs.servers.Rules.{rules, ShowsDamage}
 use Rattle.shows.specs.servers.Status.{last_line, mark_of, registration_text, set_text, state_of, status_text, text_at}

@@ -1,64 +1,26 @@
 -- The rows of a user copy as they stand at its target, and their text.
-use Rattle.std.proofs.Common.{◌≡◌, ℕ, ◌+◌, ◌*◌, ◌<◌, ◌≤◌, List, [], ◌∷◌, ◌++◌, length, map, refl, sym, ap, subst, ◌∙◌, arith, inl, inr}
-use Rattle.std.specs.Prelude.{min, Option, Some, IfSome, slice_get}
+use Rattle.std.proofs.Common.{◌≡◌, ℕ, ◌+◌, ◌*◌, ◌<◌, ◌≤◌, List, [], ◌∷◌, ◌++◌, length, map, refl, sym, ap, subst, ◌∙◌, arith, inl, inr, min, Option, Some, IfSome, slice_get, Less}
 use Rattle.std.specs.FinMap.{entries}
 use Rattle.std.specs.List.{AllByRecursion, flat_map}
 use Rattle.std.specs.Option.{option_map_or, option_and_then}
-use Rattle.std.specs.declared.cmp.Ordering.TheVariants.{Less}
 use Rattle.std.proofs.Math.Nat.{min-eq_left}
 use Rattle.std.proofs.lemmas.List.{length-map}
 use Rattle.std.proofs.lemmas.Option.{same_Some, slice_get_within}
-use Rattle.repl_types.specs.Bytes.{bytes_cmp}
-use Rattle.repl_types.specs.Value.{Values}
-use Rattle.repl_types.specs.declared.area.Area.TheVariants as areas
-use Rattle.repl_types.specs.declared.table.TableDef.{TableDef}
-use Rattle.repl_types.specs.declared.record.LogRecord.{LogRecord}
-use Rattle.repl_types.specs.laws.Lists.{all_filter, all_weaker}
-use Rattle.repl_types.specs.declared.call_errors.ShowError.{ShowError}
-use Rattle.repl_types.specs.declared.call_errors.ShowError.TheVariants as errors
-use Rattle.keep_core.specs.Contents.{Contents}
-use Rattle.keep_core.specs.Kept.{Kept}
-use Rattle.keep_core.specs.Revealed.{Takes, TakesPrefix}
-use Rattle.row_codec.specs.Spelling.{IsKey, key_spelling}
-use Rattle.repl_definitions.specs.Members.{IsMember}
-use Rattle.repl_definitions.specs.declared.member.Member.{Member}
-use Rattle.repl_definitions.specs.declared.member.TargetKind.TheVariants.{UserCopy}
-use Rattle.repl_definitions.specs.declared.set.SetDef.{SetDef}
-use Rattle.repl_records.specs.TargetSide.{IsCopy, copy_spelling}
-use Rattle.repl_records.specs.declared.target_side.CopyRow.{CopyRow}
-use Rattle.reply_text.specs.Rows.{row_line}
-use Rattle.rows_in_order.specs.Rows.{table_from_rows, IsRising}
-use Rattle.rows_in_order.specs.laws.Rising.{filter_rises}
-use Rattle.repl_model.specs.MemberCopies.{user_copy}
-use Rattle.repl_model.specs.Selection.{SourceTable, is_selected, target_row}
-use Rattle.repl_model.specs.Sound.{IsSound}
-use Rattle.repl_model.specs.SoundDefinitions.{KeepsTable, MemberIsSound, ReplicaMemberIsSound, ServerKeepsRules}
-use Rattle.repl_model.specs.SoundLogs.{LogIsSound}
-use Rattle.repl_model.specs.SourceAt.{source_at}
-use Rattle.repl_model.specs.Trails.{Trail, synchpoint}
-use Rattle.repl_model.specs.World.{World, KnownSet, known_sets, source_named}
+use Rattle.world_store.specs.Words.{IsKey, key_spelling, IsCopy, copy_spelling, CopyRow, table_from_rows, IsRising, filter_rises, Reveals, Stands, member_table, source_of, copy_rows, selected_few, RowFits}
+use Rattle.site_store.specs.Words.{Contents, Kept, Takes, TakesPrefix, Bounds, Damages, IsUndamaged, AllClosed, names, held, work, sees, no_damage}
 use Rattle.site_store.specs.declared.sites.Sites.{Sites}
-use Rattle.site_store.specs.Calls.{Bounds}
-use Rattle.site_store.specs.Damage.{Damages, IsUndamaged}
-use Rattle.site_store.specs.Servers.{AllClosed}
-use Rattle.site_store.specs.Views.{names, held, work, sees}
-use Rattle.site_store.specs.laws.Damage.{no_damage}
-use Rattle.world_store.specs.Stands.{Reveals, Stands}
-use Rattle.world_store.specs.Tables.{member_table}
-use Rattle.world_store.specs.TargetRows.{source_of, copy_rows}
-use Rattle.lists.specs.laws.Numbered.{at_place_in}
-use Rattle.repl_model.specs.laws.KnownSets.{known_stands, source_in}
-use Rattle.lists.specs.laws.Members.{In, at_one, each_image}
-use Rattle.stored_commits.specs.records.SourceTables.{StandsUnderKey, RowsStand, KeysOfRowsFit, TypedChangesHaveRows, RowsStayStanding}
+use Rattle.repl_model.specs.Words.{bytes_cmp, Values, TableDef, LogRecord, all_filter, all_weaker, ShowError, IsMember, Member, SetDef, user_copy, SourceTable, is_selected, target_row, IsSound, KeepsTable, MemberIsSound, ReplicaMemberIsSound, ServerKeepsRules, LogIsSound, source_at, Trail, synchpoint, World, KnownSet, known_sets, source_named, at_place_in, known_stands, source_in, In, at_one, each_image}
+use Rattle.repl_types.specs.declared.area.Area.TheVariants as areas
+use Rattle.repl_types.specs.declared.call_errors.ShowError.TheVariants as errors
+use Rattle.repl_definitions.specs.declared.member.TargetKind.TheVariants.{UserCopy}
+use Rattle.reply_text.specs.Rows.{row_line}
+use Rattle.stored_commits.specs.records.SourceTables.{StandsUnderKey, RowsStand}
 use Rattle.stored_commits.specs.records.laws.StandingRows.{some_byte, standing_rise}
 use Rattle.set_places.specs.declared.placed_set.PlacedSet.{PlacedSet}
 use Rattle.set_places.specs.Places.{IsPlaced, IsPlacedAs, IsReadOnly}
 use Rattle.set_places.specs.laws.Known.{is_among, set_keeps_rules, members_few, number_few}
 use Rattle.set_places.specs.laws.Sources.{IsSourceOf, source_is_of, table_keyed}
 use Rattle.set_places.specs.laws.Standing.{target_revealed}
-use Rattle.stored_commits.specs.actions.StoredSteps.{TargetsStand}
-use Rattle.world_store.specs.laws.FewRows.{selected_few}
-use Rattle.world_store.specs.SpelledRows.{RowFits}
 use Rattle.apply_copies.specs.Copying.{selected, copied}
 use Rattle.apply_copies.specs.Loading.{greatest_number, target_number}
 use Rattle.apply_copies.specs.Rules.{target_rules}
@@ -70,6 +32,7 @@ use Rattle.shows.specs.tables.Showing.{FailsShowing as FailsWithin}
 use Rattle.shows.specs.tables.laws.Texts.{text_shown}
 use Rattle.shows.specs.sets.Replies.{copy_text}
 use Rattle.shows.specs.sets.Targets.{IsCopyAt}
+use Rattle.stored_commits.specs.laws.ActedTargets.{targets_stand}
 
 -- ---- the rows
 
@@ -82,7 +45,7 @@ images_rise {X} {Y} f (r ∷ rs) rise = (each_image (λ (q : Values × Y). bytes
 abbrev pub stored_copy : Values × Values → Values × CopyRow
 stored_copy r = (r.0, record { row = r.1 })
 
-module _ (keys : KeysOfRowsFit) (typed : TypedChangesHaveRows) (stay : RowsStayStanding) (w : World) (k : KnownSet) (sound : IsSound w) (known : In k (known_sets w)) (member : Member) (fits : IsMember member) (source : SourceTable) (named : source_named member.source k.source ≡ Some source) where
+module _ (w : World) (k : KnownSet) (sound : IsSound w) (known : In k (known_sets w)) (member : Member) (fits : IsMember member) (source : SourceTable) (named : source_named member.source k.source ≡ Some source) where
   -- the point that the set has reached
   abbrev point : ℕ
   point = synchpoint k.at_target.trail
@@ -105,7 +68,7 @@ module _ (keys : KeysOfRowsFit) (typed : TypedChangesHaveRows) (stay : RowsStayS
 
   -- its rows stand under their keys
   stand : RowsStand source.def (source_at source.def source.log point)
-  stand = subst (λ (l : List LogRecord). RowsStand source.def (source_at source.def l point)) (sym of.log) (rows_stand_at typed stay k.source source.def point log)
+  stand = subst (λ (l : List LogRecord). RowsStand source.def (source_at source.def l point)) (sym of.log) (rows_stand_at k.source source.def point log)
 
   -- it has a key
   keyed : 0 < length source.def.key
@@ -113,7 +76,7 @@ module _ (keys : KeysOfRowsFit) (typed : TypedChangesHaveRows) (stay : RowsStayS
 
   -- the rows can be stored
   pub rows_fit : AllByRecursion (RowFits IsKey IsCopy) (copy_rows source member k.at_target.trail)
-  rows_fit = copy_rows_fit typed stay keys k.source source member point log of.log fits
+  rows_fit = copy_rows_fit k.source source member point log of.log fits
 
   -- they are as they are shown
   pub rows_are : AreShown IsKey key_spelling IsCopy (copy_rows source member k.at_target.trail)
@@ -121,7 +84,7 @@ module _ (keys : KeysOfRowsFit) (typed : TypedChangesHaveRows) (stay : RowsStayS
       let made : copy_rows source member k.at_target.trail ≡ copied member whole = copied_are source member point in
       let keyed_all : AllByRecursion (λ (e : Values × Values). 0 < length (key_spelling e.0)) whole = all_weaker (StandsUnderKey source.def) (λ (e : Values × Values). 0 < length (key_spelling e.0)) whole (λ e s. subst (λ (key : Values). 0 < length (key_spelling key)) (sym s.own) (some_byte source.def.key e.1 keyed)) stand in
       record {
-        rise = subst (IsRising key_spelling) (sym made) (images_rise (λ (row : Values). record { row = target_row member row }) (selected member whole) (filter_rises key_spelling (λ (r : Values × Values). is_selected member r.1) whole (standing_rise keys source.def (source_at source.def source.log point) stand)));
+        rise = subst (IsRising key_spelling) (sym made) (images_rise (λ (row : Values). record { row = target_row member row }) (selected member whole) (filter_rises key_spelling (λ (r : Values × Values). is_selected member r.1) whole (standing_rise source.def (source_at source.def source.log point) stand)));
         fit = rows_fit;
         some = subst (AllByRecursion (λ (r : Values × CopyRow). 0 < length (key_spelling r.0))) (sym made) (each_image (λ (r : Values × CopyRow). 0 < length (key_spelling r.0)) (λ (r : Values × Values). (r.0, record { row = target_row member r.1 })) (selected member whole) (all_filter (λ (e : Values × Values). 0 < length (key_spelling e.0)) (λ (e : Values × Values). is_selected member e.1) whole keyed_all));
         few = omega (arith, ap length made, length-map {B = Values × CopyRow} (selected member whole) (λ (r : Values × Values). (r.0, record { row = target_row member r.1 })), selected_few source member point, ap length of.log, log.short);
@@ -169,7 +132,7 @@ table_is source member trail copy = subst (λ (m : Member). member_table source 
 
 -- ---- at servers that stand for a world
 
-module _ {K : Type 0} (kept : K → Kept) (s0 : Sites K) (set : PlacedSet) (place : ℕ) (closed : AllClosed (work kept s0)) (placed_at : IsPlaced kept s0 set) (is_copy : IsCopyAt set.at_target.def place) (keys : KeysOfRowsFit) (typed : TypedChangesHaveRows) (stay : RowsStayStanding) (targets : TargetsStand) (w : World) (k : KnownSet) (stands : Stands (names s0) (held kept s0) w) (placed : IsPlacedAs w k set) (read_only : IsReadOnly k) where
+module _ {K : Type 0} (kept : K → Kept) (s0 : Sites K) (set : PlacedSet) (place : ℕ) (closed : AllClosed (work kept s0)) (placed_at : IsPlaced kept s0 set) (is_copy : IsCopyAt set.at_target.def place) (w : World) (k : KnownSet) (stands : Stands (names s0) (held kept s0) w) (placed : IsPlacedAs w k set) (read_only : IsReadOnly k) where
   -- the member
   abbrev member : Member
   member = is_copy.member
@@ -202,12 +165,12 @@ module _ {K : Type 0} (kept : K → Kept) (s0 : Sites K) (set : PlacedSet) (plac
   has_rows : seen.0 areas.Target number ≡ table_from_rows key_spelling copy_spelling rows
   has_rows =
       ap (seen.0 areas.Target) (number_is w k set place member stands.sound placed there)
-      ∙ (targets w k set.at_target.number seen.0 stands.sound (is_among w k set placed read_only) placed.at_target seen.2).0 place member source.0 there source.1
+      ∙ (targets_stand w k set.at_target.number seen.0 stands.sound (is_among w k set placed read_only) placed.at_target seen.2).0 place member source.0 there source.1
       ∙ table_is source.0 member k.at_target.trail is_copy.copy
 
   -- their text is the reply
   text : rows_text {A = Values} (λ _ (r : CopyRow). row_line r.row) rows ≡ copy_text w k member
-  text = text_is keys typed stay w k stands.sound placed.known member fits source.0 source.1
+  text = text_is w k stands.sound placed.known member fits source.0 source.1
 
   -- the member at the place is this one
   one_member : (m : Member) → slice_get k.at_target.def.members place ≡ Some m → member ≡ m
@@ -227,7 +190,7 @@ module _ {K : Type 0} (kept : K → Kept) (s0 : Sites K) (set : PlacedSet) (plac
 
       -- the target's rows are as they are shown
       shown : AreShown IsKey key_spelling IsCopy rows
-      shown = rows_are keys typed stay w k stands.sound placed.known member fits source.0 source.1
+      shown = rows_are w k stands.sound placed.known member fits source.0 source.1
 
       -- they stand in the table with the number
       stand_there : seen.0 areas.Target n ≡ table_from_rows key_spelling copy_spelling rows
@@ -251,4 +214,4 @@ module _ {K : Type 0} (kept : K → Kept) (s0 : Sites K) (set : PlacedSet) (plac
     copy_undamaged s1 most before now (errors.Fault e) f = no_damage kept s0 s1 (λ s. s ≡ set.target) (target_rules n) e each f.blames
       where
         each : (s : ℕ) → s ≡ set.target → (c : Contents) × (sees kept s0 s ≡ Some c) × IsUndamaged (target_rules n) c
-        each s at = (seen.0, ap (sees kept s0) at ∙ seen.1, target_undamaged n seen.0 rows (ap (seen.0 areas.Target) same ∙ has_rows) (rows_fit keys typed stay w k stands.sound placed.known member fits source.0 source.1))
+        each s at = (seen.0, ap (sees kept s0) at ∙ seen.1, target_undamaged n seen.0 rows (ap (seen.0 areas.Target) same ∙ has_rows) (rows_fit w k stands.sound placed.known member fits source.0 source.1))

@@ -1,18 +1,7 @@
 -- Numbers that have one spelling have one text.
-use Rattle.std.proofs.Common.{◌≡◌, ℕ, suc, ◌/◌, ◌%◌, ◌^◌, Bool, true, false, List, [], ◌∷◌, ◌++◌, append_assoc, refl, sym, ap, ◌∙◌, arith}
-use Rattle.std.specs.Prelude.{codes, decimal}
-use Rattle.repl_types.specs.Sequence.{hex_digit, hex_digits}
-use Rattle.repl_types.specs.declared.record.SetId.{SetId}
-use Rattle.row_codec.specs.Spelling.{Is64, b64, flag}
-use Rattle.row_codec.specs.laws.Ones.{one_whole}
-use Rattle.row_codec.specs.laws.Numbers.{length64, same_prefixes, one64, one_flag}
-use Rattle.repl_records.specs.declared.capture.RegState.{RegState}
-use Rattle.repl_records.specs.declared.capture.CaptureState.{CaptureState}
-use Rattle.repl_records.specs.declared.prune.SyncMark.{SyncMark}
-use Rattle.repl_records.specs.declared.source_side.Head.{Head}
-use Rattle.repl_records.specs.SourceSide.{head_spelling, IsHead}
-use Rattle.repl_records.specs.Capture.{capture_spelling, IsCapture, registration_state_spelling, IsRegistrationState}
-use Rattle.repl_records.specs.Prune.{mark_spelling, IsMark}
+use Rattle.std.proofs.Common.{◌≡◌, ℕ, suc, ◌/◌, ◌%◌, ◌^◌, Bool, true, false, List, [], ◌∷◌, ◌++◌, append_assoc, refl, sym, ap, ◌∙◌, arith, codes, decimal}
+use Rattle.world_store.specs.Words.{Is64, b64, flag, one_whole, length64, same_prefixes, one64, one_flag, RegState, CaptureState, SyncMark, Head, head_spelling, IsHead, capture_spelling, IsCapture, registration_state_spelling, IsRegistrationState, mark_spelling, IsMark, head_is, tail_is}
+use Rattle.repl_model.specs.Words.{hex_digit, hex_digits, SetId}
 use Rattle.reply_text.specs.Lines.{whole_line, position_text, set_text}
 use Rattle.reply_text.specs.declared.reply.Reply.TheVariants as replies
 use Rattle.reply_text.specs.Replies.{reply_line}
@@ -36,13 +25,6 @@ byte_more c n m low high =
 none : (j k : ℕ) → hex_digits 0 j ≡ hex_digits 0 k
 unfolding hex_digits
 none j k = refl
-
--- bytes of one spelling
-head_of_two : (j k : ℕ) (x y : List ℕ) → ◌≡◌ {A = List ℕ} (j ∷ x) (k ∷ y) → j ≡ k
-head_of_two j k x y e = cc
-
-tail_of_two : (j k : ℕ) (x y : List ℕ) → ◌≡◌ {A = List ℕ} (j ∷ x) (k ∷ y) → x ≡ y
-tail_of_two j k x y e = cc
 
 -- two divisions by bytes are one
 bytes_over : (n : ℕ) → (n / 256 / 256 ≡ n / 256 ^ 2) × (n / 256 ^ 2 / 256 ≡ n / 256 ^ 3) × (n / 256 ^ 3 / 256 ≡ n / 256 ^ 4) × (n / 256 ^ 4 / 256 ≡ n / 256 ^ 5) × (n / 256 ^ 5 / 256 ≡ n / 256 ^ 6) × (n / 256 ^ 6 / 256 ≡ n / 256 ^ 7)
@@ -73,21 +55,21 @@ low_spelled n =
 pub digits_same : (n m : ℕ) → b64 n ≡ b64 m → hex_digits 16 n ≡ hex_digits 16 m
 unfolding b64
 digits_same n m e =
-    let e6 = tail_of_two (n / 256 ^ 7 % 256) (m / 256 ^ 7 % 256) (seven n) (seven m) e in
-    let e5 = tail_of_two (n / 256 ^ 6 % 256) (m / 256 ^ 6 % 256) (six n) (six m) e6 in
-    let e4 = tail_of_two (n / 256 ^ 5 % 256) (m / 256 ^ 5 % 256) (five n) (five m) e5 in
-    let e3 = tail_of_two (n / 256 ^ 4 % 256) (m / 256 ^ 4 % 256) (four n) (four m) e4 in
-    let e2 = tail_of_two (n / 256 ^ 3 % 256) (m / 256 ^ 3 % 256) (three n) (three m) e3 in
-    let e1 = tail_of_two (n / 256 ^ 2 % 256) (m / 256 ^ 2 % 256) (two n) (two m) e2 in
-    let e0 = tail_of_two (n / 256 % 256) (m / 256 % 256) (n % 256 ∷ []) (m % 256 ∷ []) e1 in
-    let b7 = head_of_two (n / 256 ^ 7 % 256) (m / 256 ^ 7 % 256) (seven n) (seven m) e in
-    let b6 = head_of_two (n / 256 ^ 6 % 256) (m / 256 ^ 6 % 256) (six n) (six m) e6 in
-    let b5 = head_of_two (n / 256 ^ 5 % 256) (m / 256 ^ 5 % 256) (five n) (five m) e5 in
-    let b4 = head_of_two (n / 256 ^ 4 % 256) (m / 256 ^ 4 % 256) (four n) (four m) e4 in
-    let b3 = head_of_two (n / 256 ^ 3 % 256) (m / 256 ^ 3 % 256) (three n) (three m) e3 in
-    let b2 = head_of_two (n / 256 ^ 2 % 256) (m / 256 ^ 2 % 256) (two n) (two m) e2 in
-    let b1 = head_of_two (n / 256 % 256) (m / 256 % 256) (n % 256 ∷ []) (m % 256 ∷ []) e1 in
-    let b0 = head_of_two (n % 256) (m % 256) [] [] e0 in
+    let e6 = tail_is (n / 256 ^ 7 % 256) (m / 256 ^ 7 % 256) (seven n) (seven m) e in
+    let e5 = tail_is (n / 256 ^ 6 % 256) (m / 256 ^ 6 % 256) (six n) (six m) e6 in
+    let e4 = tail_is (n / 256 ^ 5 % 256) (m / 256 ^ 5 % 256) (five n) (five m) e5 in
+    let e3 = tail_is (n / 256 ^ 4 % 256) (m / 256 ^ 4 % 256) (four n) (four m) e4 in
+    let e2 = tail_is (n / 256 ^ 3 % 256) (m / 256 ^ 3 % 256) (three n) (three m) e3 in
+    let e1 = tail_is (n / 256 ^ 2 % 256) (m / 256 ^ 2 % 256) (two n) (two m) e2 in
+    let e0 = tail_is (n / 256 % 256) (m / 256 % 256) (n % 256 ∷ []) (m % 256 ∷ []) e1 in
+    let b7 = head_is (n / 256 ^ 7 % 256) (m / 256 ^ 7 % 256) (seven n) (seven m) e in
+    let b6 = head_is (n / 256 ^ 6 % 256) (m / 256 ^ 6 % 256) (six n) (six m) e6 in
+    let b5 = head_is (n / 256 ^ 5 % 256) (m / 256 ^ 5 % 256) (five n) (five m) e5 in
+    let b4 = head_is (n / 256 ^ 4 % 256) (m / 256 ^ 4 % 256) (four n) (four m) e4 in
+    let b3 = head_is (n / 256 ^ 3 % 256) (m / 256 ^ 3 % 256) (three n) (three m) e3 in
+    let b2 = head_is (n / 256 ^ 2 % 256) (m / 256 ^ 2 % 256) (two n) (two m) e2 in
+    let b1 = head_is (n / 256 % 256) (m / 256 % 256) (n % 256 ∷ []) (m % 256 ∷ []) e1 in
+    let b0 = head_is (n % 256) (m % 256) [] [] e0 in
     let over = bytes_over n in
     let under = bytes_over m in
     byte_more 14 n m b0 (byte_more 12 (n / 256) (m / 256) b1 (on 12 (over.0) (under.0)

@@ -1,42 +1,16 @@
 -- A table of the source has no more rows than can be counted.
-use Rattle.std.proofs.Common.{ℕ, ◌+◌, ◌-◌, ◌*◌, ◌≤◌, Bool, true, false, cond, List, [], ◌∷◌, length, length-append, sym, subst, arith, lit≤}
-use Rattle.std.specs.Prelude.{◌&&◌, nat_lt, nat_le, filter, IfSome}
+use Rattle.std.proofs.Common.{ℕ, ◌+◌, ◌-◌, ◌*◌, ◌≤◌, Bool, List, [], ◌∷◌, length, length-append, arith, lit≤, ◌&&◌, nat_lt, nat_le, filter, IfSome, suc-mul}
 use Rattle.std.specs.List.{AllByRecursion, enumerate_from, flat_map}
-use Rattle.std.specs.FinMap.{empty, entries, insert, remove, contains_key, len, len-empty, len-entries, len-insert, len-remove}
-use Rattle.std.specs.Str.{bytes_eq}
-use Rattle.std.proofs.Math.Nat.{suc-mul}
+use Rattle.std.specs.FinMap.{empty, entries, len, len-empty, len-entries}
 use Rattle.std.proofs.lemmas.List.FromFn.{length-enumerate_from}
 use Rattle.std.proofs.lemmas.Nat.{mul-le}
-use Rattle.world_store.specs.laws.FewRows.{insert_adds, remove_adds, effect_adds, change_adds, changes_add, filter_few}
-use Rattle.lists.specs.laws.Members.{each_given}
-use Rattle.repl_types.specs.Value.{Values, key_cmp}
-use Rattle.repl_types.specs.laws.Lists.{all_filter}
-use Rattle.repl_types.specs.laws.Order.{key_cmp_total}
-use Rattle.repl_types.specs.declared.record.Change.{Change}
-use Rattle.repl_types.specs.declared.record.Change.TheVariants.{Insert, Update, Delete, Start, Stop}
-use Rattle.repl_types.specs.declared.record.LogRecord.{LogRecord}
+use Rattle.repl_model.specs.Words.{each_given, Values, key_cmp, all_filter, Change, LogRecord, TableDef, Rows, after_changes, At, positions, last_end, change_of, changes_up_to, unit_at, units, unplaced, after_units, units_up_to, source_at, log_limit, filter_map_few, units_few}
+use Rattle.world_store.specs.Words.{changes_add, filter_few}
+use Rattle.site_store.specs.Words.{count_max}
 use Rattle.repl_types.specs.declared.record.LogRecord.TheVariants as records
-use Rattle.repl_types.specs.declared.table.TableDef.{TableDef}
-use Rattle.repl_types.specs.declared.unit.Placed.{Placed}
 use Rattle.repl_types.specs.declared.unit.Unit.{Unit as LogUnit}
-use Rattle.keep_core.specs.Revealed.{count_max}
-use Rattle.repl_model.specs.Tables.{Rows, key_of, table_of, effect, after_change, after_changes}
-use Rattle.repl_model.specs.Units.{At, positions, last_end, change_of, changes_up_to, unit_at, units}
-use Rattle.repl_model.specs.SourceAt.{unplaced, after_units, units_up_to, source_at}
-use Rattle.repl_model.specs.SoundLogs.{log_limit}
-use Rattle.lists.specs.laws.Places.{filter_map_few}
 
 -- ---- rows that changes add
-
--- one more, or not
-at_most_more : (b : Bool) (n : ℕ) → cond b n (n + 1) ≤ n + 1
-at_most_more true n = omega arith
-at_most_more false n = omega arith
-
--- one less, or not
-no_more : (b : Bool) (n : ℕ) → cond b (n - 1) n ≤ n
-no_more true n = omega arith
-no_more false n = omega arith
 
 -- units that have no more changes than a limit
 units_add : (limit : ℕ) (def : TableDef) (us : List LogUnit) (rows : Rows) → AllByRecursion (λ u. length u.changes ≤ limit) us → len (after_units def us rows) ≤ len rows + length us * limit
@@ -68,11 +42,6 @@ units_small log = each_given (λ (u : LogUnit). length u.changes ≤ length log)
     each : (b : ℕ) (rs : List LogRecord) → AllByRecursion (λ (q : At). IfSome (unit_at log q) (λ (u : LogUnit). length u.changes ≤ length log)) (enumerate_from b rs)
     each b [] = tt
     each b (r ∷ rs) = (one b r, each (b + 1) rs)
-
--- and there are no more units
-pub units_few : (log : List LogRecord) → length (units log) ≤ length log
-unfolding units
-units_few log = omega (arith, filter_map_few (unit_at log) (positions log), length-enumerate_from 1 log)
 
 -- the rows at a point are no more than the square of the records
 source_small : (def : TableDef) (log : List LogRecord) (point : ℕ) → len (source_at def log point) ≤ length log * length log

@@ -1,36 +1,14 @@
 -- Which target of a name is known in a world, once the sets whose target a server is were looked through.
 use borrow.Author.Count.{below_more}
-use Rattle.std.proofs.Common.{◌≡◌, ℕ, ◌+◌, ◌<◌, true, false, not, List, [], ◌∷◌, length, map, get_or, refl, sym, ap, subst, ◌∙◌, arith, inl, inr}
-use Rattle.std.specs.Prelude.{Option, Some, None, IsTrue, IfSome, MatchOption, slice_get}
-use Rattle.std.specs.Str.{bytes_eq}
+use Rattle.std.proofs.Common.{◌≡◌, ℕ, ◌+◌, ◌<◌, true, false, not, List, [], ◌∷◌, length, map, get_or, refl, sym, ap, subst, ◌∙◌, arith, inl, inr, Option, Some, None, IsTrue, IfSome, MatchOption, slice_get, bytes_eq}
 use Rattle.std.proofs.lemmas.Bool.{cases_lt}
 use Rattle.std.proofs.lemmas.Option.{none-some, same_Some, slice_get_within, slice_get-get_or, get_or_from_slice_get}
-use Rattle.repl_types.specs.declared.area.Area.TheVariants as areas
-use Rattle.repl_types.specs.declared.record.SetId.{SetId}
-use Rattle.keep_core.specs.Kept.{Kept}
-use Rattle.row_codec.specs.Spelling.{IsSet, set_spelling}
-use Rattle.repl_definitions.specs.Sets.{IsTargetSet, target_set_spelling}
-use Rattle.repl_definitions.specs.declared.member.Member.{Member}
-use Rattle.repl_definitions.specs.declared.set.SetDef.{SetDef}
-use Rattle.repl_definitions.specs.declared.set.TargetSet.{TargetSet}
-use Rattle.repl_model.specs.Rules.{is_replica_set}
-use Rattle.repl_model.specs.World.{empty_server, TargetSide, Server, World, KnownSet, known_sets, known_set, target_side, server_in}
-use Rattle.repl_model.specs.SoundDefinitions.{ServerKeepsRules}
-use Rattle.rows_in_order.specs.Rows.{table_from_rows}
-use Rattle.rows_in_order.specs.laws.Fitting.{fits_each}
-use Rattle.rows_in_order.specs.laws.Found.{row_of}
+use Rattle.world_store.specs.Words.{IsSet, set_spelling, table_from_rows, fits_each, row_of, target_set_rows, Stands, RowFits, target_rows_are}
+use Rattle.site_store.specs.Words.{Kept, AllClosed, names, held, work, sees, Looks}
 use Rattle.site_store.specs.declared.sites.Sites.{Sites}
-use Rattle.site_store.specs.Servers.{AllClosed}
-use Rattle.site_store.specs.Views.{names, held, work, sees}
-use Rattle.site_store.specs.one_server.Calls.{Looks}
-use Rattle.world_store.specs.DefinitionRows.{target_set_rows}
-use Rattle.world_store.specs.Stands.{Stands}
-use Rattle.lists.specs.laws.Numbered.{in_numbered, numbered_place}
-use Rattle.repl_model.specs.laws.KnownSets.{known_stands}
-use Rattle.lists.specs.laws.Members.{In, image_in, in_map, in_second}
+use Rattle.repl_model.specs.Words.{SetId, IsTargetSet, target_set_spelling, Member, SetDef, TargetSet, is_replica_set, empty_server, TargetSide, Server, World, KnownSet, known_sets, known_set, target_side, server_in, ServerKeepsRules, in_numbered, numbered_place, known_stands, In, image_in, in_map, in_second}
+use Rattle.repl_types.specs.declared.area.Area.TheVariants as areas
 use Rattle.stored_defs.specs.Reading.{HasRecords}
-use Rattle.world_store.specs.SpelledRows.{RowFits}
-use Rattle.world_store.specs.laws.DefinitionRows.{target_rows_are}
 use Rattle.stored_defs.specs.laws.Standing.{same_count, keeps_at, name_at_place, targets_read}
 use Rattle.set_places.specs.declared.placed_set.PlacedSet.{PlacedSet}
 use Rattle.set_places.specs.Places.{IsPlaced, IsPlacedAs, IsKnownAs}

@@ -1,11 +1,8 @@
 -- How far a set is, by what was read of it at its two servers.
-use Rattle.std.proofs.Common.{◌≡◌, ℕ, Bool, cond, ap, ◌∙◌}
-use Rattle.std.specs.Prelude.{Option, Some, None}
-use Rattle.repl_types.specs.declared.record.SetId.{SetId}
-use Rattle.repl_records.specs.declared.prune.SyncMark.{SyncMark}
-use Rattle.repl_definitions.specs.declared.set.SetDef.{SetDef}
+use Rattle.std.proofs.Common.{◌≡◌, ℕ, Bool, cond, ap, ◌∙◌, Option, Some, None}
+use Rattle.world_store.specs.Words.{SyncMark}
+use Rattle.repl_model.specs.Words.{SetId, SetDef, World, KnownSet}
 use Rattle.reply_text.specs.declared.status.ReadOnlyStatus.{ReadOnlyStatus}
-use Rattle.repl_model.specs.World.{World, KnownSet}
 use Rattle.set_places.specs.declared.placed_set.PlacedSet.{PlacedSet}
 use Rattle.set_places.specs.Places.{IsPlacedAs}
 use Rattle.subs_sets.specs.declared.states.ReadOnlyState.{ReadOnlyState}

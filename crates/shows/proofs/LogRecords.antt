@@ -1,21 +1,10 @@
 -- The records of a log as they stand.
-use Rattle.std.proofs.Common.{◌≡◌, ℕ, ◌+◌, ◌<◌, ◌≤◌, ◌^◌, List, [], ◌∷◌, ◌++◌, length, map, sym, ap, ◌∙◌, append_assoc, append-nil, arith}
+use Rattle.std.proofs.Common.{◌≡◌, ℕ, ◌+◌, ◌<◌, ◌≤◌, ◌^◌, List, [], ◌∷◌, ◌++◌, length, map, sym, ap, ◌∙◌, append_assoc, append-nil, arith, nat_cmp}
 use Rattle.std.specs.List.{AllByRecursion, enumerate_from, flat_map}
-use Rattle.std.specs.Ordering.{nat_cmp}
 use Rattle.std.proofs.lemmas.List.FromFn.{length-enumerate_from}
-use Rattle.repl_types.specs.declared.record.LogRecord.{LogRecord}
-use Rattle.row_codec.specs.Spelling.{Is64, b64}
-use Rattle.row_codec.specs.LogRecords.{IsLogRecord}
-use Rattle.row_codec.specs.laws.Numbers.{length64}
-use Rattle.row_codec.specs.laws.Orders.{whole_order, order64}
+use Rattle.world_store.specs.Words.{Is64, b64, IsLogRecord, length64, whole_order, order64, AllAbove, NumbersRise, SpellsInOrder, rises, numbered_below, RowFits}
+use Rattle.repl_model.specs.Words.{LogRecord, At, positions, LogIsSound, Server}
 use Rattle.reply_text.specs.Rows.{log_line}
-use Rattle.repl_model.specs.Units.{At, positions}
-use Rattle.repl_model.specs.SoundLogs.{LogIsSound}
-use Rattle.repl_model.specs.World.{Server}
-use Rattle.rows_in_order.specs.Numbers.{AllAbove, NumbersRise, SpellsInOrder}
-use Rattle.rows_in_order.specs.laws.ByNumber.{rises}
-use Rattle.rows_in_order.specs.laws.Numbered.{numbered_below}
-use Rattle.world_store.specs.SpelledRows.{RowFits}
 use Rattle.shows.specs.tables.Replies.{count_line, log_text}
 use Rattle.shows.specs.tables.Records.{AreShown, row_lines, rows_text}
 

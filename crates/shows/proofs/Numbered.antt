@@ -1,19 +1,11 @@
 -- Things are found by their numbers, also among entries that are in another order.
-use Rattle.std.proofs.Common.{◌≡◌, ℕ, zero, suc, ◌+◌, ◌<◌, ◌≤◌, Bool, true, false, cond, List, [], ◌∷◌, ◌++◌, length, map, take, append_assoc, append-nil, refl, sym, ap, subst, ◌∙◌, arith}
-use Rattle.std.specs.Prelude.{◌||◌, not, ◌==◌, fold, find, Option, Some, None, IfSome, slice_get}
+use Rattle.std.proofs.Common.{◌≡◌, ℕ, zero, suc, ◌+◌, ◌<◌, ◌≤◌, Bool, true, false, cond, List, [], ◌∷◌, ◌++◌, length, map, take, append_assoc, append-nil, refl, sym, ap, subst, ◌∙◌, arith, ◌||◌, not, ◌==◌, fold, find, Option, Some, None, IfSome, slice_get, is_eq, Ordering, Less, Equal, Greater}
 use Rattle.std.specs.List.{AllByRecursion, cons_option, enumerate_from, filter_map, flat_map, list_any}
 use Rattle.std.specs.Option.{option_map, option_map_or, option_and_then, option_or}
-use Rattle.std.specs.Ordering.{is_eq}
-use Rattle.std.specs.declared.cmp.Ordering.{Ordering}
-use Rattle.std.specs.declared.cmp.Ordering.TheVariants.{Less, Equal, Greater}
 use Rattle.std.specs.FinMap.Entries.{by_order, put}
 use Rattle.std.proofs.lemmas.Bool.{eq-eqb, eqb-true, and_parts}
-use Rattle.lists.specs.Lists.{all_differ}
-use Rattle.repl_model.specs.Summaries.{by_key}
-use Rattle.rows_in_order.specs.Rows.{table_from_rows}
-use Rattle.rows_in_order.specs.Numbers.{SpellsInOrder, AllBelow}
-use Rattle.rows_in_order.specs.laws.ByNumber.{key_same}
-use Rattle.rows_in_order.specs.laws.Written.{differ_numbers}
+use Rattle.world_store.specs.Words.{table_from_rows, SpellsInOrder, AllBelow, key_same, differ_numbers}
+use Rattle.repl_model.specs.Words.{all_differ, by_key}
 
 -- ---- lists
 

@@ -1,8 +1,6 @@
 -- What a sink took of a text, piece by piece.
-use Rattle.std.proofs.Common.{◌≡◌, ℕ, List, [], ◌∷◌, ◌++◌, Option, append_assoc, append-nil, refl, sym, ap, ◌∙◌}
-use Rattle.std.specs.List.{flat_map}
-use Rattle.keep_core.specs.Revealed.{Takes, TakesPrefix}
-use Rattle.keep_core.specs.laws.Revealed.{takes_nothing, takes_both}
+use Rattle.std.proofs.Common.{◌≡◌, ℕ, List, [], ◌∷◌, ◌++◌, Option, append_assoc, append-nil, refl, sym, ap, ◌∙◌, flat_map}
+use Rattle.site_store.specs.Words.{Takes, TakesPrefix, takes_nothing, takes_both}
 
 -- what was taken is a prefix of what was to be taken
 pub prefix_taken : (before now : Option (List ℕ)) (text first rest : List ℕ) → text ≡ first ++ rest → Takes before now first → TakesPrefix before now text

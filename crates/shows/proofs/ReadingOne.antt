@@ -1,20 +1,9 @@
 -- Reads of one server, one after another, and why one fails: proofs.
-use Rattle.std.proofs.Common.{◌≡◌, ℕ, ◌+◌, ◌<◌, ◌≤◌, Bool, true, false, cond, List, length, sym, subst, arith}
-use Rattle.std.specs.Prelude.{◌&&◌, ◌==◌, Option, Some, None, IfSome}
-use Rattle.repl_types.specs.Area.{same_area}
-use Rattle.repl_types.specs.declared.area.Area.{Area}
-use Rattle.repl_types.specs.declared.status.DamageCause.{DamageCause}
-use Rattle.repl_types.specs.declared.status.DamageCause.TheVariants as causes
-use Rattle.repl_types.specs.declared.fault.Fault.{Fault}
-use Rattle.keep_core.specs.Contents.{Contents}
-use Rattle.keep_core.specs.Kept.{Kept}
+use Rattle.std.proofs.Common.{◌≡◌, ℕ, ◌+◌, ◌<◌, ◌≤◌, Bool, true, false, cond, List, length, sym, subst, arith, ◌&&◌, ◌==◌, Option, Some, None, IfSome}
+use Rattle.site_store.specs.Words.{Contents, Kept, names, sees, Misspelt, MissesOrMisreads, IsMissing, Bounds, both, reads_of_one, AtServer, Stays, Fails, Shows, Damages, IsAtMost, misspelt_shows, fails_by, fails_within, fails_after}
 use Rattle.site_store.specs.declared.sites.Sites.{Sites}
-use Rattle.site_store.specs.Views.{names, sees}
-use Rattle.site_store.specs.Records.{Misspelt, MissesOrMisreads, IsMissing}
-use Rattle.site_store.specs.Calls.{Bounds, both, reads_of_one, AtServer, Stays, Fails}
-use Rattle.site_store.specs.Damage.{Shows, Damages}
-use Rattle.site_store.specs.laws.Counts.{IsAtMost}
-use Rattle.site_store.specs.laws.Damage.{misspelt_shows, fails_by, fails_within, fails_after}
+use Rattle.repl_model.specs.Words.{same_area, Area, DamageCause, Fault}
+use Rattle.repl_types.specs.declared.status.DamageCause.TheVariants as causes
 use Rattle.shows.specs.servers.Rules.{reads_at, rules, ShowsDamage}
 
 -- reads of one server add up

@@ -1,43 +1,20 @@
 -- Why calls at the servers failed, by the rules of all that is read; and that no damage is reported of servers that stand
 -- for a world.
-use Rattle.std.proofs.Common.{◌≡◌, ℕ, ◌<◌, List, [], length, refl, sym, subst, arith}
-use Rattle.std.specs.Prelude.{Option, Some}
+use Rattle.std.proofs.Common.{◌≡◌, ℕ, ◌<◌, List, [], length, sym, subst, arith, Some}
 use Rattle.std.proofs.lemmas.Option.{slice_get-get_or}
-use Rattle.repl_types.specs.declared.area.Area.{Area}
-use Rattle.repl_types.specs.declared.area.Area.TheVariants as areas
-use Rattle.repl_types.specs.declared.status.DamageCause.{DamageCause}
-use Rattle.repl_types.specs.declared.call_errors.ShowError.{ShowError}
-use Rattle.repl_types.specs.declared.call_errors.ShowError.TheVariants as errors
-use Rattle.repl_types.specs.declared.fault.Fault.{Fault}
-use Rattle.repl_types.specs.declared.fault.Fault.TheVariants as faults
-use Rattle.keep_core.specs.Contents.{Contents}
-use Rattle.keep_core.specs.Kept.{Kept}
-use Rattle.keep_core.specs.Revealed.{TakesPrefix}
-use Rattle.keep_core.specs.laws.Revealed.{takes_nothing}
-use Rattle.row_codec.specs.Spelling.{IsKey, key_spelling, IsSet, set_spelling}
-use Rattle.repl_definitions.specs.Sets.{IsTargetSet, target_set_spelling}
-use Rattle.repl_records.specs.TargetSide.{IsCopy, copy_spelling}
-use Rattle.repl_model.specs.World.{empty_server, Server, World, server_in}
+use Rattle.world_store.specs.Words.{IsKey, key_spelling, IsSet, set_spelling, IsCopy, copy_spelling, Holds, Stands}
+use Rattle.site_store.specs.Words.{Contents, Kept, Bounds, Fails, Rules, joined, Shows, Damages, IsUndamaged, IsNoDamage, AllClosed, names, held, work, sees, at_most_itself, shown_first, shown_second, no_damage, Breaks, Looks, Stops, no_memory, stops_as, stops_at, stops_after, looks_sees}
 use Rattle.site_store.specs.declared.sites.Sites.{Sites}
-use Rattle.site_store.specs.Calls.{Bounds, Fails}
-use Rattle.site_store.specs.Damage.{Rules, joined, Shows, Damages, IsUndamaged, IsNoDamage}
-use Rattle.site_store.specs.Servers.{AllClosed}
-use Rattle.site_store.specs.Views.{names, held, work, sees}
-use Rattle.site_store.specs.laws.Counts.{at_most_itself}
-use Rattle.site_store.specs.laws.Damage.{shown_first, shown_second, no_damage}
-use Rattle.site_store.specs.one_server.Calls.{Breaks, Looks, Stops}
-use Rattle.site_store.specs.one_server.laws.Faults.{no_memory, stops_as, stops_at, stops_after}
-use Rattle.site_store.specs.one_server.laws.Reads.{looks_sees}
-use Rattle.world_store.specs.Stands.{Holds, Stands}
-use Rattle.lists.specs.laws.Numbered.{at_place_in}
-use Rattle.lists.specs.laws.Members.{In}
+use Rattle.repl_model.specs.Words.{Area, DamageCause, ShowError, Fault, IsTargetSet, target_set_spelling, empty_server, Server, World, server_in, at_place_in, In}
+use Rattle.repl_types.specs.declared.area.Area.TheVariants as areas
+use Rattle.repl_types.specs.declared.call_errors.ShowError.TheVariants as errors
+use Rattle.repl_types.specs.declared.fault.Fault.TheVariants as faults
 use Rattle.stored_defs.specs.Reading.{table_rules}
 use Rattle.stored_defs.specs.Rules.{rules as definition_rules, ShowsDamage as ShowsDamageOfDefinitions}
 use Rattle.stored_defs.specs.laws.Blaming.{fails_by_table}
 use Rattle.stored_defs.specs.laws.Standing.{same_count, seen_at}
 use Rattle.prune_control.specs.Noting.{mark_rules}
 use Rattle.subs_sets.specs.Rules.{state_rules}
-use Rattle.shows.specs.servers.Showing.{IsUndamagedShow}
 use Rattle.shows.specs.tables.Showing.{IsOutputFault, FailsShowing as FailsWithin}
 use Rattle.shows.specs.sets.Rules.{copy_rules, status_rules, rules, ShowsDamage}
 use Rattle.shows.specs.sets.Showing.{FailsShowing}
@@ -114,8 +91,3 @@ module _ {K : Type 0} (kept : K → Kept) (s0 s1 : Sites K) (before now : ℕ) w
     f.closes.closed,
   )
   copy_fails server number most errors.Output within closed f = let look : Looks kept s0 s1 = record { most = most; stays = f.1 } in ((f.0, look), closed_on kept s0 s1 look closed)
-
--- no damage is reported if memory ran out or the output failed
-pub output_undamaged : (before now : ℕ) (e : ShowError) → IsOutputFault before now e → IsUndamagedShow e
-output_undamaged before now (errors.Fault e) memory = subst IsNoDamage (sym memory) tt
-output_undamaged before now errors.Output rose = tt

@@ -1,26 +1,12 @@
 -- The rows of a table of one server are shown one after another.
-use Rattle.std.proofs.Common.{◌≡◌, ℕ, ◌+◌, ◌<◌, ◌≤◌, List, refl, sym, subst, arith}
-use Rattle.std.specs.Prelude.{Option, Some, None, IfSome}
-use Rattle.repl_types.specs.declared.area.Area.{Area}
-use Rattle.repl_types.specs.declared.status.DamageCause.{DamageCause}
-use Rattle.repl_types.specs.declared.call_errors.ShowError.{ShowError}
-use Rattle.repl_types.specs.declared.call_errors.ShowError.TheVariants as errors
-use Rattle.repl_types.specs.declared.fault.Fault.{Fault}
-use Rattle.keep_core.specs.Contents.{Contents, IsNextKey, IsLastKey}
-use Rattle.keep_core.specs.Kept.{Kept}
-use Rattle.keep_core.specs.Revealed.{count_max, Takes, TakesPrefix}
-use Rattle.row_codec.specs.Takes.{One}
+use Rattle.std.proofs.Common.{◌≡◌, ℕ, ◌+◌, ◌<◌, ◌≤◌, List, refl, sym, subst, arith, Option, Some, None, IfSome}
+use Rattle.world_store.specs.Words.{One}
+use Rattle.site_store.specs.Words.{Contents, IsNextKey, IsLastKey, Kept, count_max, Takes, TakesPrefix, AllClosed, work, sees, after_key, NextRowIs, Misread, MisspeltNext, Bounds, reads_of_one, AtServer, Stays, Fails, Damages, at_most_itself, stays_then, fails_after, next_fails, reads_more, reads_within, any_seen, if_seen, if_both_seen, stays_sees, stays_within}
 use Rattle.site_store.specs.declared.sites.Sites.{Sites}
-use Rattle.site_store.specs.Servers.{AllClosed}
-use Rattle.site_store.specs.Views.{work, sees}
-use Rattle.site_store.specs.Records.{after_key, NextRowIs, Misread, MisspeltNext}
-use Rattle.site_store.specs.Calls.{Bounds, reads_of_one, AtServer, Stays, Fails}
-use Rattle.site_store.specs.Damage.{Damages}
-use Rattle.site_store.specs.laws.Counts.{at_most_itself, stays_then}
-use Rattle.site_store.specs.laws.Damage.{fails_after}
-use Rattle.site_store.specs.laws.Steps.{next_fails}
+use Rattle.repl_model.specs.Words.{Area, DamageCause, ShowError, Fault}
+use Rattle.repl_types.specs.declared.call_errors.ShowError.TheVariants as errors
 use Rattle.stored_defs.specs.Reading.{table_rules}
-use Rattle.site_store.specs.laws.Passing.{reads_more, reads_within, any_seen, if_seen, if_both_seen, no_memory, stays_sees, stays_within}
+use Rattle.site_store.specs.laws.Passing.{no_memory}
 use Rattle.shows.specs.tables.Replies.{count_line}
 use Rattle.shows.specs.tables.Records.{TakesRows, TakesSomeRows}
 use Rattle.shows.specs.tables.Showing.{IsOutputFault, FailsShowing}

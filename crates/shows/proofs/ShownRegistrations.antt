@@ -1,31 +1,8 @@
 -- The registration of a name among the stored definitions of a server.
-use Rattle.std.proofs.Common.{◌≡◌, ℕ, Bool, true, false, cond, List, [], ◌∷◌, refl, sym, ap, subst, ◌∙◌, inl, inr}
-use Rattle.std.specs.Prelude.{find, Option, Some, None, slice_get}
-use Rattle.std.specs.List.{filter_map}
-use Rattle.std.specs.Option.{option_map, option_and_then}
-use Rattle.std.specs.Str.{bytes_eq}
-use Rattle.std.proofs.lemmas.Bool.{both_ways}
+use Rattle.std.proofs.Common.{◌≡◌, ℕ, true, List, ◌∷◌, refl, sym, ap, subst, ◌∙◌, inl, Option, Some, None, slice_get, filter_map, option_map, option_and_then, bytes_eq}
 use Rattle.std.proofs.lemmas.Option.{none-some, same_Some}
-use Rattle.row_codec.specs.Order.{name_cmp}
-use Rattle.row_codec.specs.Spelling.{IsName, short_text}
-use Rattle.row_codec.specs.laws.Ones.{one_whole}
-use Rattle.row_codec.specs.laws.Orders.{name_cmp_exact}
-use Rattle.repl_definitions.specs.Defined.{defined_registration_spelling, IsDefinedRegistration}
-use Rattle.repl_definitions.specs.declared.defined.DefinedRegistration.{DefinedRegistration}
-use Rattle.repl_definitions.specs.laws.Defined.{one_defined_registration}
-use Rattle.repl_model.specs.SoundDefinitions.{ServerKeepsRules}
-use Rattle.repl_model.specs.World.{Registered, Server, ServerTable, World, server_table}
-use Rattle.rows_in_order.specs.Rows.{table_from_rows}
-use Rattle.rows_in_order.specs.laws.Fitting.{fits_each}
-use Rattle.rows_in_order.specs.laws.Found.{row_of}
-use Rattle.rows_in_order.specs.laws.Rising.{no_row_at}
-use Rattle.repl_model.specs.laws.Entries.{entry_has_row, row_is_entry}
-use Rattle.lists.specs.laws.Numbered.{in_numbered, numbered_in, numbered_place}
-use Rattle.lists.specs.laws.Members.{In, at_one, found_in, given_in, in_filter_map, in_second, only_one}
-use Rattle.repl_model.specs.laws.GrowingServers.{same_name, name_itself}
-use Rattle.world_store.specs.DefinitionRows.{numbered_tables, defined_registration, registration_rows}
-use Rattle.world_store.specs.SpelledRows.{RowFits}
-use Rattle.world_store.specs.laws.DefinitionRows.{registration_rows_are, name_one}
+use Rattle.repl_model.specs.Words.{defined_registration_spelling, IsDefinedRegistration, DefinedRegistration, one_defined_registration, ServerKeepsRules, Registered, Server, ServerTable, World, server_table, entry_has_row, row_is_entry, in_numbered, numbered_in, numbered_place, In, at_one, found_in, given_in, in_filter_map, in_second, only_one, same_name, name_itself, find_alone}
+use Rattle.world_store.specs.Words.{name_cmp, IsName, short_text, one_whole, name_cmp_exact, table_from_rows, fits_each, row_of, no_row_at, numbered_tables, defined_registration, registration_rows, RowFits, registration_rows_are, name_one}
 use Rattle.shows.specs.tables.Replies.{registered_named}
 
 -- The table with the number of a definition is the one of the name, and this is its registration.
@@ -33,16 +10,6 @@ pub record IsRegisteredAt (server : Server) (name : List ℕ) (number : ℕ) (t 
   pub at : slice_get server.tables number ≡ Some t
   pub has : t.registered ≡ Some r
   pub named : registered_named name server ≡ Some r
-
--- what passes a test is found, if nothing else passes it
-found_alone : {X : Type 0} (p : X → Bool) (xs : List X) (x : X) → In x xs → p x ≡ true → ((y : X) → In y xs → p y ≡ true → y ≡ x) → find p xs ≡ Some x
-found_alone p [] x i passes only = absurd i
-found_alone {X} p (z ∷ zs) x i passes only = pick (p z) refl (λ j. found_alone p zs x j passes (λ y k. only y (inr k))) i
-  where
-    pick : (t : Bool) → p z ≡ t → (In x zs → find p zs ≡ Some x) → In x (z ∷ zs) → cond t (Some z) (find p zs) ≡ Some x
-    pick true is rest j = ap Some (only z (inl refl) is)
-    pick false is rest (inl same) = absurd (both_ways (p z) is (ap p (sym same) ∙ passes))
-    pick false is rest (inr j) = rest j
 
 module _ (world : World) (server : Server) (keeps : ServerKeepsRules world server) (name : List ℕ) where
   -- if no registration is stored under a name, no table of the name is registered
@@ -83,7 +50,7 @@ module _ (world : World) (server : Server) (keeps : ServerKeepsRules world serve
       of_registered : (q : ℕ × ServerTable) → In q (numbered_tables server) → (r : Registered) → q.1.registered ≡ Some r → q.1.def.name ≡ name → q.0 ≡ d.number → (t : ServerTable) × (r : Registered) × IsRegisteredAt server name d.number t r
       of_registered q i r has_it called number =
           let j = numbered_in 0 server.tables q i in
-          let found : server_table name server ≡ Some q.1 = found_alone (λ (u : ServerTable). bytes_eq name u.def.name) server.tables q.1 j (ap (bytes_eq name) called ∙ name_itself name) (only q.1 j called) in (
+          let found : server_table name server ≡ Some q.1 = find_alone (λ (u : ServerTable). bytes_eq name u.def.name) server.tables q.1 j (ap (bytes_eq name) called ∙ name_itself name) (only q.1 j called) in (
             q.1,
             r,
             record {

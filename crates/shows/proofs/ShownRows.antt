@@ -1,21 +1,9 @@
 -- The rows of a table are shown one after another.
-use Rattle.std.proofs.Common.{◌≡◌, ℕ, ◌+◌, List, [], ◌∷◌, ◌++◌, length, refl, sym, ap, subst, ◌∙◌, append_assoc, append-nil, length-append, arith}
-use Rattle.std.specs.Prelude.{Option, Some, None}
+use Rattle.std.proofs.Common.{◌≡◌, ℕ, ◌+◌, List, [], ◌∷◌, ◌++◌, length, refl, sym, ap, subst, ◌∙◌, append_assoc, append-nil, length-append, arith, Option, Some, None}
 use Rattle.std.proofs.lemmas.List.{nil_from_length}
-use Rattle.repl_types.specs.declared.area.Area.{Area}
-use Rattle.repl_types.specs.laws.Lists.{filter_none}
-use Rattle.keep_core.specs.Contents.{Contents, Table, IsNextKey, IsLastKey}
-use Rattle.keep_core.specs.Revealed.{count_max, Takes, TakesPrefix}
-use Rattle.keep_core.specs.laws.Revealed.{takes_nothing, takes_both}
-use Rattle.row_codec.specs.Takes.{One}
-use Rattle.row_codec.specs.laws.Ones.{one_whole}
-use Rattle.rows_in_order.specs.Rows.{table_from_rows, is_before, rows_after, SpellsApart, NextRow}
-use Rattle.rows_in_order.specs.laws.After.{after_all, after_first, after_next}
-use Rattle.rows_in_order.specs.laws.Fitting.{fits_next}
-use Rattle.rows_in_order.specs.laws.Found.{all_some}
-use Rattle.rows_in_order.specs.laws.Rising.{no_row}
-use Rattle.site_store.specs.Records.{after_key}
-use Rattle.world_store.specs.SpelledRows.{RowFits}
+use Rattle.world_store.specs.Words.{One, one_whole, table_from_rows, is_before, rows_after, SpellsApart, NextRow, after_all, after_first, after_next, fits_next, all_some, no_row, RowFits}
+use Rattle.site_store.specs.Words.{Contents, Table, IsNextKey, IsLastKey, count_max, Takes, TakesPrefix, takes_nothing, takes_both, after_key}
+use Rattle.repl_model.specs.Words.{Area, filter_none}
 use Rattle.shows.specs.tables.Replies.{count_line}
 use Rattle.shows.specs.tables.Records.{AreShown, row_lines, rows_text, TakesRows, TakesSomeRows}
 use Rattle.shows.proofs.Pieces.{prefix_taken, prefix_more, given_by_both, given_by_one}

@@ -1,40 +1,20 @@
 -- The rows of a table of the source as they stand.
-use Rattle.std.proofs.Common.{◌≡◌, ℕ, ◌<◌, Bool, true, false, List, [], ◌∷◌, length, map, refl, sym, subst, ◌∙◌, length-append, arith}
-use Rattle.std.specs.Prelude.{T, ◌&&◌, nat_lt, slice_index_or}
+use Rattle.std.proofs.Common.{◌≡◌, ◌<◌, Bool, true, false, List, [], ◌∷◌, length, map, sym, subst, ◌∙◌, arith, T, ◌&&◌, nat_lt, is_lt}
 use Rattle.std.specs.List.{AllByRecursion, list_all}
 use Rattle.std.specs.FinMap.{entries, entries_sorted}
 use Rattle.std.specs.FinMap.Entries.{below_all, is_sorted}
-use Rattle.std.specs.Ordering.{is_lt}
-use Rattle.std.specs.declared.cmp.Ordering.{Ordering}
-use Rattle.std.specs.declared.cmp.Ordering.TheVariants.{Less, Equal, Greater}
 use Rattle.std.proofs.lemmas.Bool.{ltb-true, and_parts}
 use Rattle.std.proofs.lemmas.List.{length-map}
-use Rattle.lists.specs.laws.Members.{each_image}
-use Rattle.repl_types.specs.Value.{Values, key_cmp, images}
-use Rattle.repl_types.specs.laws.Lists.{all_weaker}
-use Rattle.repl_types.specs.declared.table.TableDef.{TableDef}
-use Rattle.repl_types.specs.declared.value.Value.{Value}
-use Rattle.repl_types.specs.declared.value.Value.TheVariants.{Null, Int, Text}
-use Rattle.row_codec.specs.Spelling.{IsKey, key_spelling, value_spelling}
-use Rattle.row_codec.specs.laws.Values.{order_key}
-use Rattle.repl_records.specs.declared.source_side.SourceRow.{SourceRow}
-use Rattle.repl_records.specs.SourceSide.{IsSourceRow}
+use Rattle.world_store.specs.Words.{IsKey, key_spelling, order_key, SourceRow, IsSourceRow, AllAfter, IsRising, source_rows, RowFits, is_less}
+use Rattle.repl_model.specs.Words.{each_image, Values, key_cmp, all_weaker, TableDef, last_commit, TableKeepsRules, all_places, may_be_key, are_among, LogIsSound, Server}
 use Rattle.reply_text.specs.Rows.{row_line}
-use Rattle.repl_model.specs.Units.{last_commit}
-use Rattle.repl_model.specs.Rules.{TableKeepsRules, all_places, may_be_key}
-use Rattle.lists.specs.Lists.{are_among}
-use Rattle.repl_model.specs.SoundLogs.{LogIsSound}
-use Rattle.repl_model.specs.World.{Server}
-use Rattle.rows_in_order.specs.Rows.{AllAfter, IsRising}
-use Rattle.world_store.specs.LogRows.{source_rows}
-use Rattle.stored_commits.specs.records.SourceTables.{stored_row, StandsUnderKey, KeysOfRowsFit}
-use Rattle.stored_commits.specs.records.SourceLogs.{SourceRowsStand}
-use Rattle.stored_commits.specs.records.laws.StandingRows.{some_byte}
-use Rattle.world_store.specs.SpelledRows.{RowFits}
+use Rattle.stored_commits.specs.records.SourceTables.{stored_row, StandsUnderKey}
+use Rattle.stored_commits.specs.records.laws.StandingRows.{some_byte, key_fits}
 use Rattle.shows.specs.tables.Replies.{committed_rows, source_text}
 use Rattle.shows.specs.tables.Records.{AreShown, rows_text}
 use Rattle.shows.proofs.FewRows.{source_few}
 use Rattle.shows.specs.tables.laws.Texts.{text_shown}
+use Rattle.stored_commits.specs.laws.SourceLogs.{source_stands}
 
 -- ---- keys in order
 
@@ -42,12 +22,6 @@ use Rattle.shows.specs.tables.laws.Texts.{text_shown}
 both_pass : (a b : Bool) → T (a && b) → T a × T b
 both_pass true b e = (tt, e)
 both_pass false b e = absurd e
-
--- a test for less
-is_less : (o : Ordering) → T (is_lt o) → o ≡ Less
-is_less Less e = refl
-is_less Equal e = absurd e
-is_less Greater e = absurd e
 
 -- keys of entries
 abbrev KeysFit : List (Values × Values) → Type 0
@@ -69,12 +43,6 @@ rises (e ∷ es) all sorted =
 
 -- ---- keys that aren't empty
 
--- a value is spelled by something
-value_some : (v : Value) → 0 < length (value_spelling v)
-value_some Null = omega arith
-value_some (Int n) = omega arith
-value_some (Text t) = omega arith
-
 -- a table that keeps the rules has one
 has_column : (def : TableDef) → TableKeepsRules def → 0 < length def.key
 has_column def keeps =
@@ -83,21 +51,21 @@ has_column def keeps =
 
 -- ---- the rows of a sound log
 
-module _ (keys : KeysOfRowsFit) (stand : SourceRowsStand) (server : Server) (def : TableDef) (sound : LogIsSound server) where
+module _ (server : Server) (def : TableDef) (sound : LogIsSound server) where
   -- the keys of the rows can be spelled
   row_keys : (e : Values × Values) → StandsUnderKey def e → IsKey e.0
-  row_keys e stands = subst IsKey (sym stands.own) (keys def e.1 stands.row)
+  row_keys e stands = subst IsKey (sym stands.own) (key_fits def e.1 stands.row)
 
   -- each row has a spelling, under a key that has one
   pub source_rows_fit : AllByRecursion (RowFits IsKey IsSourceRow) (source_rows server def)
-  source_rows_fit = each_image (RowFits IsKey IsSourceRow) stored_row (entries (committed_rows server def)) (all_weaker (StandsUnderKey def) (λ e. RowFits IsKey IsSourceRow (stored_row e)) (entries (committed_rows server def)) (λ e stands. (row_keys e stands, stands.row)) (stand server def sound))
+  source_rows_fit = each_image (RowFits IsKey IsSourceRow) stored_row (entries (committed_rows server def)) (all_weaker (StandsUnderKey def) (λ e. RowFits IsKey IsSourceRow (stored_row e)) (entries (committed_rows server def)) (λ e stands. (row_keys e stands, stands.row)) (source_stands server def sound))
 
   -- they are rows as they are shown
   pub source_rows_are : TableKeepsRules def → AreShown IsKey key_spelling IsSourceRow (source_rows server def)
   source_rows_are keeps = record {
-    rise = rises (entries (committed_rows server def)) (all_weaker (StandsUnderKey def) (λ e. IsKey e.0) (entries (committed_rows server def)) row_keys (stand server def sound)) (entries_sorted (committed_rows server def));
+    rise = rises (entries (committed_rows server def)) (all_weaker (StandsUnderKey def) (λ e. IsKey e.0) (entries (committed_rows server def)) row_keys (source_stands server def sound)) (entries_sorted (committed_rows server def));
     fit = source_rows_fit;
-    some = each_image (λ (r : Values × SourceRow). 0 < length (key_spelling r.0)) stored_row (entries (committed_rows server def)) (all_weaker (StandsUnderKey def) (λ e. 0 < length (key_spelling e.0)) (entries (committed_rows server def)) (λ e stands. subst (λ (key : Values). 0 < length (key_spelling key)) (sym stands.own) (some_byte def.key e.1 (has_column def keeps))) (stand server def sound));
+    some = each_image (λ (r : Values × SourceRow). 0 < length (key_spelling r.0)) stored_row (entries (committed_rows server def)) (all_weaker (StandsUnderKey def) (λ e. 0 < length (key_spelling e.0)) (entries (committed_rows server def)) (λ e stands. subst (λ (key : Values). 0 < length (key_spelling key)) (sym stands.own) (some_byte def.key e.1 (has_column def keeps))) (source_stands server def sound));
     few = omega (arith, length-map (entries (committed_rows server def)) stored_row, source_few def server.log (last_commit server.log) sound.short);
   }
 

@@ -1,50 +1,17 @@
 -- What servers that stand for a world have of registrations and sets, and how far their logs are: proofs.
-use Rattle.std.proofs.Common.{◌≡◌, ℕ, ◌<◌, ◌^◌, Bool, true, false, cond, List, [], ◌∷◌, length, map, refl, sym, ap, subst, ◌∙◌, arith}
-use Rattle.std.specs.Prelude.{◌&&◌, ◌==◌, find, Option, Some, None, IfSome, slice_get}
+use Rattle.std.proofs.Common.{◌≡◌, ℕ, ◌<◌, ◌^◌, Bool, true, false, cond, List, [], ◌∷◌, length, map, refl, sym, ap, subst, ◌∙◌, arith, ◌&&◌, ◌==◌, find, Option, Some, None, IfSome, slice_get, bytes_eq, Ordering, Less, Equal, Greater}
 use Rattle.std.specs.List.{enumerate_from, filter_map}
 use Rattle.std.specs.Option.{option_map, option_map_or, option_and_then, option_or}
 use Rattle.std.specs.Ordering.{is_eq, nat_cmp, ordering_then}
-use Rattle.std.specs.Str.{bytes_eq}
-use Rattle.std.specs.declared.cmp.Ordering.{Ordering}
-use Rattle.std.specs.declared.cmp.Ordering.TheVariants.{Less, Equal, Greater}
-use Rattle.repl_types.specs.Bytes.{bytes_cmp}
-use Rattle.repl_types.specs.declared.record.SetId.{SetId}
-use Rattle.row_codec.specs.Order.{name_cmp, set_cmp}
-use Rattle.row_codec.specs.Spelling.{Is32, IsName, IsSet, b32, short_text, set_spelling}
-use Rattle.row_codec.specs.Definitions.{registration_spelling}
-use Rattle.row_codec.specs.laws.Numbers.{length32, same_prefixes}
-use Rattle.repl_definitions.specs.Defined.{defined_registration_spelling, IsDefinedRegistration}
-use Rattle.repl_definitions.specs.Sets.{source_set_spelling, IsSourceSet, set_def_spelling}
-use Rattle.row_codec.specs.laws.Orders.{whole_order, order32}
-use Rattle.repl_definitions.specs.declared.defined.DefinedRegistration.{DefinedRegistration}
-use Rattle.repl_definitions.specs.declared.set.SourceSet.{SourceSet}
-use Rattle.repl_records.specs.declared.capture.RegState.{RegState}
-use Rattle.repl_records.specs.declared.prune.SyncMark.{SyncMark}
-use Rattle.repl_records.specs.Capture.{registration_state_spelling}
-use Rattle.repl_records.specs.Prune.{mark_spelling}
 use Rattle.reply_text.specs.Status.{registration_line, source_set_line}
-use Rattle.repl_model.specs.Rules.{RegistrationKeepsRules}
-use Rattle.repl_model.specs.SoundDefinitions.{KeepsTable, ServerKeepsRules}
-use Rattle.repl_model.specs.World.{Registered, ServerTable, SourceSide, Server, World, same_set}
-use Rattle.std.proofs.lemmas.Bool.{eq-eqb}
+use Rattle.std.proofs.lemmas.Bool.{eq-eqb, both_ways, false_from_ne_true}
 use Rattle.std.proofs.lemmas.List.Folds.{find-append}
-use Rattle.repl_model.specs.Summaries.{by_key}
-use Rattle.repl_model.specs.laws.GrowingServers.{name_itself}
-use Rattle.rows_in_order.specs.Rows.{table_from_rows, HasRow}
-use Rattle.rows_in_order.specs.laws.Found.{row_of}
-use Rattle.rows_in_order.specs.laws.Fitting.{fits_each}
-use Rattle.rows_in_order.specs.laws.Numbered.{numbered_below}
-use Rattle.rows_in_order.specs.Numbers.{SpellsInOrder, AllBelow}
-use Rattle.rows_in_order.specs.laws.Rising.{same_is}
-use Rattle.world_store.specs.DefinitionRows.{numbered_tables, defined_registration, registration_rows, source_set_rows}
-use Rattle.world_store.specs.CaptureRows.{registration_state_rows, mark_rows}
-use Rattle.lists.specs.laws.Places.{all_numbered}
-use Rattle.lists.specs.laws.Members.{each_image, each_given}
-use Rattle.world_store.specs.SpelledRows.{RowFits}
-use Rattle.world_store.specs.laws.DefinitionRows.{registration_rows_are, source_rows_are}
+use Rattle.world_store.specs.Words.{name_cmp, set_cmp, Is32, IsName, IsSet, b32, short_text, set_spelling, registration_spelling, length32, same_prefixes, whole_order, order32, RegState, SyncMark, registration_state_spelling, mark_spelling, table_from_rows, HasRow, row_of, fits_each, numbered_below, SpellsInOrder, AllBelow, same_is, numbered_tables, defined_registration, registration_rows, source_set_rows, registration_state_rows, mark_rows, RowFits, registration_rows_are, source_rows_are}
+use Rattle.repl_model.specs.Words.{bytes_cmp, SetId, defined_registration_spelling, IsDefinedRegistration, source_set_spelling, IsSourceSet, set_def_spelling, DefinedRegistration, SourceSet, RegistrationKeepsRules, KeepsTable, ServerKeepsRules, Registered, ServerTable, SourceSide, Server, World, same_set, by_key, name_itself, all_numbered, each_image, each_given}
 use Rattle.shows.specs.servers.Status.{state_of, mark_of, registration_text, set_text, text_at}
 use Rattle.shows.proofs.Digits.{state_line_same, mark_line_same}
 use Rattle.shows.proofs.Numbered.{all_at_get, filter_map_all, find_values, found_from, number_at, find_by_key, numbered_new}
+use Rattle.subs_sets.specs.laws.Captured.{numbered}
 
 -- ---- keys that don't tie
 
@@ -58,23 +25,13 @@ both_tie Greater b e = absurd cc
 name_ties : (x y : List ℕ) → is_eq (name_cmp x y) ≡ true → x ≡ y
 name_ties x y e = same_is x y (both_tie (nat_cmp (length x) (length y)) (bytes_cmp x y) e).1
 
--- a test that doesn't pass
-fails_if : (t : Bool) → (t ≡ true → ⊥) → t ≡ false
-fails_if true h = absurd (h refl)
-fails_if false h = refl
-
--- two that are one and aren't
-never : (t : Bool) → t ≡ false → t ≡ true → ⊥
-never true e f = absurd cc
-never false e f = absurd cc
-
 -- names that aren't alike don't tie
 names_apart : (x y : List ℕ) → bytes_eq x y ≡ false → is_eq (name_cmp y x) ≡ false
-names_apart x y other = fails_if (is_eq (name_cmp y x)) (λ tie. never (bytes_eq x y) other (subst (λ (l : List ℕ). bytes_eq x l ≡ true) (sym (name_ties y x tie)) (name_itself x)))
+names_apart x y other = false_from_ne_true (is_eq (name_cmp y x)) (λ tie. both_ways (bytes_eq x y) other (subst (λ (l : List ℕ). bytes_eq x l ≡ true) (sym (name_ties y x tie)) (name_itself x)))
 
 -- nor do names of sets
 sets_apart : (x y : SetId) → same_set x y ≡ false → is_eq (set_cmp y x) ≡ false
-sets_apart x y other = fails_if (is_eq (set_cmp y x)) alike
+sets_apart x y other = false_from_ne_true (is_eq (set_cmp y x)) alike
   where
     pass : (a b : Bool) → a ≡ true → b ≡ true → (a && b) ≡ true
     pass true b e f = f
@@ -83,7 +40,7 @@ sets_apart x y other = fails_if (is_eq (set_cmp y x)) alike
     alike : is_eq (set_cmp y x) ≡ true → ⊥
     alike tie =
         let both = both_tie (name_cmp y.qual x.qual) (name_cmp y.name x.name) tie in
-        never (same_set x y) other (pass (bytes_eq x.qual y.qual) (bytes_eq x.name y.name) (subst (λ (l : List ℕ). bytes_eq x.qual l ≡ true) (sym (name_ties y.qual x.qual both.0)) (name_itself x.qual)) (subst (λ (l : List ℕ). bytes_eq x.name l ≡ true) (sym (name_ties y.name x.name both.1)) (name_itself x.name)))
+        both_ways (same_set x y) other (pass (bytes_eq x.qual y.qual) (bytes_eq x.name y.name) (subst (λ (l : List ℕ). bytes_eq x.qual l ≡ true) (sym (name_ties y.qual x.qual both.0)) (name_itself x.qual)) (subst (λ (l : List ℕ). bytes_eq x.name l ≡ true) (sym (name_ties y.name x.name both.1)) (name_itself x.name)))
 
 -- numbers of four bytes are in order
 in_order : SpellsInOrder b32 (2 ^ 32)
@@ -124,14 +81,6 @@ state_entry n r = (n, state_of r)
 abbrev state_row : ℕ × ServerTable → Option (ℕ × RegState)
 state_row t = option_map (λ r. (t.0, record { active = r.active; start = r.start; floor = r.floor })) t.1.registered
 
--- a state is under the number of its table
-state_has : (n : ℕ) (t : ServerTable) → IfSome (state_row (n, t)) (λ row. row.0 ≡ n)
-state_has n t = pick t.registered
-  where
-    pick : (o : Option Registered) → IfSome (option_map (state_entry n) o) (λ row. row.0 ≡ n)
-    pick None = tt
-    pick (Some r) = refl
-
 -- a registration has the name and the number of its table
 defined_has : (n : ℕ) (t : ServerTable) → IfSome (defined_registration (n, t)) (λ row. (row.0 ≡ t.def.name) × (row.1.number ≡ n))
 defined_has n t = pick t.registered
@@ -160,7 +109,7 @@ module _ (world : World) (server : Server) (keeps : ServerKeepsRules world serve
   states_found : (n : ℕ) → n < 2 ^ 32 → table_from_rows b32 registration_state_spelling (registration_state_rows server) (b32 n) ≡ option_map (λ row. registration_state_spelling row.1) (option_and_then (λ t. state_row (n, t)) (slice_get server.tables n))
   states_found n lt =
       number_at b32 (2 ^ 32) in_order registration_state_spelling n (registration_state_rows server) lt below
-      ∙ ap (option_map (λ (row : ℕ × RegState). registration_state_spelling row.1)) (found_from (λ (row : ℕ × RegState). row.0) state_row state_has 0 n n server.tables (omega arith))
+      ∙ ap (option_map (λ (row : ℕ × RegState). registration_state_spelling row.1)) (found_from (λ (row : ℕ × RegState). row.0) state_row numbered 0 n n server.tables (omega arith))
     where
       small : (m : ℕ) (t : ServerTable) → m < 256 → IfSome (state_row (m, t)) (λ row. row.0 < 2 ^ 32)
       small m t lt = pick t.registered

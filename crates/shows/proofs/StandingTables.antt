@@ -1,60 +1,22 @@
 -- What is shown of servers that stand for a world, and that no damage is reported of them.
-use Rattle.std.proofs.Common.{◌≡◌, ℕ, zero, ◌<◌, List, [], length, refl, sym, ap, subst, ◌∙◌}
-use Rattle.std.specs.Prelude.{false, Option, Some, None, IfSome, is_some, slice_get}
+use Rattle.std.proofs.Common.{◌≡◌, ℕ, zero, ◌<◌, List, [], length, refl, sym, ap, subst, ◌∙◌, false, Option, Some, None, IfSome, is_some, slice_get}
 use Rattle.std.specs.Option.{option_and_then, option_map, option_map_or}
-use Rattle.repl_types.specs.Value.{Values}
-use Rattle.repl_types.specs.laws.Lists.{all_weaker}
-use Rattle.repl_types.specs.declared.area.Area.TheVariants as areas
-use Rattle.repl_types.specs.declared.record.LogRecord.{LogRecord}
-use Rattle.repl_types.specs.declared.fault.Fault.{Fault}
-use Rattle.keep_core.specs.Contents.{Contents, Table}
-use Rattle.keep_core.specs.Kept.{Kept}
-use Rattle.keep_core.specs.Revealed.{Takes, TakesPrefix}
-use Rattle.row_codec.specs.Spelling.{Is64, b64, IsKey, key_spelling, short_text}
-use Rattle.row_codec.specs.LogRecords.{IsLogRecord, log_spelling}
-use Rattle.repl_definitions.specs.declared.defined.DefinedTable.{DefinedTable}
-use Rattle.repl_definitions.specs.Defined.{defined_table_spelling, IsDefinedTable}
-use Rattle.repl_records.specs.declared.record_keys.CdKey.{CdKey}
-use Rattle.repl_records.specs.declared.capture.ChangeRow.{ChangeRow}
-use Rattle.repl_records.specs.declared.capture.UowRow.{UowRow}
-use Rattle.repl_records.specs.declared.source_side.SourceRow.{SourceRow}
-use Rattle.repl_records.specs.Capture.{change_row_spelling, IsChangeRow, uow_spelling, IsUow}
-use Rattle.repl_records.specs.RecordKeys.{change_key_spelling, IsChangeKey}
-use Rattle.repl_records.specs.SourceSide.{IsSourceRow, source_row_spelling}
-use Rattle.reply_text.specs.Rows.{row_line, log_line}
-use Rattle.repl_model.specs.Rules.{RegistrationKeepsRules}
-use Rattle.repl_model.specs.Sound.{NumbersAreSound}
-use Rattle.repl_model.specs.World.{empty_server, Registered, Server, ServerTable, World, server_table, server_in}
-use Rattle.repl_model.specs.SoundLogs.{LogIsSound}
-use Rattle.repl_model.specs.SoundDefinitions.{KeepsTable, ServerKeepsRules}
-use Rattle.rows_in_order.specs.Rows.{table_from_rows}
+use Rattle.world_store.specs.Words.{Is64, b64, IsKey, key_spelling, short_text, IsLogRecord, log_spelling, CdKey, ChangeRow, UowRow, SourceRow, change_row_spelling, IsChangeRow, uow_spelling, IsUow, change_key_spelling, IsChangeKey, IsSourceRow, source_row_spelling, table_from_rows, change_rows_of, uow_rows, log_rows, source_rows, tables, source_table, change_table, no_rows, Holds, Stands, RowFits}
+use Rattle.site_store.specs.Words.{Contents, Table, Kept, Takes, TakesPrefix, AllClosed, names, held, work, sees, RowIs, Bounds, Stays, Blames, IsNoDamage, IsSpelt, no_damage, rows_spelt, spelt_undamaged, stays_sees}
 use Rattle.site_store.specs.declared.sites.Sites.{Sites}
-use Rattle.site_store.specs.Servers.{AllClosed}
-use Rattle.site_store.specs.Views.{names, held, work, sees}
-use Rattle.site_store.specs.Records.{RowIs}
-use Rattle.site_store.specs.Calls.{Bounds, Stays, Blames}
-use Rattle.site_store.specs.Damage.{IsNoDamage, IsSpelt}
-use Rattle.site_store.specs.laws.Damage.{no_damage, rows_spelt, spelt_undamaged}
-use Rattle.world_store.specs.CaptureRows.{change_rows_of, uow_rows}
-use Rattle.world_store.specs.LogRows.{log_rows, source_rows}
-use Rattle.world_store.specs.Tables.{tables, source_table, change_table, no_rows}
-use Rattle.world_store.specs.Stands.{Holds, Stands}
-use Rattle.stored_commits.specs.records.SourceTables.{KeysOfRowsFit}
-use Rattle.stored_commits.specs.records.SourceLogs.{SourceRowsStand}
-use Rattle.world_store.specs.SpelledRows.{RowFits}
-use Rattle.site_store.specs.laws.Passing.{stays_sees}
+use Rattle.repl_model.specs.Words.{Values, all_weaker, LogRecord, Fault, DefinedTable, defined_table_spelling, IsDefinedTable, RegistrationKeepsRules, NumbersAreSound, empty_server, Registered, Server, ServerTable, World, server_table, server_in, LogIsSound, KeepsTable, ServerKeepsRules, at_one, at_place_in}
+use Rattle.repl_types.specs.declared.area.Area.TheVariants as areas
+use Rattle.reply_text.specs.Rows.{row_line, log_line}
 use Rattle.stored_defs.specs.laws.Standing.{all_at_place, holds_defs, holds_spelt, keeps_at, same_count, seen_at}
 use Rattle.shows.specs.tables.Replies.{log_text, source_text, table_reply}
 use Rattle.shows.specs.tables.Records.{AreShown, rows_text, TakesRows, TakesSomeRows}
 use Rattle.shows.specs.tables.Rules.{rules, ShowsDamage}
-use Rattle.lists.specs.laws.Members.{at_one}
 use Rattle.shows.proofs.CapturedChanges.{change_rows_are}
 use Rattle.cd_tables.specs.laws.SoundChanges.{has_few_columns}
 use Rattle.shows.proofs.CapturedUnits.{unit_rows_are}
 use Rattle.shows.proofs.LogRecords.{log_records_are, log_text_is}
 use Rattle.shows.proofs.SourceRows.{source_rows_fit, source_rows_are, source_text_is}
 use Rattle.stored_defs.specs.laws.NamedTables.{table_stands, table_numbered}
-use Rattle.lists.specs.laws.Numbered.{at_place_in}
 
 -- ---- what a server holds
 
@@ -93,7 +55,7 @@ module _ (w : World) (server : Server) (c : Contents) (holds : Holds w server c)
   unfolding tables
   holds_units = holds areas.Uow 0
 
-  module _ (keys : KeysOfRowsFit) (stand : SourceRowsStand) (rules_kept : ServerKeepsRules w server) (sound : LogIsSound server) (numbers : NumbersAreSound server) where
+  module _ (rules_kept : ServerKeepsRules w server) (sound : LogIsSound server) (numbers : NumbersAreSound server) where
     -- each entry of these tables is a key and a value
     all_spelt : IsSpelt rules c
     all_spelt areas.Defs t k v has = holds_spelt w server c rules_kept holds areas.Defs t k v has
@@ -101,7 +63,7 @@ module _ (w : World) (server : Server) (c : Contents) (holds : Holds w server c)
       where
         pick : (o : Option ServerTable) → option_map_or (λ (u : ServerTable). table_from_rows key_spelling source_row_spelling (source_rows server u.def)) o no_rows k ≡ Some v → rules.is_key areas.Source t k × rules.is_value areas.Source t v
         pick None e = absurd cc
-        pick (Some u) e = rows_spelt rules areas.Source t key_spelling source_row_spelling (source_rows server u.def) k v (all_weaker (RowFits IsKey IsSourceRow) (λ (r : Values × SourceRow). rules.is_key areas.Source t (key_spelling r.0) × rules.is_value areas.Source t (source_row_spelling r.1)) (source_rows server u.def) (λ r fit. ((r.0, fit.0, refl), (r.1, fit.1, refl))) (source_rows_fit keys stand server u.def sound)) e
+        pick (Some u) e = rows_spelt rules areas.Source t key_spelling source_row_spelling (source_rows server u.def) k v (all_weaker (RowFits IsKey IsSourceRow) (λ (r : Values × SourceRow). rules.is_key areas.Source t (key_spelling r.0) × rules.is_value areas.Source t (source_row_spelling r.1)) (source_rows server u.def) (λ r fit. ((r.0, fit.0, refl), (r.1, fit.1, refl))) (source_rows_fit server u.def sound)) e
     all_spelt areas.Log zero k v has = rows_spelt rules areas.Log 0 b64 log_spelling (log_rows server) k v (all_weaker (RowFits Is64 IsLogRecord) (λ (r : ℕ × LogRecord). rules.is_key areas.Log 0 (b64 r.0) × rules.is_value areas.Log 0 (log_spelling r.1)) (log_rows server) (λ r fit. ((r.0, fit.0, refl), (r.1, fit.1, refl))) (log_records_are server sound).fit) (sym (ap (λ (u : Table). u k) holds_log) ∙ has)
     all_spelt areas.Cd t k v has = pick (slice_get server.tables t) refl (sym (ap (λ (u : Table). u k) (holds_changes t)) ∙ has)
       where
@@ -135,8 +97,8 @@ module _ {K : Type 0} (kept : K → Kept) (s0 : Sites K) (closed : AllClosed (wo
   numbers_at s lt = all_at_place NumbersAreSound w s (empty_server []) stands.sound.numbers (subst (λ (n : ℕ). s < n) (sym (same_count kept s0 closed w stands)) lt)
 
   -- no damage is reported of them
-  pub none_damaged : KeysOfRowsFit → SourceRowsStand → (s1 : Sites K) (e : Fault) → Blames kept s0 s1 (ShowsDamage kept s0) e → IsNoDamage e
-  none_damaged keys stand s1 e blames = no_damage kept s0 s1 (λ s. s < length (names s0)) rules e (λ s lt. let r = seen_at kept s0 closed w stands s lt in (r.0, r.1, spelt_undamaged rules (λ a t key c h. h, λ a t key value c h. h) r.0 (all_spelt w (server_in w s) r.0 r.2 keys stand (keeps_at kept s0 closed w stands s lt) (sound_at s lt) (numbers_at s lt)))) blames
+  pub none_damaged : (s1 : Sites K) (e : Fault) → Blames kept s0 s1 (ShowsDamage kept s0) e → IsNoDamage e
+  none_damaged s1 e blames = no_damage kept s0 s1 (λ s. s < length (names s0)) rules e (λ s lt. let r = seen_at kept s0 closed w stands s lt in (r.0, r.1, spelt_undamaged rules (λ a t key c h. h, λ a t key value c h. h) r.0 (all_spelt w (server_in w s) r.0 r.2 (keeps_at kept s0 closed w stands s lt) (sound_at s lt) (numbers_at s lt)))) blames
 
   module _ (s : ℕ) (lt : s < length (names s0)) where
     -- what was seen is of what the server holds
@@ -193,26 +155,26 @@ module _ {K : Type 0} (kept : K → Kept) (s0 : Sites K) (closed : AllClosed (wo
         text_is = source_text_is (server_in w s) named.0.def ∙ ap (λ (o : Option ServerTable). option_map_or (λ t. source_text (server_in w s) t.def) o []) (sym named.2)
 
         -- its rows are as they are shown
-        rows_are : KeysOfRowsFit → SourceRowsStand → AreShown IsKey key_spelling IsSourceRow (source_rows (server_in w s) named.0.def)
-        rows_are keys stand =
+        rows_are : AreShown IsKey key_spelling IsSourceRow (source_rows (server_in w s) named.0.def)
+        rows_are =
             let server = server_in w s in
             let t = named in
-            source_rows_are keys stand server t.0.def (sound_at s lt) (at_one KeepsTable server.tables t.0 (keeps_at kept s0 closed w stands s lt).tables (at_place_in server.tables d.number t.0 t.1)).0
+            source_rows_are server t.0.def (sound_at s lt) (at_one KeepsTable server.tables t.0 (keeps_at kept s0 closed w stands s lt).tables (at_place_in server.tables d.number t.0 t.1)).0
 
-        module _ (keys : KeysOfRowsFit) (stand : SourceRowsStand) (before now : Option (List ℕ)) where
+        module _ (before now : Option (List ℕ)) where
           -- the table was shown
           pub table_shown : IfSome (sees kept s0 s) (TakesRows IsKey key_spelling IsSourceRow source_row_spelling (λ _ r. row_line r.row) areas.Source d.number before now) → Takes before now (table_reply name (server_in w s))
           table_shown took =
               let server = server_in w s in
               let r = read_at (TakesRows IsKey key_spelling IsSourceRow source_row_spelling (λ _ r. row_line r.row) areas.Source d.number before now) took in
-              subst (Takes before now) text_is (r.2 (source_rows server named.0.def) (rows_are keys stand) (holds_table w server r.0 r.1 d.number named.0 named.1))
+              subst (Takes before now) text_is (r.2 (source_rows server named.0.def) (rows_are) (holds_table w server r.0 r.1 d.number named.0 named.1))
 
           -- a part of it was
           pub table_part : IfSome (sees kept s0 s) (TakesSomeRows IsKey key_spelling IsSourceRow source_row_spelling (λ _ r. row_line r.row) areas.Source d.number before now) → TakesPrefix before now (table_reply name (server_in w s))
           table_part took =
               let server = server_in w s in
               let r = read_at (TakesSomeRows IsKey key_spelling IsSourceRow source_row_spelling (λ _ r. row_line r.row) areas.Source d.number before now) took in
-              subst (TakesPrefix before now) text_is (r.2 (source_rows server named.0.def) (rows_are keys stand) (holds_table w server r.0 r.1 d.number named.0 named.1))
+              subst (TakesPrefix before now) text_is (r.2 (source_rows server named.0.def) (rows_are) (holds_table w server r.0 r.1 d.number named.0 named.1))
 
 -- ---- after a call that changed nothing
 

@@ -1,28 +1,18 @@
 -- Why a table wasn't shown whole, by the rules of all tables.
 use Rattle.std.proofs.Common.{◌≡◌, ℕ, ◌<◌, List, length, arith}
-use Rattle.repl_types.specs.declared.area.Area.{Area}
-use Rattle.repl_types.specs.declared.area.Area.TheVariants as areas
-use Rattle.repl_types.specs.declared.call_errors.ShowError.{ShowError}
-use Rattle.repl_types.specs.declared.call_errors.ShowError.TheVariants as errors
-use Rattle.keep_core.specs.Kept.{Kept}
-use Rattle.repl_model.specs.World.{World}
+use Rattle.world_store.specs.Words.{Stands, Spells}
+use Rattle.site_store.specs.Words.{Kept, AllClosed, names, held, work, Bounds, both, reads_of_one, Stays, Damages, IsAtMost, at_most_itself, stays_then, fails_after}
 use Rattle.site_store.specs.declared.sites.Sites.{Sites}
-use Rattle.site_store.specs.Servers.{AllClosed}
-use Rattle.site_store.specs.Views.{names, held, work}
-use Rattle.site_store.specs.Calls.{Bounds, both, reads_of_one, Stays}
-use Rattle.site_store.specs.Damage.{Damages}
-use Rattle.site_store.specs.laws.Counts.{IsAtMost, at_most_itself, stays_then}
-use Rattle.site_store.specs.laws.Damage.{fails_after}
-use Rattle.world_store.specs.Stands.{Stands}
-use Rattle.stored_commits.specs.records.SourceTables.{KeysOfRowsFit}
-use Rattle.stored_commits.specs.records.SourceLogs.{SourceRowsStand}
+use Rattle.repl_model.specs.Words.{Area, ShowError, World}
+use Rattle.repl_types.specs.declared.area.Area.TheVariants as areas
+use Rattle.repl_types.specs.declared.call_errors.ShowError.TheVariants as errors
 use Rattle.stored_defs.specs.Reading.{table_rules}
-use Rattle.world_store.specs.SpelledRows.{Spells}
 use Rattle.stored_defs.specs.laws.Blaming.{fails_by_table}
 use Rattle.shows.specs.servers.Showing.{IsUndamagedShow}
 use Rattle.shows.specs.tables.Rules.{rules, ShowsDamage}
 use Rattle.shows.specs.tables.Showing.{FailsShowing}
 use Rattle.shows.proofs.StandingTables.{none_damaged}
+use Rattle.stored_commits.specs.records.laws.StandingRows.{key_fits}
 
 -- one read of definitions is within the reads for a table
 pub one_read : (s : ℕ) (more : Bounds) → IsAtMost (reads_of_one 1 s areas.Defs) (both (reads_of_one 1 s areas.Defs) more)
@@ -35,6 +25,6 @@ fails_by_rules kept key_fits key fits spelling a t keys values s0 s1 s2 server x
 fails_by_rules kept key_fits key fits spelling a t keys values s0 s1 s2 server x y z before now errors.Output lt most stays f = (f.0, stays_then kept s0 s1 s2 x y z stays f.1 most)
 
 -- no damage is reported of servers that stand for a world
-pub shows_undamaged : {K : Type 0} (kept : K → Kept) (s0 s1 : Sites K) (most : Bounds) (before now : ℕ) (e : ShowError) → KeysOfRowsFit → SourceRowsStand → AllClosed (work kept s0) → FailsShowing kept s0 s1 most (ShowsDamage kept s0) before now e → (w : World) → Stands (names s0) (held kept s0) w → IsUndamagedShow e
-shows_undamaged kept s0 s1 most before now (errors.Fault e) keys stand closed f w stands = none_damaged kept s0 closed w stands keys stand s1 e f.blames
-shows_undamaged kept s0 s1 most before now errors.Output keys stand closed f w stands = tt
+pub shows_undamaged : {K : Type 0} (kept : K → Kept) (s0 s1 : Sites K) (most : Bounds) (before now : ℕ) (e : ShowError) → AllClosed (work kept s0) → FailsShowing kept s0 s1 most (ShowsDamage kept s0) before now e → (w : World) → Stands (names s0) (held kept s0) w → IsUndamagedShow e
+shows_undamaged kept s0 s1 most before now (errors.Fault e) closed f w stands = none_damaged kept s0 closed w stands s1 e f.blames
+shows_undamaged kept s0 s1 most before now errors.Output closed f w stands = tt

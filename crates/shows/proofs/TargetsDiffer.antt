@@ -1,23 +1,10 @@
 -- The targets at a server of a sound world: which they are, and that no two have one name.
-use Rattle.std.proofs.Common.{◌≡◌, ℕ, zero, suc, ◌+◌, Bool, true, false, cond, not, List, [], ◌∷◌, ◌++◌, map, filter, refl, sym, ap, ap₂, subst, ◌∙◌, arith, inl, inr}
-use Rattle.std.specs.Prelude.{Option, Some, None, slice_get}
+use Rattle.std.proofs.Common.{◌≡◌, ℕ, zero, suc, ◌+◌, Bool, true, false, cond, not, List, [], ◌∷◌, ◌++◌, map, filter, refl, sym, ap, ap₂, subst, ◌∙◌, arith, inl, inr, Option, Some, None, slice_get, option_map, option_and_then, bytes_eq}
 use Rattle.std.specs.List.{AllByRecursion, AllZip, enumerate_from, filter_map, flat_map}
-use Rattle.std.specs.Option.{option_map, option_and_then}
-use Rattle.std.specs.Str.{bytes_eq}
 use Rattle.std.proofs.lemmas.Bool.{and_from, both_ways}
 use Rattle.std.proofs.lemmas.Option.{none-some, same_Some}
-use Rattle.repl_definitions.specs.declared.member.Member.{Member}
-use Rattle.repl_model.specs.Rules.{is_replica_set}
-use Rattle.lists.specs.Lists.{all_differ}
-use Rattle.repl_model.specs.Sound.{IsSound}
-use Rattle.repl_model.specs.SoundDefinitions.{read_only_sets, same_place, targets_of}
-use Rattle.repl_model.specs.World.{SourceSide, TargetSide, Server, World, KnownSet, known_from, known_sets, server_named, source_side}
-use Rattle.world_store.specs.TargetRows.{numbered_members}
-use Rattle.lists.specs.laws.Embedded.{Embeds, embeds_before, embeds_differ, embeds_flat_map, embeds_zip}
-use Rattle.lists.specs.laws.Numbered.{numbered_place}
-use Rattle.repl_model.specs.laws.KnownSets.{known_in, known_stands}
-use Rattle.lists.specs.laws.Members.{In, at_each, found_in, given_in, image_in, in_filter, in_filter_map, in_flat_map, in_map, kept_by, listed_in}
-use Rattle.repl_model.specs.laws.GrowingServers.{name_itself, same_name}
+use Rattle.world_store.specs.Words.{numbered_members}
+use Rattle.repl_model.specs.Words.{Member, is_replica_set, all_differ, IsSound, read_only_sets, same_place, targets_of, SourceSide, TargetSide, Server, World, KnownSet, known_from, known_sets, server_named, source_side, Embeds, embeds_before, embeds_differ, embeds_flat_map, embeds_zip, numbered_place, known_in, known_stands, In, at_each, found_in, given_in, image_in, in_filter, in_filter_map, in_flat_map, in_map, kept_by, listed_in, name_itself, same_name}
 use Rattle.set_places.specs.Places.{IsReadOnly}
 use Rattle.set_places.specs.laws.SetRows.{found_alone}
 use Rattle.shows.specs.sets.Replies.{targets_of_set, targets_at, target_named}

@@ -1,9 +1,6 @@
 -- Lines of a text that are written one after another.
-use Rattle.std.proofs.Common.{◌≡◌, ◌≤◌, ◌∙◌, ◌+◌, ◌-◌, ◌++◌, ℕ, List, length, take, drop, refl, sym, ap, subst, append_assoc, arith, length-drop}
-use Rattle.std.specs.Prelude.{Option}
-use Rattle.std.proofs.lemmas.List.{take-append-drop, take_all}
-use Rattle.keep_core.specs.Revealed.{Takes, TakesPrefix}
-use Rattle.keep_core.specs.laws.Revealed.{takes_both}
+use Rattle.std.proofs.Common.{◌≡◌, ◌∙◌, ◌+◌, ◌-◌, ◌++◌, ℕ, List, length, take, drop, sym, ap, append_assoc, arith, length-drop, Option, take-append-drop, take_all}
+use Rattle.site_store.specs.Words.{Takes, TakesPrefix, takes_both}
 
 -- what is left of a text from a place on
 rest_is : (text : List ℕ) (at : ℕ) → take (length text - at) (drop at text) ≡ drop at text

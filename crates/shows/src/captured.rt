@@ -21,7 +21,6 @@ use repl_types::{Name, ShowError};
 use row_codec::{Table0, Table1};
 use site_store::Sites;
 use std::alloc::Global;
-use stored_commits::{a_change_is_stored, the_source_stands};
 
 /// Writes the reply of `show S cd T`: a line for each change row of the registration of the table
 /// of a name, in the order of units and of places in the log, and the line that says how many they
@@ -54,8 +53,6 @@ pub fn show_changes<K: Keeper, O: Sink>(
         → Stands (names sites.old) (held K.kept sites.old) world → IsUndamagedShow e) }
     ensures counts { O.faults output.old ≤ O.faults output.new }
 {
-    a_change_is_stored();
-    the_source_stands();
     let Some(defined) = sites.get::<DefinedRegistration>(alloc, server, Table1, table)? else {
         return Ok(false);
     };
@@ -87,8 +84,6 @@ pub fn show_units<K: Keeper, O: Sink>(
         → Stands (names sites.old) (held K.kept sites.old) world → IsUndamagedShow e) }
     ensures counts { O.faults output.old ≤ O.faults output.new }
 {
-    a_change_is_stored();
-    the_source_stands();
     show_records::<K, O, UowRow>(sites, alloc, output, server, Table0)?;
     Ok(())
 }

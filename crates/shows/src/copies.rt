@@ -21,7 +21,6 @@ use repl_records::CopyRow;
 use repl_types::ShowError;
 use site_store::Sites;
 use std::alloc::Global;
-use stored_commits::{a_change_is_stored, a_step_is_stored};
 
 /// Whether a target is a user copy.
 pub fn is_user_copy(target: &PlacedTarget) -> bool
@@ -69,8 +68,6 @@ pub fn show_copy<K: Keeper, O: Sink>(
         IsUndamagedShow e)) }
     ensures counts { O.faults output.old ≤ O.faults output.new }
 {
-    a_change_is_stored();
-    a_step_is_stored();
     let number = number_of(target);
     show_records::<K, O, CopyRow>(sites, alloc, output, target.set.target, number)?;
     Ok(())

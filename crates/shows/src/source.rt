@@ -21,7 +21,6 @@ use repl_types::{LogRecord, Name, ShowError};
 use row_codec::Table0;
 use site_store::Sites;
 use std::alloc::Global;
-use stored_commits::{a_change_is_stored, the_source_stands};
 
 /// Writes the reply of `show S source T`: a line for each committed row of the table of a name, in
 /// the order of the rows' keys, and the line that says how many they are. Answers whether there is
@@ -54,8 +53,6 @@ pub fn show_source<K: Keeper, O: Sink>(
         → Stands (names sites.old) (held K.kept sites.old) world → IsUndamagedShow e) }
     ensures counts { O.faults output.old ≤ O.faults output.new }
 {
-    a_change_is_stored();
-    the_source_stands();
     let Some(defined) = sites.get::<DefinedTable>(alloc, server, Table0, table)? else {
         return Ok(false);
     };
@@ -87,8 +84,6 @@ pub fn show_log<K: Keeper, O: Sink>(
         → Stands (names sites.old) (held K.kept sites.old) world → IsUndamagedShow e) }
     ensures counts { O.faults output.old ≤ O.faults output.new }
 {
-    a_change_is_stored();
-    the_source_stands();
     show_records::<K, O, LogRecord>(sites, alloc, output, server, Table0)?;
     Ok(())
 }

@@ -1,6 +1,5 @@
 -- What one call of a keeper makes of its counts.
-use Rattle.std.proofs.Common.{◌≡◌, ℕ, ◌+◌, ◌<◌, ◌≤◌, Bool, true, false, cond, sym, ap, subst, arith, inl, inr, eq-eqb, refl}
-use Rattle.std.specs.Prelude.{min, ◌==◌, ◌&&◌}
+use Rattle.std.proofs.Common.{◌≡◌, ℕ, ◌+◌, ◌<◌, ◌≤◌, Bool, true, false, cond, sym, ap, subst, arith, inl, inr, eq-eqb, refl, min, ◌==◌, ◌&&◌}
 use Rattle.repl_types.specs.declared.area.Area.{Area}
 use Rattle.repl_types.specs.Area.{same_area, area_number}
 use Rattle.repl_types.specs.declared.fault.Fault.{Fault}

@@ -1,10 +1,7 @@
 -- The places of names.
-use Rattle.std.proofs.Common.{◌≡◌, ◌≢◌, ℕ, ◌+◌, ◌<◌, Bool, true, false, List, [], length, get_or, take, sym, ap, ◌∙◌, below_more, arith}
+use Rattle.std.proofs.Common.{◌≡◌, ◌≢◌, ℕ, ◌+◌, ◌<◌, Bool, true, false, List, [], length, get_or, take, sym, ap, ◌∙◌, below_more, arith, MatchOption, is_some, Option, Some, None, bytes_eq}
 use Rattle.std.proofs.lemmas.List.{get_or-map, get_or-take, length-map, length-take}
 use Rattle.std.proofs.lemmas.Slice.Eq.{bytes_eq-Decides}
-use Rattle.std.specs.Option.{MatchOption, is_some}
-use Rattle.std.specs.Prelude.{Option, Some, None}
-use Rattle.std.specs.Str.{bytes_eq}
 use Rattle.site_store.specs.declared.site.Site.{Site}
 use Rattle.site_store.specs.Servers.{names_of, AreApart, IsPlace, HasNone}
 

@@ -49,10 +49,6 @@ writes_of_one n s a = record { reads = λ q b. 0; writes = only n s a }
 abbrev pub both : Bounds → Bounds → Bounds
 both x y = record { reads = λ s a. x.reads s a + y.reads s a; writes = λ s a. x.writes s a + y.writes s a }
 
--- one area of one server is read, and one area of one server written, at most these numbers of times
-abbrev pub reads_and_writes : ℕ → ℕ → Area → ℕ → ℕ → Area → Bounds
-reads_and_writes m s a n t b = both (reads_of_one m s a) (writes_of_one n t b)
-
 -- Each area of each server was read and written at most as many times as the bounds say.
 pub record IsWithin {K : Type 0} (kept : K → Kept) (old new : Sites K) (most : Bounds) : Type 0 where
   pub reads : (s : ℕ) (a : Area) → slice_index_or (reads_in kept a new) s 0 ≤ slice_index_or (reads_in kept a old) s 0 + most.reads s a

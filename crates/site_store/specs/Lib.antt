@@ -7,3 +7,4 @@ pub mod Views
 pub mod Works
 pub mod laws
 pub mod one_server
+pub mod Words

@@ -1,48 +1,18 @@
 -- What an append leaves of the servers, if they stood for a world: proofs.
-use Rattle.std.proofs.Common.{◌≡◌, ◌⊎◌, inl, inr, ℕ, zero, suc, ◌<◌, ◌≤◌, Bool, true, false, cond, List, [], ◌∷◌, length, set, drop, get_or, refl, sym, ap, subst, ◌∙◌, arith}
-use Rattle.std.specs.Prelude.{Option, Some, None, IsSome, Result, Ok, Err, IfOk, IfErr}
+use Rattle.std.proofs.Common.{◌≡◌, ◌⊎◌, inl, inr, ℕ, zero, suc, ◌<◌, ◌≤◌, Bool, true, false, cond, List, [], ◌∷◌, length, set, drop, get_or, refl, sym, ap, subst, ◌∙◌, arith, Option, Some, None, IsSome, Result, Ok, Err, IfOk, IfErr}
 use Rattle.std.specs.List.{AllByRecursion}
 use Rattle.std.proofs.lemmas.List.{length-map, get_or-set_same}
 use Rattle.std.proofs.lemmas.Option.{same_Some}
-use Rattle.repl_types.specs.declared.area.Area.{Area}
-use Rattle.repl_types.specs.declared.area.Area.TheVariants as areas
-use Rattle.repl_types.specs.declared.record.LogRecord.{LogRecord}
-use Rattle.repl_types.specs.declared.status.DamageCause.{DamageCause}
-use Rattle.repl_types.specs.declared.call_errors.AppendError.{AppendError}
-use Rattle.repl_types.specs.declared.call_errors.AppendError.TheVariants as errors
-use Rattle.repl_types.specs.declared.fault.Fault.{Fault}
-use Rattle.repl_types.specs.declared.fault.Fault.TheVariants as faults
-use Rattle.keep_core.specs.Contents.{Contents, set_key, put_at}
-use Rattle.keep_core.specs.Kept.{Kept, seen_of}
-use Rattle.repl_records.specs.RecordKeys.{single_spelling}
-use Rattle.repl_records.specs.SourceSide.{head_spelling}
-use Rattle.repl_records.specs.declared.source_side.Head.{Head}
-use Rattle.repl_model.specs.Applicable.{is_applicable}
-use Rattle.repl_model.specs.Longer.{with_more, grown}
-use Rattle.repl_model.specs.Sound.{IsSound}
-use Rattle.repl_model.specs.World.{empty_server, Server, World, tables_of, server_in}
-use Rattle.repl_model.specs.SoundLogs.{LogIsSound}
-use Rattle.lists.specs.laws.Members.{In}
-use Rattle.stored_commits.specs.records.InFlight.{InFlightRowsStand, OpenChangesAreRows, OpenChangesAreStored}
-use Rattle.stored_commits.specs.records.LongerTables.{HeadFits}
-use Rattle.stored_commits.specs.records.SourceLogs.{SourceRowsStand}
-use Rattle.stored_commits.specs.logs.LongerServers.{is_of_log, Logged, LoggedHolds, OthersHold}
-use Rattle.world_commits.specs.logs.LongerLogs.{AllFollow}
-use Rattle.world_commits.specs.logs.StaysSound.{UsersRecordsStaySound}
-use Rattle.rows_in_order.specs.laws.Written.{put_here, put_other_table}
+use Rattle.repl_model.specs.Words.{Area, LogRecord, DamageCause, AppendError, Fault, is_applicable, with_more, grown, IsSound, empty_server, Server, World, tables_of, server_in, LogIsSound, In, grown_nothing}
+use Rattle.world_store.specs.Words.{single_spelling, head_spelling, Head, put_here, put_other_table, shown, Holds, Stands}
+use Rattle.site_store.specs.Words.{Contents, set_key, put_at, Kept, seen_of, AllClosed, names, held, work, reads_in, sees, IsOpenAt, Bounds, no_access, both, Passes, Begins, ClosesOne, KeepsServers, Blames, at_most_itself, none_back_then, passes_then, Shows, IsUndamaged, IsNoDamage, no_damage, begun_sees, took, closed_again, GoesOn, stops_as, stops_after, blames_after, goes_then}
 use Rattle.site_store.specs.declared.sites.Sites.{Sites}
-use Rattle.site_store.specs.Servers.{AllClosed}
-use Rattle.site_store.specs.Views.{names, held, work, reads_in, sees, IsOpenAt}
-use Rattle.site_store.specs.Calls.{Bounds, no_access, both, Passes, Begins, ClosesOne, KeepsServers, Blames}
-use Rattle.site_store.specs.laws.Counts.{at_most_itself, none_back_then, passes_then}
-use Rattle.site_store.specs.Damage.{Shows, IsUndamaged, IsNoDamage}
-use Rattle.site_store.specs.laws.Damage.{no_damage}
-use Rattle.site_store.specs.laws.Transactions.{begun_sees, took, closed_again}
-use Rattle.site_store.specs.one_server.Calls.{GoesOn}
-use Rattle.site_store.specs.one_server.laws.Faults.{stops_as, stops_after, blames_after}
-use Rattle.site_store.specs.one_server.laws.Steps.{goes_then}
+use Rattle.repl_types.specs.declared.area.Area.TheVariants as areas
+use Rattle.repl_types.specs.declared.call_errors.AppendError.TheVariants as errors
+use Rattle.repl_types.specs.declared.fault.Fault.TheVariants as faults
+use Rattle.stored_commits.specs.logs.LongerServers.{is_of_log, Logged}
+use Rattle.world_commits.specs.logs.LongerLogs.{AllFollow}
 use Rattle.stored_defs.specs.laws.Standing.{all_at_place, same_count, keeps_at, seen_at}
-use Rattle.world_store.specs.Stands.{shown, Holds, Stands}
 use Rattle.source_log.specs.Appending.{taken, error_at, append_error, stop_at, HasTaken, TakesAll, PutsEnd, CommitsEnd, MayCommitEnd, StandGrown, HasAppended, HasNotAppended, BlamesFault, BlamesOrStops}
 use Rattle.source_log.specs.Rules.{all_rules, ShowsDamage, BreaksFirst}
 use Rattle.source_log.specs.Storing.{IsKept, StoresWhole, MayAppend}
@@ -51,10 +21,11 @@ use Rattle.source_log.specs.declared.outcome.Outcome.TheVariants as outcomes
 use Rattle.source_log.specs.declared.progress.Progress.{Progress}
 use Rattle.source_log.proofs.Drops.{take_whole}
 use Rattle.source_log.specs.laws.Whole.{held_whole, end_put}
-use Rattle.source_log.proofs.Grown.{in_at, grown_nothing, found_there, stands_grown}
+use Rattle.source_log.proofs.Grown.{in_at, found_there, stands_grown}
 use Rattle.source_log.proofs.HeldTables.{whole_end}
 use Rattle.source_log.proofs.TakenFirst.{taken_follow}
 use Rattle.source_log.proofs.Undamaged.{none_shown}
+use Rattle.world_commits.specs.laws.LogsStaySound.{users_records_sound}
 
 -- ---- answers
 
@@ -237,21 +208,21 @@ module _ {K : Type 0} (kept : K → Kept) (s0 : Sites K) (closed : AllClosed (wo
   whole = held_whole w server holds.0 stands.sound member holds.2
 
   -- no damage is reported of it
-  none_damaged : InFlightRowsStand → OpenChangesAreRows → OpenChangesAreStored → SourceRowsStand → HeadFits → (s1 : Sites K) (e : Fault) → Blames kept s0 s1 (ShowsDamage kept s0 n) e → IsNoDamage e
-  none_damaged in_flight are_rows stored source fits s1 e blames = no_damage kept s0 s1 (λ s. s ≡ n) all_rules e (λ s is.
+  none_damaged : (s1 : Sites K) (e : Fault) → Blames kept s0 s1 (ShowsDamage kept s0 n) e → IsNoDamage e
+  none_damaged s1 e blames = no_damage kept s0 s1 (λ s. s ≡ n) all_rules e (λ s is.
       let r = seen_at kept s0 closed w stands n lt in
-      subst (λ (k : ℕ). (c : Contents) × (sees kept s0 k ≡ Some c) × IsUndamaged all_rules c) (sym is) (r.0, r.1, none_shown in_flight are_rows stored source fits server r.0 (held_whole w server r.0 stands.sound member r.2))) blames
+      subst (λ (k : ℕ). (c : Contents) × (sees kept s0 k ≡ Some c) × IsUndamaged all_rules c) (sym is) (r.0, r.1, none_shown server r.0 (held_whole w server r.0 stands.sound member r.2))) blames
 
   -- after a read failed, the servers stand for the world as before
-  pub stands_broken : InFlightRowsStand → OpenChangesAreRows → OpenChangesAreStored → SourceRowsStand → HeadFits → (s1 s2 : Sites K) (e : Fault) → Begins kept s0 s1 n → BreaksFirst kept s1 s2 n e → (h : List (Option Contents)) → h ≡ held kept s2 → IsNoDamage e × Stands (names s0) h w
-  stands_broken in_flight are_rows stored source fits s1 s2 e begun stops h same =
+  pub stands_broken : (s1 s2 : Sites K) (e : Fault) → Begins kept s0 s1 n → BreaksFirst kept s1 s2 n e → (h : List (Option Contents)) → h ≡ held kept s2 → IsNoDamage e × Stands (names s0) h w
+  stands_broken s1 s2 e begun stops h same =
       let since = stops_begun kept s0 s1 s2 closed n begun e lt stops in
-      (none_damaged in_flight are_rows stored source fits s2 e since.blames, subst (λ (l : List (Option Contents)). Stands (names s0) l w) (sym (same ∙ since.held)) stands)
+      (none_damaged s2 e since.blames, subst (λ (l : List (Option Contents)). Stands (names s0) l w) (sym (same ∙ since.held)) stands)
 
-  module _ (fits : HeadFits) (records : List LogRecord) (s1 s2 : Sites K) (progress : Progress) (begun : Begins kept s0 s1 n) (goes : GoesOn kept s1 s2 n (TakesAll records progress)) where
+  module _ (records : List LogRecord) (s1 s2 : Sites K) (progress : Progress) (begun : Begins kept s0 s1 n) (goes : GoesOn kept s1 s2 n (TakesAll records progress)) where
     -- what was taken there
     has_taken : (d : Contents) → TakesAll records progress holds.0 d → HasTaken server records progress d
-    has_taken d all = all.has server kept_server (whole_end server holds.0 fits whole all.head all.fits all.is) whole.stores
+    has_taken d all = all.has server kept_server (whole_end server holds.0 whole all.head all.fits all.is) whole.stores
 
     -- what the transaction sees then
     took_in : (d : Contents) × TakesAll records progress holds.0 d
@@ -268,10 +239,10 @@ module _ {K : Type 0} (kept : K → Kept) (s0 : Sites K) (closed : AllClosed (wo
         let idle : grown name (taken server records) w ≡ w = ap (λ (rs : List LogRecord). grown name rs w) empty ∙ grown_nothing name w in
         subst (λ (v : World). Stands (names s0) h v) (sym idle) (subst (λ (l : List (Option Contents)). Stands (names s0) l w) (sym same) stands)
 
-    module _ (sound : UsersRecordsStaySound) (logged : LoggedHolds) (others : OthersHold) (may : AllByRecursion MayAppend records) (s3 : Sites K) (open_at : IsOpenAt (work kept s1) n) (puts : GoesOn kept s2 s3 n (PutsEnd progress.end)) where
+    module _ (may : AllByRecursion MayAppend records) (s3 : Sites K) (open_at : IsOpenAt (work kept s1) n) (puts : GoesOn kept s2 s3 n (PutsEnd progress.end)) where
       -- the world with them is sound
       sound_grown : IsSound (grown name (taken server records) w)
-      sound_grown = sound name (taken server records) w stands.sound (λ s found.
+      sound_grown = users_records_sound name (taken server records) w stands.sound (λ s found.
           let same : server ≡ s = same_Some server s (sym (found_there kept s0 closed w stands n lt) ∙ found) in
           subst (λ (x : Server). AllFollow x (taken server records)) same (taken_follow server records may))
 
@@ -299,16 +270,16 @@ module _ {K : Type 0} (kept : K → Kept) (s0 : Sites K) (closed : AllClosed (wo
           let whole = goes_then kept s1 s2 s3 n (TakesAll records progress) (PutsEnd progress.end) P open_at goes puts (λ c d e all put. (d, all, put)) in
           let after = took kept s0 s1 s3 n P begun whole.works.works h holds.0 lt whole.works.held commit holds.1 in
           subst (λ (l : List (Option Contents)). Stands (names s0) l (grown name (taken server records) w)) (sym after.1)
-          (stands_grown kept s0 closed w stands n lt logged others (taken server records) holds.0 after.0 sound_grown holds.2 (holds_longer after.2.0 after.0 after.2.1 after.2.2))
+          (stands_grown kept s0 closed w stands n lt (taken server records) holds.0 after.0 sound_grown holds.2 (holds_longer after.2.0 after.0 after.2.1 after.2.2))
 
-    module _ (sound : UsersRecordsStaySound) (logged : LoggedHolds) (others : OthersHold) (may : AllByRecursion MayAppend records) (s3 : Sites K) (open_at : IsOpenAt (work kept s1) n) where
+    module _ (may : AllByRecursion MayAppend records) (s3 : Sites K) (open_at : IsOpenAt (work kept s1) n) where
       -- after the transaction was ended, the servers stand for the world with what was taken
       pub stands_ended : (progress.taken ≡ 0 → ClosesOne kept s2 s3 n) → ((0 < progress.taken) → CommitsEnd kept s2 s3 n progress.end) → StandGrown kept s0 s3 n (taken server records) w
       stands_ended none some = pick progress.taken refl
         where
           pick : (t : ℕ) → progress.taken ≡ t → StandGrown kept s0 s3 n (taken server records) w
           pick zero is = stands_idle is (held kept s3) ((none is).held ∙ goes.works.held ∙ begun.held)
-          pick (suc t) is = let ended = some (omega (arith, is)) in stands_committed sound logged others may ended.before open_at ended.puts (held kept s3) ended.commits.held
+          pick (suc t) is = let ended = some (omega (arith, is)) in stands_committed may ended.before open_at ended.puts (held kept s3) ended.commits.held
 
       -- after its commit failed, they stand for the world as before, or for that
       pub stands_doubted : (e : Fault) → MayCommitEnd kept s2 s3 n progress.end e → IsNoDamage e × (Stands (names s0) (held kept s3) w ⊎ ((e ≡ faults.Keeper n) × StandGrown kept s0 s3 n (taken server records) w))
@@ -316,7 +287,7 @@ module _ {K : Type 0} (kept : K → Kept) (s0 : Sites K) (closed : AllClosed (wo
         no_write_damages kept s2 s3 e may_be.blames,
         elim may_be.held [
           | inl same ↦ inl (subst (λ (h : List (Option Contents)). Stands (names s0) h w) (sym (same ∙ goes.works.held ∙ begun.held)) stands)
-          | inr took ↦ inr (took.0, stands_committed sound logged others may took.1.before open_at took.1.puts (held kept s3) took.1.held)
+          | inr took ↦ inr (took.0, stands_committed may took.1.before open_at took.1.puts (held kept s3) took.1.held)
         ],
       )
 

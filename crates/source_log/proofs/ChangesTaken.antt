@@ -1,40 +1,14 @@
 -- What becomes of a change that is appended: proofs.
-use Rattle.std.proofs.Common.{◌≡◌, ℕ, zero, suc, ◌+◌, ◌<◌, Bool, true, false, cond, List, [], ◌∷◌, length, refl, sym, ap, subst, ◌∙◌, arith, inl, inr}
-use Rattle.std.specs.Prelude.{◌⊎◌, Option, Some, None, nat_lt}
-use Rattle.std.specs.Ordering.{nat_cmp}
-use Rattle.std.specs.Cmp.{nat_cmp_is}
-use Rattle.std.specs.declared.cmp.Ordering.TheVariants.{Less}
-use Rattle.std.proofs.lemmas.Bool.{lt-ltb}
-use Rattle.repl_types.specs.Bytes.{bytes_cmp}
-use Rattle.repl_types.specs.declared.area.Area.{Area}
+use Rattle.std.proofs.Common.{◌≡◌, ℕ, zero, suc, ◌+◌, ◌<◌, Bool, true, false, cond, List, [], ◌∷◌, length, refl, sym, ap, subst, ◌∙◌, arith, inl, inr, ◌⊎◌, Option, Some, None, nat_lt, Less, lt-ltb}
+use Rattle.world_store.specs.Words.{IsChange, IsLogRecord, log_spelling, Is32, Is64, b64, short_text, in_flight_spelling, Head, order, same_itself, same_is, differ, put_other_table, head_of}
+use Rattle.site_store.specs.Words.{Contents, IsLastKey, put_at, same_key, set_key, AddsOnlySpelt, adds_put, adds_then}
+use Rattle.repl_model.specs.Words.{bytes_cmp, Area, Change, LogRecord, defined_table_spelling, IsDefinedTable, DefinedTable, is_applicable, with_more, log_limit, table_of, Server, tables_of}
 use Rattle.repl_types.specs.declared.area.Area.TheVariants as areas
-use Rattle.repl_types.specs.declared.record.Change.{Change}
 use Rattle.repl_types.specs.declared.record.Change.TheVariants.{Insert, Update, Delete, Start, Stop}
-use Rattle.repl_types.specs.declared.record.LogRecord.{LogRecord}
 use Rattle.repl_types.specs.declared.record.LogRecord.TheVariants as records
-use Rattle.keep_core.specs.Contents.{Contents, IsLastKey, put_at, same_key, set_key}
-use Rattle.row_codec.specs.LogRecords.{IsChange, IsLogRecord, log_spelling}
-use Rattle.row_codec.specs.Spelling.{Is32, Is64, b64, short_text}
-use Rattle.row_codec.specs.laws.Orders.{order64, whole_order}
-use Rattle.repl_definitions.specs.Defined.{defined_table_spelling, IsDefinedTable}
-use Rattle.repl_definitions.specs.declared.defined.DefinedTable.{DefinedTable}
-use Rattle.repl_records.specs.SourceSide.{in_flight_spelling}
-use Rattle.repl_records.specs.declared.source_side.Head.{Head}
-use Rattle.rows_in_order.specs.laws.Before.{order}
-use Rattle.rows_in_order.specs.laws.Rising.{same_itself, same_is, differ}
-use Rattle.rows_in_order.specs.laws.Written.{put_other_table}
-use Rattle.repl_model.specs.Applicable.{is_applicable}
-use Rattle.repl_model.specs.Longer.{with_more}
-use Rattle.repl_model.specs.SoundLogs.{log_limit}
-use Rattle.repl_model.specs.Tables.{table_of}
-use Rattle.repl_model.specs.World.{Server, tables_of}
-use Rattle.world_store.specs.LogRows.{head_of}
 use Rattle.stored_commits.specs.logs.LongerServers.{is_of_log}
-use Rattle.stored_commits.specs.records.InFlight.{in_flight_table, ChangeIsInFlight}
-use Rattle.stored_commits.specs.records.LongerTables.{log_table, LogGetsRow}
-use Rattle.stored_commits.specs.records.SourceLogs.{ChangeLeavesSource}
-use Rattle.site_store.specs.Damage.{AddsOnlySpelt}
-use Rattle.site_store.specs.laws.Damage.{adds_put, adds_then}
+use Rattle.stored_commits.specs.records.InFlight.{in_flight_table}
+use Rattle.stored_commits.specs.records.LongerTables.{log_table}
 use Rattle.source_log.specs.Fitting.{may_stand}
 use Rattle.source_log.specs.Rules.{rules, flight_key, HasTable}
 use Rattle.source_log.specs.Storing.{IsKept, Stores, GetsRecord, GetsInFlight, TakesRecord}
@@ -42,16 +16,16 @@ use Rattle.source_log.specs.declared.outcome.Outcome.TheVariants as outcomes
 use Rattle.source_log.proofs.Extending.{extends_none}
 use Rattle.source_log.proofs.OwnTables.{no_table}
 use Rattle.source_log.proofs.Outcomes.{applicable_is, applicable_if_may, outcome_is, room_is}
+use Rattle.stored_commits.specs.laws.LogTables.{log_gets_row}
+use Rattle.stored_commits.specs.laws.InFlightRows.{change_in_flight}
+use Rattle.stored_commits.specs.laws.SourceLogs.{change_leaves}
+use Rattle.source_log.proofs.LogEnds.{next_above}
 
 -- ---- one more record
 
 -- the position after the end of a log with room has eight bytes
 next_fits : (n : ℕ) → n < log_limit → Is64 (n + 1)
 next_fits n room = omega arith
-
--- and comes after it
-next_above : (n : ℕ) → n < log_limit → bytes_cmp (b64 n) (b64 (n + 1)) ≡ Less
-next_above n room = whole_order Is64 b64 nat_cmp order64 n (n + 1) (omega arith) (next_fits n room) ∙ sym (nat_cmp_is n (n + 1) Less (omega arith))
 
 -- the transaction of a change whose parts are in their ranges has four bytes
 tx_fits : (tx : ℕ) (change : Change) → IsChange tx change → Is32 tx
@@ -133,11 +107,11 @@ module _ (head : Head) (tx : ℕ) (change : Change) (c : Contents) (table : Defi
       ∙ last key (order.trans (b64 head.last) (b64 pos) key (next_above head.last room) above)
 
   -- the stored tables are those of the longer log
-  stores_more : LogGetsRow → ChangeIsInFlight → ChangeLeavesSource → (server : Server) → IsKept server → head ≡ head_of server → Stores server c → Stores (with_more (r ∷ []) server) after
-  stores_more log in_flight leaves server kept is stores = record {
-    log = logged ∙ sym (log server r kept.log.short);
-    source = λ n. stores.source n ∙ sym (leaves server tx change n);
-    in_flight = flies ∙ sym (in_flight server tx change kept.log (tx_fits tx change typed));
+  stores_more : (server : Server) → IsKept server → head ≡ head_of server → Stores server c → Stores (with_more (r ∷ []) server) after
+  stores_more server kept is stores = record {
+    log = logged ∙ sym (log_gets_row server r kept.log.short);
+    source = λ n. stores.source n ∙ sym (change_leaves server tx change n);
+    in_flight = flies ∙ sym (change_in_flight server tx change kept.log (tx_fits tx change typed));
     defs = stores.defs;
   }
     where
@@ -184,12 +158,12 @@ module _ (head : Head) (tx : ℕ) (change : Change) (c : Contents) where
   }
 
   -- else it is put into the log, and among the changes in flight
-  pub change_taken : LogGetsRow → ChangeIsInFlight → ChangeLeavesSource → (table : DefinedTable) (d : Contents) → IsLogRecord (records.Change tx change) → HasTable c change table → head.last < log_limit → d ≡ put_at (put_at c areas.Log 0 (b64 (head.last + 1)) (Some (log_spelling (records.Change tx change)))) areas.Inflight 0 (flight_key tx (head.last + 1)) (Some (in_flight_spelling (record {}))) → TakesRecord head (records.Change tx change) outcomes.Taken c d
-  change_taken log in_flight leaves table d typed has room puts = subst (TakesRecord head (records.Change tx change) outcomes.Taken c) (sym puts) (record {
+  pub change_taken : (table : DefinedTable) (d : Contents) → IsLogRecord (records.Change tx change) → HasTable c change table → head.last < log_limit → d ≡ put_at (put_at c areas.Log 0 (b64 (head.last + 1)) (Some (log_spelling (records.Change tx change)))) areas.Inflight 0 (flight_key tx (head.last + 1)) (Some (in_flight_spelling (record {}))) → TakesRecord head (records.Change tx change) outcomes.Taken c d
+  change_taken table d typed has room puts = subst (TakesRecord head (records.Change tx change) outcomes.Taken c) (sym puts) (record {
     others = others_stay c (b64 (head.last + 1)) (flight_key tx (head.last + 1)) (Some (log_spelling (records.Change tx change))) (Some (in_flight_spelling (record {})));
     end = λ n. refl;
     extends = λ last. record { defs = refl; log = log_gets head tx change c table typed has room last; in_flight = in_flight_gets head tx change c table typed has room; adds = adds_both head tx change c table typed has room };
     ends = ends_last head tx change c table typed has room;
     told = λ server kept is stores. outcome_is server (records.Change tx change) true true (applicable_if_may server tx change c table kept stores has.stands has.fits true has.may) (room_is head server true is (lt-ltb head.last log_limit room));
-    stores = stores_more head tx change c table typed has room log in_flight leaves;
+    stores = stores_more head tx change c table typed has room;
   })

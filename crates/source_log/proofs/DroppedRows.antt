@@ -1,16 +1,9 @@
 -- What is left in the tables after changes in flight are removed: proofs.
-use Rattle.std.proofs.Common.{◌≡◌, ℕ, Bool, true, false, cond, List, [], ◌∷◌, ◌++◌, map, append_assoc, refl, sym, ap, subst, ◌∙◌}
-use Rattle.std.specs.Prelude.{None, ◌==◌, ◌&&◌, not}
-use Rattle.std.proofs.lemmas.Bool.{eqb-true}
-use Rattle.repl_types.specs.Area.{same_area}
-use Rattle.repl_types.specs.declared.area.Area.{Area}
+use Rattle.std.proofs.Common.{◌≡◌, ℕ, Bool, true, false, cond, List, [], ◌∷◌, ◌++◌, map, append_assoc, refl, sym, ap, subst, ◌∙◌, None, ◌==◌, ◌&&◌, not, eqb-true}
+use Rattle.world_store.specs.Words.{in_flight_key_spelling, in_flight_spelling, table_from_rows, IsRising, without_row, rises_without, without_split, written_removed}
+use Rattle.site_store.specs.Words.{Contents, Table, put_at, set_key}
+use Rattle.repl_model.specs.Words.{same_area, Area}
 use Rattle.repl_types.specs.declared.area.Area.TheVariants as areas
-use Rattle.keep_core.specs.Contents.{Contents, Table, put_at, set_key}
-use Rattle.repl_records.specs.RecordKeys.{in_flight_key_spelling}
-use Rattle.repl_records.specs.SourceSide.{in_flight_spelling}
-use Rattle.rows_in_order.specs.Rows.{table_from_rows, IsRising, without_row}
-use Rattle.rows_in_order.specs.laws.Changed.{rises_without, without_split}
-use Rattle.rows_in_order.specs.laws.Written.{written_removed}
 use Rattle.stored_commits.specs.records.InFlight.{InFlightRow, of_transaction, of_others}
 use Rattle.source_log.specs.Reading.{with_dropped}
 use Rattle.source_log.specs.Rules.{flight_key}

@@ -1,8 +1,8 @@
 -- Changes in flight are removed, one after another: proofs.
 use Rattle.std.proofs.Common.{◌≡◌, ℕ, zero, suc, ◌+◌, ◌<◌, ◌≤◌, List, [], ◌∷◌, ◌++◌, length, take, get_or, None, refl, sym, ap, ◌∙◌, arith}
 use Rattle.std.proofs.lemmas.List.{take_more}
+use Rattle.site_store.specs.Words.{Contents, put_at}
 use Rattle.repl_types.specs.declared.area.Area.TheVariants as areas
-use Rattle.keep_core.specs.Contents.{Contents, put_at}
 use Rattle.source_log.specs.Reading.{with_dropped}
 use Rattle.source_log.specs.Rules.{flight_key}
 

@@ -1,28 +1,12 @@
 -- The end of a log is read: proofs.
-use Rattle.std.proofs.Common.{◌≡◌, ℕ, List, inl, inr}
-use Rattle.std.specs.Prelude.{Option, Some, IfSome}
-use Rattle.repl_types.specs.declared.area.Area.{Area}
-use Rattle.repl_types.specs.declared.area.Area.TheVariants as areas
-use Rattle.repl_types.specs.declared.record.LogRecord.{LogRecord}
-use Rattle.repl_types.specs.declared.status.DamageCause.{DamageCause}
-use Rattle.repl_types.specs.declared.status.DamageCause.TheVariants as causes
-use Rattle.repl_types.specs.declared.fault.Fault.{Fault}
-use Rattle.repl_types.specs.declared.fault.Fault.TheVariants as faults
-use Rattle.keep_core.specs.Contents.{Contents, IsNextKey}
-use Rattle.keep_core.specs.Kept.{Kept}
-use Rattle.row_codec.specs.LogRecords.{log_spelling}
-use Rattle.row_codec.specs.Spelling.{b64}
-use Rattle.repl_records.specs.SourceSide.{IsHead}
-use Rattle.repl_records.specs.declared.source_side.Head.{Head}
+use Rattle.std.proofs.Common.{◌≡◌, ℕ, List, inl, inr, Option, Some, IfSome}
+use Rattle.world_store.specs.Words.{log_spelling, b64, IsHead, Head}
+use Rattle.site_store.specs.Words.{Contents, IsNextKey, Kept, sees, no_access, Reads, ClosesAll, IsMemoryOr, Shows, Damages, Looks, Breaks, breaks_after, unfit_breaks, stops_as, sees_on, if_seen, if_both_seen}
 use Rattle.site_store.specs.declared.sites.Sites.{Sites}
-use Rattle.site_store.specs.Views.{sees}
-use Rattle.site_store.specs.Calls.{no_access, Reads, ClosesAll, IsMemoryOr}
-use Rattle.site_store.specs.Damage.{Shows, Damages}
-use Rattle.site_store.specs.one_server.Calls.{Looks, Breaks}
-use Rattle.site_store.specs.one_server.laws.Damage.{breaks_after, unfit_breaks}
-use Rattle.site_store.specs.one_server.laws.Faults.{stops_as}
-use Rattle.site_store.specs.one_server.laws.Reads.{sees_on}
-use Rattle.site_store.specs.laws.Passing.{if_seen, if_both_seen}
+use Rattle.repl_model.specs.Words.{Area, LogRecord, DamageCause, Fault}
+use Rattle.repl_types.specs.declared.area.Area.TheVariants as areas
+use Rattle.repl_types.specs.declared.status.DamageCause.TheVariants as causes
+use Rattle.repl_types.specs.declared.fault.Fault.TheVariants as faults
 use Rattle.source_log.specs.Rules.{rules, all_rules, EndIs, ShowsDamage, BreaksFirst}
 
 -- what the rules show, all rules show

@@ -1,32 +1,18 @@
 -- The end of a transaction is put into the log, and its changes in flight are removed: proofs.
-use Rattle.std.proofs.Common.{◌≡◌, ℕ, ◌+◌, ◌<◌, Bool, false, cond, List, [], ◌∷◌, refl, sym, ap, subst, ◌∙◌}
-use Rattle.std.specs.Prelude.{Some, None, IsTrue}
-use Rattle.repl_types.specs.Area.{same_area}
-use Rattle.repl_types.specs.declared.area.Area.{Area}
+use Rattle.std.proofs.Common.{◌≡◌, ℕ, ◌+◌, ◌<◌, Bool, false, cond, List, [], ◌∷◌, refl, sym, ap, subst, ◌∙◌, Some, None, IsTrue}
+use Rattle.world_store.specs.Words.{IsLogRecord, log_spelling, b64, in_flight_key_spelling, in_flight_spelling, Head, table_from_rows, put_here, head_of, in_flight_rows, source_table}
+use Rattle.site_store.specs.Words.{Contents, Table, IsLastKey, put_at, set_key}
+use Rattle.repl_model.specs.Words.{same_area, Area, LogRecord, with_more, log_limit, ends, Server}
 use Rattle.repl_types.specs.declared.area.Area.TheVariants as areas
-use Rattle.repl_types.specs.declared.record.LogRecord.{LogRecord}
-use Rattle.keep_core.specs.Contents.{Contents, Table, IsLastKey, put_at, set_key}
-use Rattle.row_codec.specs.LogRecords.{IsLogRecord, log_spelling}
-use Rattle.row_codec.specs.Spelling.{b64}
-use Rattle.repl_records.specs.RecordKeys.{in_flight_key_spelling}
-use Rattle.repl_records.specs.SourceSide.{in_flight_spelling}
-use Rattle.repl_records.specs.declared.source_side.Head.{Head}
-use Rattle.rows_in_order.specs.Rows.{table_from_rows}
-use Rattle.rows_in_order.specs.laws.Written.{put_here}
-use Rattle.repl_model.specs.Longer.{with_more}
-use Rattle.repl_model.specs.SoundLogs.{log_limit}
-use Rattle.repl_model.specs.Units.{ends}
-use Rattle.repl_model.specs.World.{Server}
-use Rattle.world_store.specs.LogRows.{head_of, in_flight_rows}
-use Rattle.world_store.specs.Tables.{source_table}
-use Rattle.stored_commits.specs.records.InFlight.{InFlightRowsStand, EndLeavesOthers}
-use Rattle.stored_commits.specs.records.LongerTables.{LogGetsRow, head_after}
+use Rattle.stored_commits.specs.records.LongerTables.{head_after}
 use Rattle.stored_commits.specs.logs.LongerServers.{is_of_log}
 use Rattle.source_log.specs.Reading.{ArePositions, with_dropped}
 use Rattle.source_log.specs.Storing.{IsKept, Stores, MayBeLogged, Extends}
 use Rattle.source_log.proofs.DroppedRows.{dropped_elsewhere, dropped_rows}
 use Rattle.source_log.proofs.Extending.{extends_then}
 use Rattle.source_log.proofs.LogEnds.{next_free, next_last, last_after, put_extends, dropped_extends, others_apart}
+use Rattle.stored_commits.specs.laws.LogTables.{log_gets_row}
+use Rattle.stored_commits.specs.laws.InFlightRows.{end_leaves_others, in_flight_stand}
 
 -- the tables outside the source are as they were
 abbrev pub LeavesOthers : Contents → Contents → Type 0
@@ -81,18 +67,18 @@ module _ (head : Head) (tx : ℕ) (r : LogRecord) (positions : List ℕ) (c m d 
       subst (λ (n : ℕ). IsLastKey (d areas.Log 0) (b64 n)) (sym (last_after r head)) now
 
   -- the tables of the longer log stand, if those of its source do
-  pub end_stores : LogGetsRow → InFlightRowsStand → EndLeavesOthers → ArePositions tx positions c → IsTrue (ends tx r)
+  pub end_stores : ArePositions tx positions c → IsTrue (ends tx r)
       → (server : Server) → IsKept server → head ≡ head_of server → Stores server c → ((n : ℕ) → m areas.Source n ≡ source_table (with_more (r ∷ []) server) n) → Stores (with_more (r ∷ []) server) d
-  end_stores gets stand others found end server kept is stores source =
+  end_stores found end server kept is stores source =
       let rows = in_flight_rows server in
-      let are = stand server kept.log in
+      let are = in_flight_stand server kept.log in
       record {
-        log = end_log ∙ (λ i. set_key (stores.log i) (b64 ((is i).last + 1)) (Some (log_spelling r))) ∙ sym (gets server r kept.log.short);
+        log = end_log ∙ (λ i. set_key (stores.log i) (b64 ((is i).last + 1)) (Some (log_spelling r))) ∙ sym (log_gets_row server r kept.log.short);
         source = λ n. ap (λ (x : Contents). x areas.Source n) puts ∙ dropped_elsewhere tx positions areas.Source n put refl ∙ source n;
         in_flight =
             ap (λ (x : Contents). x areas.Inflight 0) puts
             ∙ ap (λ (l : List ℕ). with_dropped tx l put areas.Inflight 0) (found.all rows are stores.in_flight)
             ∙ dropped_rows tx [] rows put are.rise (leaves areas.Inflight 0 refl ∙ stores.in_flight)
-            ∙ ap (table_from_rows in_flight_key_spelling in_flight_spelling) (sym (others server tx r end));
+            ∙ ap (table_from_rows in_flight_key_spelling in_flight_spelling) (sym (end_leaves_others server tx r end));
         defs = end_others areas.Defs 0 refl ∙ stores.defs;
       }

@@ -1,41 +1,25 @@
 -- Contents in which a log goes on show no damage that wasn't shown before: proofs.
-use Rattle.std.proofs.Common.{◌≡◌, ℕ, zero, List, [], ◌∷◌, refl, sym, ap, subst, ◌∙◌, inl, inr}
-use Rattle.std.specs.Prelude.{◌⊎◌, Option, Some, None}
-use Rattle.repl_types.specs.declared.area.Area.{Area}
+use Rattle.std.proofs.Common.{◌≡◌, ℕ, zero, List, [], ◌∷◌, refl, sym, ap, subst, ◌∙◌, inl, inr, ◌⊎◌, Option, Some, None}
 use Rattle.repl_types.specs.declared.area.Area.TheVariants as areas
-use Rattle.repl_types.specs.declared.record.Change.{Change}
 use Rattle.repl_types.specs.declared.record.Change.TheVariants.{Insert, Update, Delete, Start, Stop}
-use Rattle.repl_types.specs.declared.record.LogRecord.{LogRecord}
 use Rattle.repl_types.specs.declared.record.LogRecord.TheVariants as records
 use Rattle.repl_types.specs.declared.status.DamageCause.TheVariants as causes
-use Rattle.keep_core.specs.Contents.{Contents, Table, put_at}
-use Rattle.row_codec.specs.LogRecords.{IsLogRecord, log_spelling}
-use Rattle.row_codec.specs.Spelling.{b64, short_text, key_spelling, row_spelling}
-use Rattle.row_codec.specs.laws.Ones.{one_whole}
-use Rattle.row_codec.specs.laws.LogRecords.{one_log_record}
-use Rattle.repl_definitions.specs.declared.defined.DefinedTable.{DefinedTable}
-use Rattle.repl_records.specs.RecordKeys.{in_flight_key_spelling, IsInFlightKey}
-use Rattle.repl_records.specs.declared.record_keys.InFlightKey.{InFlightKey}
-use Rattle.repl_records.specs.laws.RecordKeys.{one_in_flight_key}
-use Rattle.repl_model.specs.Tables.{key_of, table_of}
-use Rattle.site_store.specs.Damage.{Rules, ShownBefore, AddsOnlySpelt}
-use Rattle.site_store.specs.laws.Damage.{adds_nothing, adds_put, adds_remove, adds_then, shown_before}
 use Rattle.source_log.specs.Fitting.{CanBeMade}
 use Rattle.source_log.specs.Making.{StepCanBeMade, with_made, all_made}
 use Rattle.source_log.specs.Rules.{rules, may_be_key, may_be_value, is_called_for, is_stray, flight_key, IsInFlight, HasTable, IsKeptChange}
 use Rattle.source_log.specs.Storing.{MayBeLogged, Extends}
 use Rattle.source_log.specs.declared.step.Step.{Step}
 use Rattle.std.specs.List.{AllByRecursion}
+use Rattle.world_store.specs.Words.{IsLogRecord, log_spelling, b64, short_text, key_spelling, row_spelling, one_whole, one_log_record, in_flight_key_spelling, IsInFlightKey, InFlightKey, one_in_flight_key}
+use Rattle.site_store.specs.Words.{Contents, Table, put_at, Rules, ShownBefore, AddsOnlySpelt, adds_nothing, adds_put, adds_remove, adds_then, shown_before}
+use Rattle.repl_model.specs.Words.{Area, Change, LogRecord, DefinedTable, key_of, table_of}
 use Rattle.source_log.proofs.Makes.{put_twice}
 use Rattle.source_log.proofs.MayStand.{no_signal}
+use Rattle.source_log.specs.laws.Whole.{same_value}
 
 -- a value is no missing one
 pub some_none : {v : List ℕ} → ◌≡◌ {A = Option (List ℕ)} (Some v) None → ⊥
 some_none e = cc
-
--- values that stand at one place are equal
-pub some_is : {v w : List ℕ} → ◌≡◌ {A = Option (List ℕ)} (Some v) (Some w) → v ≡ w
-some_is e = cc
 
 -- ---- one after another
 
@@ -122,12 +106,12 @@ module _ (c d : Contents) (x : Extends c d) where
         | inl old ↦ elim (x.log (b64 h.1)) [
           | inl same ↦ (before, (h.0, h.1, h.2, h.3, old, h.5, sym same ∙ h.6))
           | inr g ↦
-              let is : g.r ≡ records.Change h.0 h.2 = one_whole IsLogRecord log_spelling one_log_record g.r (records.Change h.0 h.2) g.typed h.5 (some_is (sym g.stands ∙ h.6)) in
+              let is : g.r ≡ records.Change h.0 h.2 = one_whole IsLogRecord log_spelling one_log_record g.r (records.Change h.0 h.2) g.typed h.5 (same_value (sym g.stands ∙ h.6)) in
               let table = subst (MayBeLogged c) is g.may in
               absurd (some_none (sym table.1.stands ∙ ap (c areas.Defs 0) (sym h.3) ∙ before))
         ]
         | inr kept ↦
-            let is : records.Change h.0 kept.0 ≡ records.Change h.0 h.2 = one_whole IsLogRecord log_spelling one_log_record (records.Change h.0 kept.0) (records.Change h.0 h.2) kept.1.typed h.5 (some_is (sym kept.1.logged ∙ h.6)) in
+            let is : records.Change h.0 kept.0 ≡ records.Change h.0 h.2 = one_whole IsLogRecord log_spelling one_log_record (records.Change h.0 kept.0) (records.Change h.0 h.2) kept.1.typed h.5 (same_value (sym kept.1.logged ∙ h.6)) in
             let table = subst (MayBeLogged d) is (kept.1.table, kept.1.has) in
             absurd (some_none (sym table.1.stands ∙ ap (d areas.Defs 0) (sym h.3) ∙ none))
       ]

@@ -1,37 +1,17 @@
 -- The changes that a transaction has in flight, one after another: proofs.
-use Rattle.std.proofs.Common.{◌≡◌, ℕ, ◌^◌, ◌<◌, Bool, true, false, cond, List, [], ◌∷◌, ◌++◌, length, map, drop, append_assoc, append-nil, refl, sym, ap, subst, ◌∙◌, arith}
-use Rattle.std.specs.Prelude.{Some, None, ◌==◌}
+use Rattle.std.proofs.Common.{◌≡◌, ℕ, ◌^◌, ◌<◌, Bool, true, false, cond, List, [], ◌∷◌, ◌++◌, length, map, drop, append_assoc, append-nil, refl, sym, ap, subst, ◌∙◌, arith, Some, None, ◌==◌, Ordering, Less, eq-eqb}
 use Rattle.std.specs.List.{AllByRecursion}
 use Rattle.std.specs.Ordering.{nat_cmp, ordering_then}
 use Rattle.std.specs.Cmp.{ranked}
-use Rattle.std.specs.declared.cmp.Ordering.{Ordering}
-use Rattle.std.specs.declared.cmp.Ordering.TheVariants.{Less}
-use Rattle.std.proofs.lemmas.Bool.{eq-eqb}
 use Rattle.std.proofs.lemmas.Cmp.{tied_itself, nat_cmp_total}
-use Rattle.repl_types.specs.Bytes.{bytes_cmp}
-use Rattle.repl_types.specs.laws.Lists.{all_append}
+use Rattle.world_store.specs.Words.{Is32, b32, b64, one32, one_whole, whole_order, in_flight_key_spelling, in_flight_key_cmp, IsInFlightKey, in_flight_spelling, one_in_flight_key, order_in_flight_key, InFlightKey, InFlight, rows_after, NoneAfter, is_before, begins_with, SpellsApart, NextRow, after_all, after_first, after_next, not_both, filters_commute, fits_next, next_of, begins_longer, begins_parts, prefix_next, prefix_last, prefix_past, no_row}
+use Rattle.site_store.specs.Words.{Contents, Table, IsNextKey, IsLastKey}
+use Rattle.repl_model.specs.Words.{bytes_cmp, all_append}
 use Rattle.repl_types.specs.declared.area.Area.TheVariants as areas
-use Rattle.keep_core.specs.Contents.{Contents, Table, IsNextKey, IsLastKey}
-use Rattle.row_codec.specs.Spelling.{Is32, b32, b64}
-use Rattle.row_codec.specs.laws.Numbers.{one32}
-use Rattle.row_codec.specs.laws.Ones.{one_whole}
-use Rattle.row_codec.specs.laws.Orders.{whole_order}
-use Rattle.repl_records.specs.RecordKeys.{in_flight_key_spelling, in_flight_key_cmp, IsInFlightKey}
-use Rattle.repl_records.specs.SourceSide.{in_flight_spelling}
-use Rattle.repl_records.specs.laws.RecordKeys.{one_in_flight_key, order_in_flight_key}
-use Rattle.repl_records.specs.declared.record_keys.InFlightKey.{InFlightKey}
-use Rattle.repl_records.specs.declared.source_side.InFlight.{InFlight}
-use Rattle.rows_in_order.specs.Rows.{rows_after, NoneAfter, is_before, begins_with, SpellsApart, NextRow}
-use Rattle.rows_in_order.specs.laws.After.{after_all, after_first, after_next}
-use Rattle.rows_in_order.specs.laws.Before.{not_both}
-use Rattle.rows_in_order.specs.laws.Filtered.{filters_commute}
-use Rattle.rows_in_order.specs.laws.Fitting.{fits_next}
-use Rattle.rows_in_order.specs.laws.Found.{next_of}
-use Rattle.rows_in_order.specs.laws.Prefixed.{begins_longer, begins_parts, prefix_next, prefix_last, prefix_past}
-use Rattle.rows_in_order.specs.laws.Rising.{no_row}
-use Rattle.stored_commits.specs.records.InFlight.{InFlightRow, of_transaction, TransactionIsPrefix, TransactionStarts}
+use Rattle.stored_commits.specs.records.InFlight.{InFlightRow, of_transaction}
 use Rattle.source_log.specs.Reading.{positions_after, OfRows, IsNextPosition, IsAbove, ArePositions}
 use Rattle.source_log.specs.Rules.{flight_key, IsInFlight}
+use Rattle.stored_commits.specs.laws.Transactions.{transaction_is_prefix, transaction_starts}
 
 -- a row of a change in flight
 abbrev FitsRow : InFlightRow → Type 0
@@ -54,45 +34,44 @@ positions_are tx after rows = ap (map (λ row. row.0.pos)) (filters_commute (λ 
 none_after : (tx after : ℕ) (rows : List InFlightRow) → NoneAfter in_flight_key_spelling (flight_key tx after) (of_transaction tx rows) → positions_after tx after rows ≡ []
 none_after tx after rows none = positions_are tx after rows ∙ ap (map (λ row. row.0.pos)) (after_nothing (of_transaction tx rows) (flight_key tx after) none)
 
-module _ (prefix : TransactionIsPrefix) where
-  -- with no next key there is none
-  pub none_last : (tx after : ℕ) (c : Contents) → Is32 tx → IsLastKey (c areas.Inflight 0) (flight_key tx after) → IsNextPosition tx after None c
-  none_last tx after c ft last rows are has =
-      let over = subst (λ (t : Table). IsLastKey t (flight_key tx after)) has last in
-      none_after tx after rows (subst (NoneAfter in_flight_key_spelling (flight_key tx after)) (prefix tx rows ft are) (prefix_last in_flight_key_spelling (b32 tx) rows (flight_key tx after) (no_row in_flight_key_spelling in_flight_spelling rows (flight_key tx after) over)))
+-- with no next key there is none
+pub none_last : (tx after : ℕ) (c : Contents) → Is32 tx → IsLastKey (c areas.Inflight 0) (flight_key tx after) → IsNextPosition tx after None c
+none_last tx after c ft last rows are has =
+    let over = subst (λ (t : Table). IsLastKey t (flight_key tx after)) has last in
+    none_after tx after rows (subst (NoneAfter in_flight_key_spelling (flight_key tx after)) (transaction_is_prefix tx rows ft are) (prefix_last in_flight_key_spelling (b32 tx) rows (flight_key tx after) (no_row in_flight_key_spelling in_flight_spelling rows (flight_key tx after) over)))
 
-  -- a key begins with the number of its transaction, and of no other
-  begins_other : (k : InFlightKey) (tx : ℕ) → k.tx < 2 ^ 32 → tx < 2 ^ 32 → (k.tx == tx) ≡ false → begins_with (b32 tx) (in_flight_key_spelling k) ≡ false
-  begins_other k tx fk ft ne = pick (begins_with (b32 tx) (in_flight_key_spelling k)) refl
-    where
-      pick : (b : Bool) → begins_with (b32 tx) (in_flight_key_spelling k) ≡ b → begins_with (b32 tx) (in_flight_key_spelling k) ≡ false
-      pick false f = f
-      pick true f = absurd (not_both (k.tx == tx) (eq-eqb k.tx tx (one32 k.tx tx (b64 k.pos) (drop (length (b32 tx)) (in_flight_key_spelling k)) fk ft (begins_parts (b32 tx) (in_flight_key_spelling k) f)).0) ne)
+-- a key begins with the number of its transaction, and of no other
+begins_other : (k : InFlightKey) (tx : ℕ) → k.tx < 2 ^ 32 → tx < 2 ^ 32 → (k.tx == tx) ≡ false → begins_with (b32 tx) (in_flight_key_spelling k) ≡ false
+begins_other k tx fk ft ne = pick (begins_with (b32 tx) (in_flight_key_spelling k)) refl
+  where
+    pick : (b : Bool) → begins_with (b32 tx) (in_flight_key_spelling k) ≡ b → begins_with (b32 tx) (in_flight_key_spelling k) ≡ false
+    pick false f = f
+    pick true f = absurd (not_both (k.tx == tx) (eq-eqb k.tx tx (one32 k.tx tx (b64 k.pos) (drop (length (b32 tx)) (in_flight_key_spelling k)) fk ft (begins_parts (b32 tx) (in_flight_key_spelling k) f)).0) ne)
 
-  -- nor if the next key is another transaction's
-  pub none_past : (tx after : ℕ) (k : InFlightKey) (e : InFlight) (c : Contents) → Is32 tx → IsInFlightKey k → (k.tx == tx) ≡ false → IsNextKey (c areas.Inflight 0) (flight_key tx after) (in_flight_key_spelling k) (in_flight_spelling e) → IsNextPosition tx after None c
-  none_past tx after k e c ft fk ne read rows are has =
-      let here = subst (λ (t : Table). IsNextKey t (flight_key tx after) (in_flight_key_spelling k) (in_flight_spelling e)) has read in
-      let n = next_of in_flight_key_spelling in_flight_spelling rows (flight_key tx after) (in_flight_key_spelling k) (in_flight_spelling e) are.rise here in
-      let past : begins_with (b32 tx) (in_flight_key_spelling n.0.0) ≡ false = ap (begins_with (b32 tx)) n.2 ∙ begins_other k tx fk.0 ft ne in
-      none_after tx after rows (subst (NoneAfter in_flight_key_spelling (flight_key tx after)) (prefix tx rows ft are) (prefix_past in_flight_key_spelling (b32 tx) rows (flight_key tx after) n.0 n.1 (begins_longer (b32 tx) (b64 after)) past))
+-- nor if the next key is another transaction's
+pub none_past : (tx after : ℕ) (k : InFlightKey) (e : InFlight) (c : Contents) → Is32 tx → IsInFlightKey k → (k.tx == tx) ≡ false → IsNextKey (c areas.Inflight 0) (flight_key tx after) (in_flight_key_spelling k) (in_flight_spelling e) → IsNextPosition tx after None c
+none_past tx after k e c ft fk ne read rows are has =
+    let here = subst (λ (t : Table). IsNextKey t (flight_key tx after) (in_flight_key_spelling k) (in_flight_spelling e)) has read in
+    let n = next_of in_flight_key_spelling in_flight_spelling rows (flight_key tx after) (in_flight_key_spelling k) (in_flight_spelling e) are.rise here in
+    let past : begins_with (b32 tx) (in_flight_key_spelling n.0.0) ≡ false = ap (begins_with (b32 tx)) n.2 ∙ begins_other k tx fk.0 ft ne in
+    none_after tx after rows (subst (NoneAfter in_flight_key_spelling (flight_key tx after)) (transaction_is_prefix tx rows ft are) (prefix_past in_flight_key_spelling (b32 tx) rows (flight_key tx after) n.0 n.1 (begins_longer (b32 tx) (b64 after)) past))
 
-  -- the next key is the transaction's
-  pub next_at : (tx after : ℕ) (k : InFlightKey) (e : InFlight) (c : Contents) → Is32 tx → IsInFlightKey k → after < k.pos → k.tx ≡ tx → IsNextKey (c areas.Inflight 0) (flight_key tx after) (in_flight_key_spelling k) (in_flight_spelling e) → IsNextPosition tx after (Some k.pos) c
-  next_at tx after k e c ft fk above own read =
-      let pos = k.pos in
-      let same : in_flight_key_spelling k ≡ flight_key tx pos = ap (λ (n : ℕ). flight_key n pos) own in
-      let at = subst (λ (q : List ℕ). IsNextKey (c areas.Inflight 0) (flight_key tx after) q (in_flight_spelling e)) same read in (
-        record { fits = (ft, fk.1); value = in_flight_spelling e; stands = at.has },
-        λ rows are has.
-            let row : InFlightRow = (record { tx = tx; pos = pos }, e) in
-            let here = subst (λ (t : Table). IsNextKey t (flight_key tx after) (flight_key tx pos) (in_flight_spelling e)) has at in
-            let next : NextRow in_flight_key_spelling rows (flight_key tx after) row = fits_next FitsRow in_flight_key_spelling in_flight_spelling rows (flight_key tx after) row apart are.fit ((ft, fk.1), omega (arith, above)) are.rise here in
-            let among : NextRow in_flight_key_spelling (of_transaction tx rows) (flight_key tx after) row = subst (λ (l : List InFlightRow). NextRow in_flight_key_spelling l (flight_key tx after) row) (prefix tx rows ft are) (prefix_next in_flight_key_spelling (b32 tx) rows (flight_key tx after) row next (begins_longer (b32 tx) (b64 pos))) in
-            positions_are tx after rows
-            ∙ ap (map (λ (r : InFlightRow). r.0.pos)) (after_first in_flight_key_spelling (of_transaction tx rows) (flight_key tx after) row among)
-            ∙ ap (λ (l : List ℕ). pos ∷ l) (sym (positions_are tx pos rows ∙ ap (map (λ (r : InFlightRow). r.0.pos)) (after_next in_flight_key_spelling (of_transaction tx rows) (flight_key tx after) row among))),
-      )
+-- the next key is the transaction's
+pub next_at : (tx after : ℕ) (k : InFlightKey) (e : InFlight) (c : Contents) → Is32 tx → IsInFlightKey k → after < k.pos → k.tx ≡ tx → IsNextKey (c areas.Inflight 0) (flight_key tx after) (in_flight_key_spelling k) (in_flight_spelling e) → IsNextPosition tx after (Some k.pos) c
+next_at tx after k e c ft fk above own read =
+    let pos = k.pos in
+    let same : in_flight_key_spelling k ≡ flight_key tx pos = ap (λ (n : ℕ). flight_key n pos) own in
+    let at = subst (λ (q : List ℕ). IsNextKey (c areas.Inflight 0) (flight_key tx after) q (in_flight_spelling e)) same read in (
+      record { fits = (ft, fk.1); value = in_flight_spelling e; stands = at.has },
+      λ rows are has.
+          let row : InFlightRow = (record { tx = tx; pos = pos }, e) in
+          let here = subst (λ (t : Table). IsNextKey t (flight_key tx after) (flight_key tx pos) (in_flight_spelling e)) has at in
+          let next : NextRow in_flight_key_spelling rows (flight_key tx after) row = fits_next FitsRow in_flight_key_spelling in_flight_spelling rows (flight_key tx after) row apart are.fit ((ft, fk.1), omega (arith, above)) are.rise here in
+          let among : NextRow in_flight_key_spelling (of_transaction tx rows) (flight_key tx after) row = subst (λ (l : List InFlightRow). NextRow in_flight_key_spelling l (flight_key tx after) row) (transaction_is_prefix tx rows ft are) (prefix_next in_flight_key_spelling (b32 tx) rows (flight_key tx after) row next (begins_longer (b32 tx) (b64 pos))) in
+          positions_are tx after rows
+          ∙ ap (map (λ (r : InFlightRow). r.0.pos)) (after_first in_flight_key_spelling (of_transaction tx rows) (flight_key tx after) row among)
+          ∙ ap (λ (l : List ℕ). pos ∷ l) (sym (positions_are tx pos rows ∙ ap (map (λ (r : InFlightRow). r.0.pos)) (after_next in_flight_key_spelling (of_transaction tx rows) (flight_key tx after) row among))),
+    )
 
 -- keys of one transaction lie in the order of their positions
 keys_at : (tx after pos : ℕ) → tx < 2 ^ 32 → after < 2 ^ 64 → pos < 2 ^ 64 → bytes_cmp (flight_key tx after) (flight_key tx pos) ≡ nat_cmp after pos
@@ -124,13 +103,13 @@ one_more tx last pos positions more c is so_far next = subst (λ (l : List ℕ).
       ∙ so_far.left rows are has;
 })
 
-pub all_found : TransactionStarts → (tx last : ℕ) (positions : List ℕ) (c : Contents) → Is32 tx → SoFar tx last positions c → IsNextPosition tx last None c → ArePositions tx positions c
-all_found starts tx last positions c ft so_far next = record {
+pub all_found : (tx last : ℕ) (positions : List ℕ) (c : Contents) → Is32 tx → SoFar tx last positions c → IsNextPosition tx last None c → ArePositions tx positions c
+all_found tx last positions c ft so_far next = record {
   stand = so_far.stand;
   all = λ rows are has.
       sym (append-nil positions)
       ∙ ap (λ (l : List ℕ). positions ++ l) (sym (next rows are has))
       ∙ so_far.left rows are has
       ∙ positions_are tx 0 rows
-      ∙ ap (map (λ (row : InFlightRow). row.0.pos)) (after_all in_flight_key_spelling (flight_key tx 0) (of_transaction tx rows) (starts tx rows ft are));
+      ∙ ap (map (λ (row : InFlightRow). row.0.pos)) (after_all in_flight_key_spelling (flight_key tx 0) (of_transaction tx rows) (transaction_starts tx rows ft are));
 }

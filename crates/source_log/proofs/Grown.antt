@@ -1,23 +1,13 @@
 -- Once one server holds what a longer log calls for, the servers stand for the world with that log: proofs.
-use Rattle.std.proofs.Common.{◌≡◌, ◌≢◌, ◌⊎◌, inl, inr, ℕ, zero, suc, ◌<◌, Bool, true, false, cond, List, [], ◌∷◌, length, map, set, get_or, refl, sym, ap, subst, ◌∙◌, arith}
-use Rattle.std.specs.Prelude.{Option, Some}
+use Rattle.std.proofs.Common.{◌≡◌, ◌≢◌, ◌⊎◌, inl, inr, ℕ, zero, suc, ◌<◌, Bool, true, false, cond, List, [], ◌∷◌, length, map, set, get_or, refl, sym, ap, subst, ◌∙◌, arith, Option, Some, bytes_eq}
 use Rattle.std.specs.List.{AllZip}
-use Rattle.std.specs.Str.{bytes_eq}
-use Rattle.std.proofs.lemmas.List.{append-nil}
-use Rattle.repl_types.specs.declared.record.LogRecord.{LogRecord}
-use Rattle.keep_core.specs.Contents.{Contents}
-use Rattle.keep_core.specs.Kept.{Kept}
-use Rattle.repl_model.specs.Sound.{IsSound}
-use Rattle.repl_model.specs.World.{empty_server, Server, World, server_named, server_in}
-use Rattle.repl_model.specs.Longer.{with_more, grown_server, grown}
-use Rattle.repl_model.specs.laws.GrowingServers.{name_itself, same_name}
-use Rattle.lists.specs.laws.Members.{In}
-use Rattle.stored_commits.specs.logs.LongerServers.{Logged, LoggedHolds, OthersHold}
+use Rattle.repl_model.specs.Words.{LogRecord, IsSound, empty_server, Server, World, server_named, server_in, with_more, grown_server, grown, name_itself, same_name, In, one_first}
+use Rattle.world_store.specs.Words.{Holds, Reveals, Stands}
+use Rattle.site_store.specs.Words.{Contents, Kept, AllClosed, names, held, work}
 use Rattle.site_store.specs.declared.sites.Sites.{Sites}
-use Rattle.site_store.specs.Servers.{AllClosed}
-use Rattle.site_store.specs.Views.{names, held, work}
+use Rattle.stored_commits.specs.logs.LongerServers.{Logged}
 use Rattle.stored_defs.specs.laws.Standing.{same_count, name_at_place, server_at_place}
-use Rattle.world_store.specs.Stands.{Holds, Reveals, Stands}
+use Rattle.stored_commits.specs.laws.Logged.{longer_holds, others_hold_longer}
 
 -- ---- lists
 
@@ -42,29 +32,7 @@ in_at [] n d lt = absurd (omega arith)
 in_at (x ∷ xs) zero d lt = inl refl
 in_at (x ∷ xs) (suc n) d lt = inr (in_at xs n d (omega arith))
 
--- of two places one is the first
-one_first : (m n : ℕ) → m ≢ n → (m < n) ⊎ (n < m)
-one_first zero zero ne = absurd (ne refl)
-one_first zero (suc n) ne = inl (omega arith)
-one_first (suc m) zero ne = inr (omega arith)
-one_first (suc m) (suc n) ne = elim (one_first m n (λ e. ne (ap suc e))) [
-  | inl lt ↦ inl (omega (arith, lt))
-  | inr lt ↦ inr (omega (arith, lt))
-]
-
 -- ---- a world
-
--- nothing was appended
-pub grown_nothing : (name : List ℕ) (w : World) → grown name [] w ≡ w
-grown_nothing name [] = refl
-grown_nothing name (s ∷ ss) = λ i. same (bytes_eq name s.name) i ∷ grown_nothing name ss i
-  where
-    longer : with_more [] s ≡ s
-    longer = ap (λ (l : List LogRecord). record s { log = l }) (append-nil s.log)
-
-    same : (b : Bool) → cond b (with_more [] s) s ≡ s
-    same true = longer
-    same false = refl
 
 -- the names stay
 names_stay : (name : List ℕ) (records : List LogRecord) (w : World) → map (λ server. server.name) (grown name records w) ≡ map (λ server. server.name) w
@@ -101,8 +69,8 @@ module _ {K : Type 0} (kept : K → Kept) (s0 : Sites K) (closed : AllClosed (wo
       pick true e = absurd (two (same_name name (server_in w m).name e ∙ sym (named m)) (one_first m n ne))
 
   -- once the server holds what its longer log calls for, the servers stand for the world with that log
-  pub stands_grown : LoggedHolds → OthersHold → (records : List LogRecord) (c d : Contents) → IsSound (grown name records w) → Holds w (server_in w n) c → Logged records (server_in w n) c d → Stands (names s0) (set (held kept s0) n (Some d)) (grown name records w)
-  stands_grown logged others records c d sound holds puts = record {
+  pub stands_grown : (records : List LogRecord) (c d : Contents) → IsSound (grown name records w) → Holds w (server_in w n) c → Logged records (server_in w n) c d → Stands (names s0) (set (held kept s0) n (Some d)) (grown name records w)
+  stands_grown records c d sound holds puts = record {
     sound = sound;
     named = names_stay name records w ∙ stands.named;
     servers = zip_set (Reveals w) (Reveals (grown name records w)) (grown_server name records) (empty_server []) w (held kept s0) n (Some d) stands.servers elsewhere here;
@@ -113,11 +81,11 @@ module _ {K : Type 0} (kept : K → Kept) (s0 : Sites K) (closed : AllClosed (wo
           let server = server_in w m in
           let differs : bytes_eq name server.name ≡ false = others_differ m ne within in
           subst (λ (s : Server). Reveals (grown name records w) s told) (sym (ap (λ (b : Bool). cond b (with_more records server) server) differs))
-          (r.0, r.1, others name records w server r.0 stands.sound (in_at w m (empty_server []) within) differs r.2)
+          (r.0, r.1, others_hold_longer name records w server r.0 stands.sound (in_at w m (empty_server []) within) differs r.2)
 
       here : Reveals (grown name records w) (grown_server name records (server_in w n)) (Some d)
       here =
           let server = server_in w n in
           let own : bytes_eq name server.name ≡ true = subst (λ (l : List ℕ). bytes_eq name l ≡ true) (named n) (name_itself name) in
           subst (λ (s : Server). Reveals (grown name records w) s (Some d)) (sym (ap (λ (b : Bool). cond b (with_more records server) server) own))
-          (d, refl, logged name records w server c d stands.sound found_there holds puts)
+          (d, refl, longer_holds name records w server c d stands.sound found_there holds puts)

@@ -1,40 +1,22 @@
 -- The stored tables of a server's log, and its end, if the server holds what a world calls for: proofs.
-use Rattle.std.proofs.Common.{◌≡◌, ℕ, ◌+◌, ◌<◌, ◌≤◌, ◌^◌, List, length, refl, sym, ap, subst, ◌∙◌, arith}
-use Rattle.std.specs.Prelude.{Option, Some, None}
-use Rattle.std.specs.Ordering.{nat_cmp}
-use Rattle.std.specs.declared.cmp.Ordering.TheVariants.{Less}
-use Rattle.repl_types.specs.Bytes.{bytes_cmp}
+use Rattle.std.proofs.Common.{◌≡◌, ℕ, ◌+◌, ◌<◌, ◌≤◌, ◌^◌, List, length, refl, sym, ap, subst, ◌∙◌, arith, Option, Some, None, nat_cmp, Less}
+use Rattle.world_store.specs.Words.{log_spelling, Is64, b64, one_whole, whole_order, order64, IsHead, head_spelling, one_head, Head, SpellsInOrder, key_less, fits_each, row_of, numbered_below, log_rows, head_of}
+use Rattle.site_store.specs.Words.{Contents, Table, IsLastKey}
+use Rattle.repl_model.specs.Words.{bytes_cmp, LogRecord, log_limit, Server}
 use Rattle.repl_types.specs.declared.area.Area.TheVariants as areas
-use Rattle.repl_types.specs.declared.record.LogRecord.{LogRecord}
-use Rattle.keep_core.specs.Contents.{Contents, Table, IsLastKey}
-use Rattle.row_codec.specs.LogRecords.{log_spelling}
-use Rattle.row_codec.specs.Spelling.{Is64, b64}
-use Rattle.row_codec.specs.laws.Ones.{one_whole}
-use Rattle.row_codec.specs.laws.Orders.{whole_order, order64}
-use Rattle.repl_records.specs.SourceSide.{IsHead, head_spelling}
-use Rattle.repl_records.specs.laws.SourceSide.{one_head}
-use Rattle.repl_records.specs.declared.source_side.Head.{Head}
-use Rattle.rows_in_order.specs.Numbers.{SpellsInOrder}
-use Rattle.rows_in_order.specs.laws.ByNumber.{key_less}
-use Rattle.rows_in_order.specs.laws.Fitting.{fits_each}
-use Rattle.rows_in_order.specs.laws.Found.{row_of}
-use Rattle.rows_in_order.specs.laws.Numbered.{numbered_below}
-use Rattle.repl_model.specs.SoundLogs.{log_limit}
-use Rattle.repl_model.specs.World.{Server}
-use Rattle.world_store.specs.LogRows.{log_rows, head_of}
-use Rattle.stored_commits.specs.records.LongerTables.{HeadFits}
 use Rattle.source_log.specs.Rules.{EndIs}
 use Rattle.source_log.specs.Storing.{StoresWhole}
 use Rattle.source_log.specs.laws.Whole.{whole_reads}
+use Rattle.stored_commits.specs.laws.LogTables.{head_fits}
 
 -- spelled positions are in order
 in_order : SpellsInOrder b64 (2 ^ 64)
 in_order a b la lb = whole_order Is64 b64 nat_cmp order64 a b la lb
 
 -- the end that is read is that of a server's log
-pub whole_end : (server : Server) (c : Contents) → HeadFits → StoresWhole server c → (head : Head) → IsHead head → EndIs head c → head ≡ head_of server
-whole_end server c fits whole head is end =
-    one_whole IsHead head_spelling one_head head (head_of server) is (fits server whole.kept.log) (end ∙ sym (whole_reads server c whole))
+pub whole_end : (server : Server) (c : Contents) → StoresWhole server c → (head : Head) → IsHead head → EndIs head c → head ≡ head_of server
+whole_end server c whole head is end =
+    one_whole IsHead head_spelling one_head head (head_of server) is (head_fits server whole.kept.log) (end ∙ sym (whole_reads server c whole))
 
 -- no record of the log comes after it
 pub whole_last : (server : Server) (c : Contents) → StoresWhole server c → IsLastKey (c areas.Log 0) (b64 (head_of server).last)

@@ -1,69 +1,31 @@
 -- A change in flight of a sound log stands in it, and may stand at its table: proofs.
-use Rattle.std.proofs.Common.{◌≡◌, ℕ, ◌<◌, ◌≤◌, Bool, true, false, cond, not, ◌&&◌, List, [], ◌∷◌, length, inl, inr, refl, sym, ap, subst, ◌∙◌, arith}
-use Rattle.std.specs.Prelude.{◌==◌, IsTrue, nat_lt, nat_le, sum_by, map, Option, Some, None}
+use Rattle.std.proofs.Common.{◌≡◌, ℕ, ◌<◌, ◌≤◌, Bool, true, false, cond, not, ◌&&◌, List, [], ◌∷◌, length, inl, inr, refl, sym, ap, subst, ◌∙◌, arith, ◌==◌, IsTrue, nat_lt, nat_le, sum_by, map, Option, Some, None, bytes_eq}
 use Rattle.std.specs.List.{list_all}
 use Rattle.std.specs.Option.{option_map_or}
-use Rattle.std.specs.Str.{bytes_eq}
 use Rattle.std.proofs.lemmas.Bool.{false≢true, and_from, and_parts, eq-eqb, eqb-true, le-leb, ltb-true, or_cases}
 use Rattle.std.proofs.lemmas.Option.{none-some, same_Some}
-use Rattle.repl_types.specs.Sizes.{key_limit, row_limit}
-use Rattle.repl_types.specs.Value.{Values, images, spelled_len}
+use Rattle.world_store.specs.Words.{IsLogRecord, log_spelling, IsName, b64, short_text, one_whole, in_flight_key_spelling, IsInFlightKey, in_flight_spelling, InFlightKey, one_in_flight_key, HasRow, fits_each, row_of, differ_numbers, table_rows, in_flight_rows, RowFits}
+use Rattle.site_store.specs.Words.{Contents, Table}
+use Rattle.repl_model.specs.Words.{key_limit, row_limit, Values, images, spelled_len, Change, LogRecord, TableDef, Placed, defined_table_spelling, IsDefinedTable, DefinedTable, TableKeepsRules, all_places, may_be_key, are_among, key_of, same_values, table_of, fits, fits_columns, change_fits, table_named, is_change_applicable, is_signal_applicable, open_changes, ServerTable, Server, tables_of, registered_of, KeepsTable, column_limit, record_fits, at_place_in, numbered_in, In, at_one, found_in, in_map, in_second, kept_by, columns_length}
 use Rattle.repl_types.specs.declared.area.Area.TheVariants as areas
-use Rattle.repl_types.specs.declared.record.Change.{Change}
 use Rattle.repl_types.specs.declared.record.Change.TheVariants.{Insert, Update, Delete, Start, Stop}
-use Rattle.repl_types.specs.declared.record.LogRecord.{LogRecord}
 use Rattle.repl_types.specs.declared.record.LogRecord.TheVariants as records
-use Rattle.repl_types.specs.declared.table.ColumnDef.{ColumnDef}
-use Rattle.repl_types.specs.declared.table.TableDef.{TableDef}
-use Rattle.repl_types.specs.declared.unit.Placed.{Placed}
-use Rattle.keep_core.specs.Contents.{Contents, Table}
-use Rattle.row_codec.specs.LogRecords.{IsLogRecord, log_spelling}
-use Rattle.row_codec.specs.Spelling.{IsName, b64, short_text}
-use Rattle.row_codec.specs.laws.Ones.{one_whole}
-use Rattle.repl_definitions.specs.Defined.{defined_table_spelling, IsDefinedTable}
-use Rattle.repl_definitions.specs.declared.defined.DefinedTable.{DefinedTable}
-use Rattle.repl_records.specs.RecordKeys.{in_flight_key_spelling, IsInFlightKey}
-use Rattle.repl_records.specs.SourceSide.{in_flight_spelling}
-use Rattle.repl_records.specs.declared.record_keys.InFlightKey.{InFlightKey}
-use Rattle.repl_records.specs.laws.RecordKeys.{one_in_flight_key}
-use Rattle.rows_in_order.specs.Rows.{HasRow}
-use Rattle.rows_in_order.specs.laws.Fitting.{fits_each}
-use Rattle.rows_in_order.specs.laws.Found.{row_of}
-use Rattle.rows_in_order.specs.laws.Written.{differ_numbers}
-use Rattle.repl_model.specs.Rules.{TableKeepsRules, all_places, may_be_key}
-use Rattle.lists.specs.Lists.{are_among}
-use Rattle.repl_model.specs.Tables.{key_of, same_values, table_of}
-use Rattle.repl_model.specs.Applicable.{fits, fits_columns, change_fits, table_named, is_change_applicable, is_signal_applicable}
-use Rattle.repl_model.specs.Units.{open_changes}
-use Rattle.repl_model.specs.World.{ServerTable, Server, tables_of, registered_of}
-use Rattle.repl_model.specs.SoundDefinitions.{KeepsTable, column_limit}
-use Rattle.repl_model.specs.SoundLogs.{record_fits}
-use Rattle.lists.specs.laws.Numbered.{at_place_in, numbered_in}
-use Rattle.lists.specs.laws.Members.{In, at_one, found_in, in_map, in_second, kept_by}
-use Rattle.world_store.specs.DefinitionRows.{table_rows}
-use Rattle.world_store.specs.LogRows.{in_flight_rows}
-use Rattle.world_store.specs.SpelledRows.{RowFits}
-use Rattle.stored_commits.specs.records.InFlight.{InFlightRow, in_flight_row, of_transaction, InFlightRowsStand, OpenChangesAreRows, OpenChangesAreStored}
+use Rattle.stored_commits.specs.records.InFlight.{InFlightRow, in_flight_row, of_transaction}
 use Rattle.stored_commits.specs.records.LongerTables.{log_table}
 use Rattle.source_log.specs.Fitting.{has_short_rows, may_stand}
 use Rattle.source_log.specs.Rules.{flight_key, IsInFlight, HasTable, IsKeptChange}
 use Rattle.source_log.specs.Storing.{IsKept, Stores}
 use Rattle.source_log.proofs.OwnTables.{own_table, own_tables_keep, own_rows_fit, no_table}
 use Rattle.source_log.proofs.OwnUnits.{open_in_log, none_open}
+use Rattle.stored_commits.specs.laws.InFlightRows.{in_flight_stand, open_rows}
+use Rattle.stored_commits.specs.laws.LoggedChanges.{open_stored}
 
 -- ---- changes that fit a table
-
--- a row that fits columns has as many values
-fits_length : (columns : List ColumnDef) (row : Values) → fits_columns columns row ≡ true → length row ≡ length columns
-fits_length [] [] e = refl
-fits_length [] (v ∷ row) e = absurd cc
-fits_length (c ∷ columns) [] e = absurd cc
-fits_length (c ∷ columns) (v ∷ row) e = omega (arith, fits_length columns row (and_parts _ (fits_columns columns row) e).1)
 
 -- so a row that fits a table is short
 row_short : (def : TableDef) (row : Values) → length def.columns ≤ column_limit → fits def row ≡ true → nat_le (length row) row_limit ≡ true
 row_short def row few e =
-    let same : length row ≡ length def.columns = fits_length def.columns row (and_parts (fits_columns def.columns row) (nat_le (sum_by spelled_len (key_of def row)) key_limit) e).0 in
+    let same : length row ≡ length def.columns = columns_length def.columns row (and_parts (fits_columns def.columns row) (nat_le (sum_by spelled_len (key_of def row)) key_limit) e).0 in
     le-leb (length row) row_limit (omega (arith, few, same))
 
 -- and so are the rows of a change that fits it
@@ -144,35 +106,34 @@ module _ (server : Server) (kept : IsKept server) (c : Contents) (stores : Store
         | inr own ↦ absurd (none_open server.log kept.log.own placed (subst (λ (n : ℕ). In placed (open_changes n server.log)) (eqb-true tx 0 (and_parts (tx == 0) signal own).0) i))
       ]
 
-  module _ (stand : InFlightRowsStand) (are_rows : OpenChangesAreRows) (stored : OpenChangesAreStored) where
-    -- what is stored as in flight is an open change
-    open_change : (tx pos : ℕ) → IsInFlight tx c pos → (placed : Placed) × In placed (open_changes tx server.log) × (placed.pos ≡ pos)
-    open_change tx pos flight =
-        let rows = in_flight_rows server in
-        let key : InFlightKey = record { tx = tx; pos = pos } in
-        let found = row_of in_flight_key_spelling in_flight_spelling rows (flight_key tx pos) flight.value (sym (ap (λ (t : Table). t (flight_key tx pos)) stores.in_flight) ∙ flight.stands) in
-        let row : InFlightRow = found.0 in
-        let has : HasRow rows row = found.1 in
-        let fit = fits_each (λ (row : InFlightRow). IsInFlightKey row.0 × (0 < row.0.pos)) rows row (stand server kept.log).fit has in
-        let same : row.0 ≡ key = one_whole IsInFlightKey in_flight_key_spelling one_in_flight_key row.0 key fit.0 flight.fits found.2 in
-        let there : In row rows = subst (In row) (sym has.split) (in_second has.front (row ∷ has.back) row (inl refl)) in
-        let own : In row (of_transaction tx rows) = kept_by (λ (row : InFlightRow). row.0.tx == tx) rows row there (eq-eqb row.0.tx tx (ap (λ (k : InFlightKey). k.tx) same)) in
-        let placed = in_map (in_flight_row tx) (open_changes tx server.log) row (subst (In row) (are_rows server tx) own) in
-        (placed.0, placed.1, position_is tx pos row placed.0 same placed.2)
+  -- what is stored as in flight is an open change
+  open_change : (tx pos : ℕ) → IsInFlight tx c pos → (placed : Placed) × In placed (open_changes tx server.log) × (placed.pos ≡ pos)
+  open_change tx pos flight =
+      let rows = in_flight_rows server in
+      let key : InFlightKey = record { tx = tx; pos = pos } in
+      let found = row_of in_flight_key_spelling in_flight_spelling rows (flight_key tx pos) flight.value (sym (ap (λ (t : Table). t (flight_key tx pos)) stores.in_flight) ∙ flight.stands) in
+      let row : InFlightRow = found.0 in
+      let has : HasRow rows row = found.1 in
+      let fit = fits_each (λ (row : InFlightRow). IsInFlightKey row.0 × (0 < row.0.pos)) rows row (in_flight_stand server kept.log).fit has in
+      let same : row.0 ≡ key = one_whole IsInFlightKey in_flight_key_spelling one_in_flight_key row.0 key fit.0 flight.fits found.2 in
+      let there : In row rows = subst (In row) (sym has.split) (in_second has.front (row ∷ has.back) row (inl refl)) in
+      let own : In row (of_transaction tx rows) = kept_by (λ (row : InFlightRow). row.0.tx == tx) rows row there (eq-eqb row.0.tx tx (ap (λ (k : InFlightKey). k.tx) same)) in
+      let placed = in_map (in_flight_row tx) (open_changes tx server.log) row (subst (In row) (open_rows server tx) own) in
+      (placed.0, placed.1, position_is tx pos row placed.0 same placed.2)
 
-    -- so the log has it, and it may stand at its table
-    pub flight_kept : (tx pos : ℕ) → IsInFlight tx c pos → (change : Change) × IsKeptChange tx c pos change
-    flight_kept tx pos flight =
-        let found = open_change tx pos flight in
-        let placed : Placed = found.0 in
-        let r = records.Change tx placed.change in
-        let has = has_table placed.change (open_applicable tx placed found.1) in
-        let IsStored : Placed → Type 0 = λ p. log_table server (b64 p.pos) ≡ Some (log_spelling (records.Change tx p.change)) in
-        let stands : IsStored placed = at_one IsStored (open_changes tx server.log) placed (stored server tx kept.log.short) found.1 in
-        let logged : IsKeptChange tx c pos placed.change = record {
-          typed = at_one IsLogRecord server.log r kept.log.typed (numbered_in 1 server.log (placed.pos, r) (open_in_log tx server.log placed found.1).logged);
-          logged = ap (λ (t : Table). t (b64 pos)) stores.log ∙ ap (λ (n : ℕ). log_table server (b64 n)) (sym found.2) ∙ stands;
-          table = has.0;
-          has = has.1;
-        } in
-        (placed.change, logged)
+  -- so the log has it, and it may stand at its table
+  pub flight_kept : (tx pos : ℕ) → IsInFlight tx c pos → (change : Change) × IsKeptChange tx c pos change
+  flight_kept tx pos flight =
+      let found = open_change tx pos flight in
+      let placed : Placed = found.0 in
+      let r = records.Change tx placed.change in
+      let has = has_table placed.change (open_applicable tx placed found.1) in
+      let IsStored : Placed → Type 0 = λ p. log_table server (b64 p.pos) ≡ Some (log_spelling (records.Change tx p.change)) in
+      let stands : IsStored placed = at_one IsStored (open_changes tx server.log) placed (open_stored server tx kept.log.short) found.1 in
+      let logged : IsKeptChange tx c pos placed.change = record {
+        typed = at_one IsLogRecord server.log r kept.log.typed (numbered_in 1 server.log (placed.pos, r) (open_in_log tx server.log placed found.1).logged);
+        logged = ap (λ (t : Table). t (b64 pos)) stores.log ∙ ap (λ (n : ℕ). log_table server (b64 n)) (sym found.2) ∙ stands;
+        table = has.0;
+        has = has.1;
+      } in
+      (placed.change, logged)

@@ -1,14 +1,9 @@
 -- Tables that are known from earlier changes: proofs.
-use Rattle.std.proofs.Common.{◌≡◌, ℕ, true, List, sym, ap, subst, ◌∙◌}
-use Rattle.std.specs.Prelude.{Option, Some, None}
-use Rattle.repl_model.specs.laws.GrowingServers.{same_name}
+use Rattle.std.proofs.Common.{◌≡◌, ℕ, true, List, ap, subst, ◌∙◌, Option, Some, None}
+use Rattle.world_store.specs.Words.{short_text}
+use Rattle.site_store.specs.Words.{Contents, Table}
+use Rattle.repl_model.specs.Words.{same_name, Change, defined_table_spelling, DefinedTable, table_of}
 use Rattle.repl_types.specs.declared.area.Area.TheVariants as areas
-use Rattle.repl_types.specs.declared.record.Change.{Change}
-use Rattle.keep_core.specs.Contents.{Contents, Table}
-use Rattle.row_codec.specs.Spelling.{short_text}
-use Rattle.repl_definitions.specs.Defined.{defined_table_spelling}
-use Rattle.repl_definitions.specs.declared.defined.DefinedTable.{DefinedTable}
-use Rattle.repl_model.specs.Tables.{table_of}
 use Rattle.source_log.specs.Fitting.{may_stand}
 use Rattle.source_log.specs.Rules.{HasTable, IsKnown, IsTableAt}
 use Rattle.source_log.proofs.MayStand.{parts_of}
@@ -20,14 +15,6 @@ same_table change table may = same_name (table_of change) table.def.name (parts_
 -- the table of a change is known
 pub known_of : (change : Change) (table : DefinedTable) (c : Contents) → HasTable c change table → IsKnown (Some table) c
 known_of change table c has = (subst (λ (name : List ℕ). c areas.Defs 0 (short_text name) ≡ Some (defined_table_spelling table)) (same_table change table has.may) has.stands, has.fits)
-
--- a change that may stand at the known table has it
-pub has_known : (change : Change) (table : DefinedTable) (c : Contents) → may_stand table.def change ≡ true → IsKnown (Some table) c → HasTable c change table
-has_known change table c may known = record {
-  stands = subst (λ (name : List ℕ). c areas.Defs 0 (short_text name) ≡ Some (defined_table_spelling table)) (sym (same_table change table may)) known.0;
-  fits = known.1;
-  may = may;
-}
 
 -- the known table is the one under its name
 pub known_named : (name : List ℕ) (table : DefinedTable) (c : Contents) → table.def.name ≡ name → IsKnown (Some table) c → IsTableAt name (Some table) c

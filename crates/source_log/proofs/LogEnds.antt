@@ -1,28 +1,15 @@
 -- What one more record at the end of the log makes of contents: proofs.
-use Rattle.std.proofs.Common.{◌≡◌, ℕ, zero, suc, ◌+◌, ◌<◌, Bool, true, false, cond, List, [], ◌∷◌, refl, sym, ap, subst, ◌∙◌, arith, inl, inr}
-use Rattle.std.specs.Prelude.{◌⊎◌, Option, Some, None, ◌==◌, ◌&&◌}
+use Rattle.std.proofs.Common.{◌≡◌, ℕ, zero, suc, ◌+◌, ◌<◌, Bool, true, false, cond, List, [], ◌∷◌, refl, sym, ap, subst, ◌∙◌, arith, inl, inr, ◌⊎◌, Option, Some, None, ◌==◌, ◌&&◌, nat_cmp, Less}
 use Rattle.std.proofs.Math.Dec.{eqb-zero-suc}
 use Rattle.std.specs.Cmp.{nat_cmp_is}
-use Rattle.std.specs.Ordering.{nat_cmp}
-use Rattle.std.specs.declared.cmp.Ordering.TheVariants.{Less}
-use Rattle.repl_types.specs.Area.{same_area}
-use Rattle.repl_types.specs.Bytes.{bytes_cmp}
-use Rattle.repl_types.specs.declared.area.Area.{Area}
+use Rattle.world_store.specs.Words.{IsLogRecord, log_spelling, Is64, b64, order64, whole_order, Head, order, same_is, differ}
+use Rattle.site_store.specs.Words.{Contents, Table, IsLastKey, put_at, set_key, same_key, adds_put, adds_remove}
+use Rattle.repl_model.specs.Words.{same_area, bytes_cmp, Area, LogRecord, log_limit}
 use Rattle.repl_types.specs.declared.area.Area.TheVariants as areas
-use Rattle.repl_types.specs.declared.record.LogRecord.{LogRecord}
 use Rattle.repl_types.specs.declared.record.LogRecord.TheVariants as records
-use Rattle.keep_core.specs.Contents.{Contents, Table, IsLastKey, put_at, set_key, same_key}
-use Rattle.row_codec.specs.LogRecords.{IsLogRecord, log_spelling}
-use Rattle.row_codec.specs.Spelling.{Is64, b64}
-use Rattle.row_codec.specs.laws.Orders.{order64, whole_order}
-use Rattle.repl_records.specs.declared.source_side.Head.{Head}
-use Rattle.repl_model.specs.SoundLogs.{log_limit}
-use Rattle.rows_in_order.specs.laws.Before.{order}
-use Rattle.rows_in_order.specs.laws.Rising.{same_is, differ}
 use Rattle.stored_commits.specs.records.LongerTables.{head_after}
 use Rattle.stored_commits.specs.records.SourceTables.{with_effect}
 use Rattle.stored_commits.specs.logs.LongerServers.{is_of_log}
-use Rattle.site_store.specs.laws.Damage.{adds_put, adds_remove}
 use Rattle.source_log.specs.Making.{all_made, with_made}
 use Rattle.source_log.specs.Reading.{with_dropped}
 use Rattle.source_log.specs.Rules.{rules, flight_key}
@@ -33,7 +20,7 @@ use Rattle.source_log.proofs.Extending.{some_none, extends_none, extends_then}
 -- ---- the last key
 
 -- the position after the last one is after it
-next_above : (n : ℕ) → n < log_limit → bytes_cmp (b64 n) (b64 (n + 1)) ≡ Less
+pub next_above : (n : ℕ) → n < log_limit → bytes_cmp (b64 n) (b64 (n + 1)) ≡ Less
 next_above n room = whole_order Is64 b64 nat_cmp order64 n (n + 1) (omega (arith, room)) (omega (arith, room)) ∙ sym (nat_cmp_is n (n + 1) Less (omega arith))
 
 -- nothing stands there

@@ -1,21 +1,11 @@
 -- Making a change at its table, and taking it back: proofs.
-use Rattle.std.proofs.Common.{◌≡◌, ℕ, Bool, true, false, cond, List, refl, sym, ap, subst, ◌∙◌, arith}
-use Rattle.std.specs.Prelude.{Option, Some, None, ◌&&◌, ◌==◌}
-use Rattle.std.proofs.lemmas.Bool.{eqb-true}
+use Rattle.std.proofs.Common.{◌≡◌, ℕ, Bool, true, false, cond, List, refl, sym, ap, subst, ◌∙◌, arith, Option, Some, None, ◌&&◌, ◌==◌, eqb-true}
 use Rattle.std.proofs.lemmas.Bool.Decides.{nat_tests}
-use Rattle.rows_in_order.specs.laws.Before.{not_both}
-use Rattle.repl_types.specs.Area.{same_area}
-use Rattle.repl_types.specs.Value.{Values}
-use Rattle.repl_types.specs.declared.area.Area.{Area}
+use Rattle.world_store.specs.Words.{not_both, same_is, put_here, key_spelling, row_spelling}
+use Rattle.site_store.specs.Words.{Contents, Table, set_key, with_table, put_at, same_key}
+use Rattle.repl_model.specs.Words.{same_area, Values, Area, Change, DefinedTable, key_of, inverse}
 use Rattle.repl_types.specs.declared.area.Area.TheVariants as areas
-use Rattle.repl_types.specs.declared.record.Change.{Change}
 use Rattle.repl_types.specs.declared.record.Change.TheVariants.{Insert, Update, Delete}
-use Rattle.keep_core.specs.Contents.{Contents, Table, set_key, with_table, put_at, same_key}
-use Rattle.rows_in_order.specs.laws.Rising.{same_is}
-use Rattle.rows_in_order.specs.laws.Written.{put_here}
-use Rattle.row_codec.specs.Spelling.{key_spelling, row_spelling}
-use Rattle.repl_definitions.specs.declared.defined.DefinedTable.{DefinedTable}
-use Rattle.repl_model.specs.Tables.{key_of, inverse}
 use Rattle.stored_commits.specs.records.SourceTables.{with_effect}
 use Rattle.source_log.specs.Making.{with_made}
 

@@ -1,35 +1,23 @@
 -- Rows and changes that may stand in a table: proofs.
-use Rattle.std.proofs.Common.{◌≡◌, ℕ, zero, suc, ◌≤◌, ◌<◌, Bool, true, false, cond, ◌&&◌, List, [], ◌∷◌, length, refl, subst, arith, inl, inr}
-use Rattle.std.specs.Prelude.{◌⊎◌, nat_le, sum_by, not, ◌==◌, Some, None}
+use Rattle.std.proofs.Common.{◌≡◌, ℕ, ◌≤◌, ◌<◌, Bool, true, false, cond, ◌&&◌, List, [], ◌∷◌, length, refl, subst, arith, inl, inr, ◌⊎◌, nat_le, sum_by, not, ◌==◌, Some, None, bytes_eq}
 use Rattle.std.specs.Option.{option_map_or}
-use Rattle.std.specs.Str.{bytes_eq}
 use Rattle.std.proofs.lemmas.Bool.{and_parts, leb-true}
-use Rattle.repl_types.specs.Sizes.{key_limit, row_limit, IsKeySize}
-use Rattle.repl_types.specs.Value.{Values, images, spelled_len}
-use Rattle.repl_types.specs.declared.record.Change.{Change}
+use Rattle.world_store.specs.Words.{key_spelling, key_size, length_of_key}
+use Rattle.repl_model.specs.Words.{key_limit, row_limit, IsKeySize, Values, images, spelled_len, Change, TableDef, key_of, table_of, same_values, fits, fits_columns, change_fits, is_change_applicable, above_zero, LogRecord}
 use Rattle.repl_types.specs.declared.record.Change.TheVariants.{Insert, Update, Delete, Start, Stop}
-use Rattle.repl_types.specs.declared.record.LogRecord.TheVariants as records
-use Rattle.repl_types.specs.declared.table.TableDef.{TableDef}
-use Rattle.row_codec.specs.LogRecords.{HasShortRows}
-use Rattle.row_codec.specs.Spelling.{key_spelling}
-use Rattle.row_codec.specs.laws.Sizes.{key_size}
-use Rattle.repl_model.specs.Tables.{key_of, table_of, same_values}
-use Rattle.repl_model.specs.Applicable.{fits, fits_columns, change_fits, is_change_applicable}
 use Rattle.stored_commits.specs.records.laws.StandingRows.{some_byte}
 use Rattle.source_log.specs.Fitting.{has_short_rows, may_stand, CanBeMade, RowMayStand}
+use Rattle.repl_types.specs.declared.record.LogRecord.TheVariants as records
+use Rattle.source_log.specs.Storing.{IsCommit}
+use Rattle.row_codec.specs.LogRecords.{HasShortRows}
 
 -- the key of a row that may stand in a table has the size of a key
-pub row_key_size : ((key : Values) → length (key_spelling key) ≡ sum_by spelled_len key) → (def : TableDef) (row : Values) → RowMayStand def row → IsKeySize (key_spelling (key_of def row))
-row_key_size long def row may =
+pub row_key_size : (def : TableDef) (row : Values) → RowMayStand def row → IsKeySize (key_spelling (key_of def row))
+row_key_size def row may =
     let key = key_of def row in
     let parts = and_parts (fits_columns def.columns row) (nat_le (sum_by spelled_len key) key_limit) may.fit in
     let size : sum_by spelled_len key ≤ key_limit = leb-true (sum_by spelled_len key) key_limit parts.1 in
-    key_size (key_spelling key) (some_byte def.key row may.keyed) (omega (arith, long key))
-
--- a number that isn't zero is above it
-not_zero : (n : ℕ) → not (n == 0) ≡ true → 0 < n
-not_zero zero e = absurd cc
-not_zero (suc n) e = omega arith
+    key_size (key_spelling key) (some_byte def.key row may.keyed) (omega (arith, length_of_key key))
 
 -- a change that is applicable to one table is of that table, and fits it
 pub of_one : (def : TableDef) (change : Change) → is_change_applicable (def ∷ []) change ≡ true → (bytes_eq (table_of change) def.name ≡ true) × (change_fits def change ≡ true)
@@ -51,7 +39,7 @@ parts_of def change e =
     let outer = and_parts (not (length def.key == 0) && has_short_rows change) (is_change_applicable (def ∷ []) change) e in
     let inner = and_parts (not (length def.key == 0)) (has_short_rows change) outer.0 in
     let one = of_one def change outer.1 in
-    record { keyed = not_zero (length def.key) inner.0; short = inner.1; own = one.0; fits = one.1 }
+    record { keyed = above_zero (length def.key) inner.0; short = inner.1; own = one.0; fits = one.1 }
 
 -- the row of an insert may stand in the table
 pub insert_may : (def : TableDef) (table : List ℕ) (row : Values) → CanBeMade def (Insert table row) → RowMayStand def row
@@ -88,6 +76,12 @@ short_record def tx change e = by_kind change (parts_of def change e).short
     by_kind (Delete table row) e = leb-true (length row) row_limit e
     by_kind (Start table) e = tt
     by_kind (Stop table) e = tt
+
+-- so has that of a commit
+pub commit_short : (tx time : ℕ) (r : LogRecord) → IsCommit tx time r → HasShortRows r
+commit_short tx time (records.Change t change) is = absurd is
+commit_short tx time (records.Commit t at authid origin) is = tt
+commit_short tx time (records.Abort t) is = absurd is
 
 -- a start or a stop can't be made
 pub no_signal : (def : TableDef) (change : Change) → CanBeMade def change → ((name : List ℕ) × (change ≡ Start name)) ⊎ ((name : List ℕ) × (change ≡ Stop name)) → ⊥

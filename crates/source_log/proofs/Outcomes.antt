@@ -1,35 +1,14 @@
 -- Whether a change is applicable, and what becomes of a record: proofs.
-use Rattle.std.proofs.Common.{◌≡◌, ℕ, ◌≤◌, Bool, true, false, cond, List, [], ◌∷◌, length, refl, sym, ap, ◌∙◌, arith}
-use Rattle.std.specs.Prelude.{Option, Some, None, ◌&&◌, ◌==◌, not, nat_lt, nat_le, sum_by}
+use Rattle.std.proofs.Common.{◌≡◌, ℕ, ◌≤◌, Bool, true, false, cond, [], ◌∷◌, length, refl, sym, ap, ◌∙◌, arith, Option, Some, None, ◌&&◌, ◌==◌, not, nat_lt, nat_le, sum_by, bytes_eq}
 use Rattle.std.specs.List.{list_all}
 use Rattle.std.specs.Option.{option_map_or}
-use Rattle.std.specs.Str.{bytes_eq}
 use Rattle.std.proofs.lemmas.Bool.{and_parts, and_from, ltb-true, le-leb}
-use Rattle.repl_types.specs.Sizes.{key_limit, row_limit}
-use Rattle.repl_types.specs.Value.{Values, images, spelled_len}
+use Rattle.world_store.specs.Words.{short_text, Head, not_both, differ_numbers, head_of}
+use Rattle.site_store.specs.Words.{Contents}
+use Rattle.repl_model.specs.Words.{key_limit, row_limit, Values, images, spelled_len, Change, LogRecord, TableDef, defined_table_spelling, IsDefinedTable, DefinedTable, fits_columns, fits, change_fits, table_named, is_change_applicable, is_applicable, all_places, may_be_key, TableKeepsRules, are_among, column_limit, log_limit, key_of, table_of, same_values, Server, tables_of, found_in, columns_length}
 use Rattle.repl_types.specs.declared.area.Area.TheVariants as areas
-use Rattle.repl_types.specs.declared.record.Change.{Change}
 use Rattle.repl_types.specs.declared.record.Change.TheVariants.{Insert, Update, Delete, Start, Stop}
-use Rattle.repl_types.specs.declared.record.LogRecord.{LogRecord}
 use Rattle.repl_types.specs.declared.record.LogRecord.TheVariants as records
-use Rattle.repl_types.specs.declared.table.ColumnDef.{ColumnDef}
-use Rattle.repl_types.specs.declared.table.TableDef.{TableDef}
-use Rattle.keep_core.specs.Contents.{Contents}
-use Rattle.row_codec.specs.Spelling.{short_text}
-use Rattle.repl_definitions.specs.Defined.{defined_table_spelling, IsDefinedTable}
-use Rattle.repl_definitions.specs.declared.defined.DefinedTable.{DefinedTable}
-use Rattle.repl_records.specs.declared.source_side.Head.{Head}
-use Rattle.rows_in_order.specs.laws.Before.{not_both}
-use Rattle.rows_in_order.specs.laws.Written.{differ_numbers}
-use Rattle.repl_model.specs.Applicable.{fits_column, fits_columns, fits, change_fits, table_named, is_change_applicable, is_applicable}
-use Rattle.repl_model.specs.Rules.{all_places, may_be_key, TableKeepsRules}
-use Rattle.lists.specs.Lists.{are_among}
-use Rattle.repl_model.specs.SoundDefinitions.{column_limit}
-use Rattle.repl_model.specs.SoundLogs.{log_limit}
-use Rattle.repl_model.specs.Tables.{key_of, table_of, same_values}
-use Rattle.repl_model.specs.World.{Server, tables_of}
-use Rattle.world_store.specs.LogRows.{head_of}
-use Rattle.lists.specs.laws.Members.{found_in}
 use Rattle.source_log.specs.Fitting.{has_short_rows, may_stand}
 use Rattle.source_log.specs.Storing.{IsKept, Stores, outcome_of}
 use Rattle.source_log.specs.declared.outcome.Outcome.TheVariants as outcomes
@@ -38,17 +17,10 @@ use Rattle.source_log.proofs.OwnTables.{OwnTable, own_table, own_keeps}
 
 -- ---- a row and its table
 
--- a row that fits columns has as many values
-row_length : (columns : List ColumnDef) (row : Values) → fits_columns columns row ≡ true → length row ≡ length columns
-row_length [] [] e = refl
-row_length [] (v ∷ row) e = absurd cc
-row_length (column ∷ columns) [] e = absurd cc
-row_length (column ∷ columns) (v ∷ row) e = omega (arith, row_length columns row (and_parts (fits_column column v) (fits_columns columns row) e).1)
-
 -- a row that fits a table of at most 64 columns has at most 64
 row_short : (def : TableDef) (row : Values) → length def.columns ≤ row_limit → fits def row ≡ true → nat_le (length row) row_limit ≡ true
 row_short def row few e =
-    let same : length row ≡ length def.columns = row_length def.columns row (and_parts (fits_columns def.columns row) (nat_le (sum_by spelled_len (key_of def row)) key_limit) e).0 in
+    let same : length row ≡ length def.columns = columns_length def.columns row (and_parts (fits_columns def.columns row) (nat_le (sum_by spelled_len (key_of def row)) key_limit) e).0 in
     le-leb (length row) row_limit (omega arith)
 
 -- so have the rows of a change that fits it

@@ -1,30 +1,13 @@
 -- Changes of the program's own are put into the log and made, one after another: proofs.
-use Rattle.std.proofs.Common.{◌≡◌, inl, inr, ℕ, ◌+◌, ◌<◌, Bool, true, false, cond, List, [], ◌∷◌, ◌++◌, length, map, refl, sym, ap, subst, ◌∙◌, append_assoc, arith}
-use Rattle.std.specs.Prelude.{Option, Some, ◌==◌, ◌&&◌}
-use Rattle.std.specs.Str.{bytes_eq}
+use Rattle.std.proofs.Common.{◌≡◌, inl, inr, ℕ, ◌+◌, ◌<◌, Bool, true, false, cond, List, [], ◌∷◌, ◌++◌, length, map, refl, sym, ap, subst, ◌∙◌, append_assoc, arith, Option, Some, ◌==◌, ◌&&◌, bytes_eq}
 use Rattle.std.proofs.lemmas.List.{map-append, length-map, length-append}
-use Rattle.repl_types.specs.Area.{same_area}
-use Rattle.repl_types.specs.declared.area.Area.{Area}
+use Rattle.world_store.specs.Words.{log_spelling, b64, short_text, put_here}
+use Rattle.site_store.specs.Words.{Contents, Table, set_key, put_at}
+use Rattle.repl_model.specs.Words.{same_area, Area, Change, LogRecord, TableDef, Placed, DefinedTable, is_signal, with_more, log_limit, unplaced, Rows, table_of, after_change, after_changes, Server}
 use Rattle.repl_types.specs.declared.area.Area.TheVariants as areas
-use Rattle.repl_types.specs.declared.record.Change.{Change}
 use Rattle.repl_types.specs.declared.record.Change.TheVariants.{Insert, Update, Delete, Start, Stop}
-use Rattle.repl_types.specs.declared.record.LogRecord.{LogRecord}
-use Rattle.repl_types.specs.declared.table.TableDef.{TableDef}
-use Rattle.repl_types.specs.declared.unit.Placed.{Placed}
-use Rattle.keep_core.specs.Contents.{Contents, Table, set_key, put_at}
-use Rattle.row_codec.specs.LogRecords.{log_spelling}
-use Rattle.row_codec.specs.Spelling.{b64, short_text}
-use Rattle.repl_definitions.specs.declared.defined.DefinedTable.{DefinedTable}
-use Rattle.rows_in_order.specs.laws.Written.{put_here}
-use Rattle.repl_model.specs.Applicable.{is_signal}
-use Rattle.repl_model.specs.Longer.{with_more}
-use Rattle.repl_model.specs.SoundLogs.{log_limit}
-use Rattle.repl_model.specs.SourceAt.{unplaced}
-use Rattle.repl_model.specs.Tables.{Rows, table_of, after_change, after_changes}
-use Rattle.repl_model.specs.World.{Server}
-use Rattle.stored_commits.specs.records.LongerTables.{log_table, LogGetsRow}
-use Rattle.stored_commits.specs.records.SourceLogs.{SourceRowsStand, TablesAreFound}
-use Rattle.stored_commits.specs.records.SourceTables.{with_effect, ChangeIsStored, RowsStayStanding, TypedChangesHaveRows}
+use Rattle.stored_commits.specs.records.LongerTables.{log_table}
+use Rattle.stored_commits.specs.records.SourceTables.{with_effect}
 use Rattle.source_log.specs.Making.{HasSource, SourceStands, IsOfServer, StepCanBeMade}
 use Rattle.source_log.specs.Rules.{HasTable}
 use Rattle.source_log.specs.Storing.{IsKept, Stores}
@@ -35,6 +18,8 @@ use Rattle.source_log.proofs.LogEnds.{others_apart}
 use Rattle.source_log.proofs.OwnTables.{own_table, tables_apart}
 use Rattle.source_log.proofs.TakenFirst.{same_server}
 use Rattle.source_log.proofs.Turns.{made_source}
+use Rattle.stored_commits.specs.laws.LogTables.{log_gets_row}
+use Rattle.stored_commits.specs.laws.StoredRows.{typed_rows}
 
 -- ---- one change
 
@@ -79,19 +64,19 @@ pub own_length : (server : Server) (changes : List Placed) → length (with_more
 own_length server changes = length-append server.log (map own_change changes) ∙ ap (λ (n : ℕ). length server.log + n) (length-map changes own_change)
 
 -- nothing was put
-pub puts_none : SourceRowsStand → (last : ℕ) (c : Contents) → PutsChanges last [] c c
-puts_none stand last c = record {
+pub puts_none : (last : ℕ) (c : Contents) → PutsChanges last [] c c
+puts_none last c = record {
   others = λ a n other. refl;
   end = refl;
   in_flight = refl;
   has = λ server kept is stores. record {
     log = stores.log ∙ sym (ap log_table (same_server server));
     source = stores.source;
-    stand = source_stand stand server kept;
+    stand = source_stand server kept;
   };
 }
 
-module _ (gets : LogGetsRow) (tables_found : TablesAreFound) (stored : ChangeIsStored) (stays : RowsStayStanding) (typed : TypedChangesHaveRows) (last : ℕ) (changes : List Placed) (p : Placed) (may : MayBePut (own_change p)) (room : last + length changes < log_limit) (c d e : Contents) (puts : PutsChanges last changes c d) (own : PutsOwn (last + length changes + 1) p d e) where
+module _ (last : ℕ) (changes : List Placed) (p : Placed) (may : MayBePut (own_change p)) (room : last + length changes < log_limit) (c d e : Contents) (puts : PutsChanges last changes c d) (own : PutsOwn (last + length changes + 1) p d e) where
   -- the key of its record
   abbrev key : List ℕ
   key = b64 (last + length changes + 1)
@@ -125,7 +110,7 @@ module _ (gets : LogGetsRow) (tables_found : TablesAreFound) (stored : ChangeIsS
         own_leaves p.change logged e areas.Log 0 own refl
         ∙ put_here d areas.Log 0 key row
         ∙ (λ i. set_key (before.log i) (b64 (sym len i + 1)) row)
-        ∙ sym (gets here (own_change p) (omega (arith, len, room)))
+        ∙ sym (log_gets_row here (own_change p) (omega (arith, len, room)))
         ∙ ap log_table (own_longer server changes p)
 
     -- the source has the change made
@@ -140,8 +125,8 @@ module _ (gets : LogGetsRow) (tables_found : TablesAreFound) (stored : ChangeIsS
         let stands = sym (ap (λ (t : Table). t (short_text (table_of p.change))) (puts.others areas.Defs 0 refl)) ∙ has.stands in
         let t = own_table server c (table_of p.change) table kept stores stands has.fits in
         let of : IsOfServer server step = record { table = t.own; at_number = t.at_number; def = t.def; named = t.named } in
-        let can : StepCanBeMade step = record { rows = typed 0 p.change may.typed; stands = has.may } in
-        let both = made_source stored stays server (tables_apart tables_found server kept) (step ∷ []) rows logged before.stand before.source (of, tt) (can, tt) in
+        let can : StepCanBeMade step = record { rows = typed_rows 0 p.change may.typed; stands = has.may } in
+        let both = made_source server (tables_apart server kept) (step ∷ []) rows logged before.stand before.source (of, tt) (can, tt) in
         let same : (λ (def : TableDef). after_change def p.change (rows def)) ≡ rows_now = λ i def. sym (change_last def changes p (committed server.log def)) i in
         subst (λ (r : TableDef → Rows). HasSource server r e × SourceStands server r) same ((λ n. ap (λ (x : Contents). x areas.Source n) made.2 ∙ both.0 n), both.1)
 

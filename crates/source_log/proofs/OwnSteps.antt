@@ -1,28 +1,12 @@
 -- The steps that are read of a transaction are its open changes, at the tables of the server: proofs.
-use Rattle.std.proofs.Common.{◌≡◌, ℕ, ◌+◌, Bool, true, false, cond, List, [], ◌∷◌, length, map, refl, sym, ap, subst, ◌∙◌}
-use Rattle.std.specs.Prelude.{Some, None, ◌==◌, ◌&&◌, nat_lt, filter}
+use Rattle.std.proofs.Common.{◌≡◌, ℕ, ◌+◌, Bool, true, false, cond, List, [], ◌∷◌, length, map, refl, sym, ap, subst, ◌∙◌, Some, None, ◌==◌, ◌&&◌, nat_lt, filter, eqb-true}
 use Rattle.std.specs.List.{AllByRecursion, filter_map, cons_option, enumerate_from}
-use Rattle.std.proofs.lemmas.Bool.{eqb-true}
-use Rattle.repl_types.specs.declared.record.Change.{Change}
+use Rattle.world_store.specs.Words.{IsLogRecord, log_spelling, Is32, IsName, b64, one_whole, one_log_record, in_flight_rows}
+use Rattle.site_store.specs.Words.{Contents, Table}
+use Rattle.repl_model.specs.Words.{Change, LogRecord, Placed, all_filter, IsDefinedTable, DefinedTable, table_of, At, last_end, change_of, open_changes, unplaced, Server, same_name}
 use Rattle.repl_types.specs.declared.record.Change.TheVariants.{Insert, Update, Delete, Start, Stop}
-use Rattle.repl_types.specs.declared.record.LogRecord.{LogRecord}
 use Rattle.repl_types.specs.declared.record.LogRecord.TheVariants as records
-use Rattle.repl_types.specs.declared.unit.Placed.{Placed}
-use Rattle.repl_types.specs.laws.Lists.{all_filter}
-use Rattle.keep_core.specs.Contents.{Contents, Table}
-use Rattle.row_codec.specs.LogRecords.{IsLogRecord, log_spelling}
-use Rattle.row_codec.specs.Spelling.{Is32, IsName, b64}
-use Rattle.row_codec.specs.laws.Ones.{one_whole}
-use Rattle.row_codec.specs.laws.LogRecords.{one_log_record}
-use Rattle.repl_definitions.specs.Defined.{IsDefinedTable}
-use Rattle.repl_definitions.specs.declared.defined.DefinedTable.{DefinedTable}
-use Rattle.repl_model.specs.Tables.{table_of}
-use Rattle.repl_model.specs.Units.{At, positions as places, last_end, change_of, open_changes}
-use Rattle.repl_model.specs.SourceAt.{unplaced}
-use Rattle.repl_model.specs.World.{Server}
-use Rattle.repl_model.specs.laws.GrowingServers.{same_name}
-use Rattle.world_store.specs.LogRows.{in_flight_rows}
-use Rattle.stored_commits.specs.records.InFlight.{InFlightRowsStand, OpenPositionsAreRows, OpenChangesAreStored}
+use Rattle.repl_model.specs.Units.{positions as places}
 use Rattle.stored_commits.specs.records.LongerTables.{log_table}
 use Rattle.source_log.specs.Fitting.{CanBeMade}
 use Rattle.source_log.specs.Making.{StepCanBeMade, AreSteps, IsOfServer, changes_of}
@@ -30,9 +14,11 @@ use Rattle.source_log.specs.Reading.{ArePositions}
 use Rattle.source_log.specs.Rules.{IsInFlight}
 use Rattle.source_log.specs.Storing.{IsKept, Stores}
 use Rattle.source_log.specs.declared.step.Step.{Step}
-use Rattle.source_log.proofs.Extending.{some_is}
 use Rattle.source_log.proofs.MayStand.{parts_of}
 use Rattle.source_log.proofs.OwnTables.{own_table}
+use Rattle.stored_commits.specs.laws.InFlightRows.{in_flight_stand, open_positions}
+use Rattle.stored_commits.specs.laws.LoggedChanges.{open_stored}
+use Rattle.source_log.specs.laws.Whole.{same_value}
 
 -- ---- records in their ranges
 
@@ -93,7 +79,7 @@ module _ (server : Server) (kept : IsKept server) (c : Contents) (stores : Store
   same_changes [] (s ∷ steps) flights are can stored typed = absurd are
   same_changes (p ∷ changes) [] flights are can stored typed = absurd are
   same_changes (p ∷ changes) (s ∷ steps) flights are can stored typed =
-      let alike : log_spelling (records.Change tx s.change) ≡ log_spelling (records.Change tx p.change) = some_is (sym are.0.logged ∙ ap (λ (t : Table). t (b64 p.pos)) stores.log ∙ stored.0) in
+      let alike : log_spelling (records.Change tx s.change) ≡ log_spelling (records.Change tx p.change) = same_value (sym are.0.logged ∙ ap (λ (t : Table). t (b64 p.pos)) stores.log ∙ stored.0) in
       let fit : IsLogRecord (records.Change tx s.change) = made_typed tx s.table s.change flights.0.fits.0 are.0.has.fits can.0 in
       let one : s.change ≡ p.change = change_is tx tx s.change p.change (one_whole IsLogRecord log_spelling one_log_record (records.Change tx s.change) (records.Change tx p.change) fit typed.0 alike) in
       let others : changes_of steps ≡ unplaced changes = same_changes changes steps flights.1 are.1 can.1 stored.1 typed.1 in
@@ -110,13 +96,13 @@ module _ (server : Server) (kept : IsKept server) (c : Contents) (stores : Store
 
 module _ (server : Server) (kept : IsKept server) (c : Contents) (stores : Stores server c) (tx : ℕ) (positions : List ℕ) (steps : List Step) (are : AreSteps tx positions steps c) where
   -- if each can be made, they are the open changes, in order
-  pub steps_are_open : AllByRecursion StepCanBeMade steps → InFlightRowsStand → OpenPositionsAreRows → OpenChangesAreStored → ArePositions tx positions c
+  pub steps_are_open : AllByRecursion StepCanBeMade steps → ArePositions tx positions c
       → changes_of steps ≡ unplaced (open_changes tx server.log)
-  steps_are_open can stand positions_are stored found =
-      let at : positions ≡ map (λ placed. placed.pos) (open_changes tx server.log) = found.all (in_flight_rows server) (stand server kept.log) stores.in_flight ∙ positions_are server tx in
+  steps_are_open can found =
+      let at : positions ≡ map (λ placed. placed.pos) (open_changes tx server.log) = found.all (in_flight_rows server) (in_flight_stand server kept.log) stores.in_flight ∙ open_positions server tx in
       let flights = subst (AllByRecursion (IsInFlight tx c)) at found.stand in
       let at_them = subst (λ (l : List ℕ). AreSteps tx l steps c) at are in
-      same_changes server kept c stores tx (open_changes tx server.log) steps flights at_them can (stored server tx kept.log.short) (open_typed tx server.log kept.log.typed)
+      same_changes server kept c stores tx (open_changes tx server.log) steps flights at_them can (open_stored server tx kept.log.short) (open_typed tx server.log kept.log.typed)
 
   -- each at its own table
   pub steps_of_server : AllByRecursion (IsOfServer server) steps

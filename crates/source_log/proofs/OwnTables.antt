@@ -1,34 +1,16 @@
 -- The stored definition of a table is that of the server's table of the name: proofs.
-use Rattle.std.proofs.Common.{◌≡◌, ℕ, zero, suc, ◌≤◌, Bool, true, false, List, [], ◌∷◌, length, map, refl, sym, ap, subst, ◌∙◌}
-use Rattle.std.specs.Prelude.{Option, Some, None, not, is_some, slice_get}
+use Rattle.std.proofs.Common.{◌≡◌, ℕ, zero, suc, ◌≤◌, Bool, true, false, List, [], ◌∷◌, length, map, refl, sym, ap, subst, ◌∙◌, Option, Some, None, not, is_some, slice_get, option_map, bytes_eq}
 use Rattle.std.specs.List.{AllByRecursion, list_any}
-use Rattle.std.specs.Option.{option_map}
-use Rattle.std.specs.Str.{bytes_eq}
 use Rattle.std.proofs.lemmas.Bool.{and_parts}
+use Rattle.world_store.specs.Words.{IsName, short_text, table_from_rows, not_both, table_rows, RowFits, table_rows_are}
+use Rattle.site_store.specs.Words.{Contents, Table}
+use Rattle.repl_model.specs.Words.{TableDef, defined_table_spelling, IsDefinedTable, DefinedTable, table_named, TableKeepsRules, all_differ, KeepsTable, column_limit, ServerTable, Server, server_table, tables_of, at_place_in, at_one, first_alone, find_image, name_itself}
 use Rattle.repl_types.specs.declared.area.Area.TheVariants as areas
-use Rattle.repl_types.specs.declared.table.TableDef.{TableDef}
-use Rattle.keep_core.specs.Contents.{Contents, Table}
-use Rattle.row_codec.specs.Spelling.{IsName, short_text}
-use Rattle.repl_definitions.specs.Defined.{defined_table_spelling, IsDefinedTable}
-use Rattle.repl_definitions.specs.declared.defined.DefinedTable.{DefinedTable}
-use Rattle.rows_in_order.specs.Rows.{table_from_rows}
-use Rattle.rows_in_order.specs.laws.Before.{not_both}
-use Rattle.repl_model.specs.Applicable.{table_named}
-use Rattle.repl_model.specs.Rules.{TableKeepsRules}
-use Rattle.lists.specs.Lists.{all_differ}
-use Rattle.repl_model.specs.SoundDefinitions.{KeepsTable, column_limit}
-use Rattle.repl_model.specs.World.{ServerTable, Server, server_table, tables_of}
-use Rattle.world_store.specs.DefinitionRows.{table_rows}
-use Rattle.lists.specs.laws.Numbered.{at_place_in}
-use Rattle.lists.specs.laws.Members.{at_one, first_alone, find_image}
-use Rattle.repl_model.specs.laws.GrowingServers.{name_itself}
 use Rattle.stored_commits.specs.records.Applying.{AllAreFound}
-use Rattle.stored_commits.specs.records.SourceLogs.{TablesAreFound}
-use Rattle.world_store.specs.SpelledRows.{RowFits}
 use Rattle.stored_defs.specs.laws.NamedTables.{table_stands, table_numbered}
-use Rattle.world_store.specs.laws.DefinitionRows.{table_rows_are}
 use Rattle.source_log.specs.Making.{TablesApart}
 use Rattle.source_log.specs.Storing.{IsKept, Stores}
+use Rattle.stored_commits.specs.laws.SourceLogs.{tables_are_found}
 
 -- ---- tables at their numbers
 
@@ -57,9 +39,9 @@ one_number (x ∷ ts) differ (suc m) zero t u at_m at_n same = absurd (first_alo
 one_number (x ∷ ts) differ (suc m) (suc n) t u at_m at_n same = ap suc (one_number ts (and_parts (not (list_any (same_table x) ts)) (all_differ same_table ts) differ).1 m n t u at_m at_n same)
 
 -- the tables are found by their names, each at one number
-pub tables_apart : TablesAreFound → (server : Server) → IsKept server → TablesApart server
-tables_apart found server kept = record {
-  found = subst (λ (ts : List ServerTable). AllAreFound (map (λ t. t.def) ts)) kept.tables (found kept.world kept.before kept.keeps);
+pub tables_apart : (server : Server) → IsKept server → TablesApart server
+tables_apart server kept = record {
+  found = subst (λ (ts : List ServerTable). AllAreFound (map (λ t. t.def) ts)) kept.tables (tables_are_found kept.world kept.before kept.keeps);
   apart = one_number server.tables (subst (λ (ts : List ServerTable). all_differ same_table ts ≡ true) kept.tables kept.keeps.differ);
 }
 

@@ -1,16 +1,10 @@
 -- The program writes its own units whole, so none of its changes is in flight at the end of a log: proofs.
-use Rattle.std.proofs.Common.{◌≡◌, ℕ, ◌+◌, ◌<◌, ◌≤◌, Bool, true, false, cond, not, ◌&&◌, ◌||◌, List, [], ◌∷◌, length, Some, None, inl, inr, refl, sym, ap, subst, ◌∙◌, arith}
-use Rattle.std.specs.Prelude.{◌==◌, nat_lt, fold, filter}
+use Rattle.std.proofs.Common.{◌≡◌, ℕ, ◌+◌, ◌<◌, ◌≤◌, Bool, true, false, cond, not, ◌&&◌, ◌||◌, List, [], ◌∷◌, length, Some, None, inl, inr, refl, sym, ap, subst, ◌∙◌, arith, ◌==◌, nat_lt, fold, filter}
 use Rattle.std.specs.List.{enumerate_from}
 use Rattle.std.proofs.lemmas.Bool.{false≢true, and_from, and_parts, both_ways, eqb-true, lt-ltb, ltb-true, not-true}
 use Rattle.std.proofs.lemmas.Option.{none-some, same_Some}
-use Rattle.repl_types.specs.declared.record.Change.{Change}
-use Rattle.repl_types.specs.declared.record.LogRecord.{LogRecord}
+use Rattle.repl_model.specs.Words.{Change, LogRecord, Placed, is_of_tx, is_own_change, is_own_abort, begins_with_tx, own_units_are_whole, At, positions, ends, last_end, change_of, open_changes, In, in_filter, in_filter_map}
 use Rattle.repl_types.specs.declared.record.LogRecord.TheVariants as records
-use Rattle.repl_types.specs.declared.unit.Placed.{Placed}
-use Rattle.repl_model.specs.SoundLogs.{is_of_tx, is_own_change, is_own_abort, begins_with_tx, own_units_are_whole}
-use Rattle.repl_model.specs.Units.{At, positions, ends, last_end, change_of, open_changes}
-use Rattle.lists.specs.laws.Members.{In, in_filter, in_filter_map}
 
 -- ---- the last end of the program's transaction
 

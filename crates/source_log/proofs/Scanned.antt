@@ -1,50 +1,20 @@
 -- The next committed row of a table of the source: proofs.
-use Rattle.std.proofs.Common.{◌≡◌, ℕ, ◌<◌, List, [], ◌∷◌, length, map, refl, sym, ap, subst, ◌∙◌}
-use Rattle.std.specs.Prelude.{◌&&◌, Option, Some, None, nat_lt}
+use Rattle.std.proofs.Common.{◌≡◌, ℕ, ◌<◌, List, [], ◌∷◌, length, map, refl, sym, ap, subst, ◌∙◌, ◌&&◌, Option, Some, None, nat_lt}
 use Rattle.std.specs.FinMap.{entries}
 use Rattle.std.specs.List.{AllByRecursion, list_all}
 use Rattle.std.specs.Option.{option_map_or, option_map}
 use Rattle.std.proofs.lemmas.Bool.{and_parts, ltb-true}
-use Rattle.repl_types.specs.Value.{Values}
-use Rattle.repl_types.specs.declared.area.Area.TheVariants as areas
-use Rattle.repl_types.specs.declared.table.TableDef.{TableDef}
-use Rattle.repl_types.specs.laws.Lists.{all_weaker, filter_none}
-use Rattle.repl_types.specs.declared.fault.Fault.{Fault}
-use Rattle.keep_core.specs.Kept.{Kept}
-use Rattle.keep_core.specs.Contents.{Contents, Table, IsNextKey, IsLastKey}
-use Rattle.row_codec.specs.Spelling.{IsKey, IsRow, key_spelling, row_spelling}
-use Rattle.repl_definitions.specs.declared.defined.DefinedTable.{DefinedTable}
-use Rattle.repl_records.specs.SourceSide.{source_row_spelling, IsSourceRow}
-use Rattle.rows_in_order.specs.Rows.{table_from_rows, rows_after, is_before, IsRising, NextRow}
-use Rattle.rows_in_order.specs.laws.After.{after_all, after_first, after_next}
-use Rattle.rows_in_order.specs.laws.Fitting.{fits_each, fits_next}
-use Rattle.rows_in_order.specs.laws.Rising.{no_row}
-use Rattle.repl_model.specs.Rules.{all_places, may_be_key}
-use Rattle.lists.specs.Lists.{are_among}
-use Rattle.repl_model.specs.SoundDefinitions.{KeepsTable}
-use Rattle.repl_model.specs.SourceAt.{source_at}
-use Rattle.repl_model.specs.Tables.{Rows, key_of}
-use Rattle.repl_model.specs.Units.{last_commit}
-use Rattle.repl_model.specs.World.{ServerTable, Server}
-use Rattle.lists.specs.laws.Numbered.{at_place_in}
-use Rattle.lists.specs.laws.Members.{at_one}
-use Rattle.world_store.specs.LogRows.{source_rows}
-use Rattle.world_store.specs.Tables.{no_rows}
-use Rattle.stored_commits.specs.records.SourceLogs.{SourceRowsStand}
-use Rattle.stored_commits.specs.records.SourceTables.{StandsUnderKey, RowsStand, KeysOfRowsFit}
-use Rattle.stored_commits.specs.records.laws.StandingRows.{rows_apart, table_of_entries, standing_fit, standing_rise, standing_some}
+use Rattle.world_store.specs.Words.{IsKey, IsRow, key_spelling, row_spelling, source_row_spelling, IsSourceRow, table_from_rows, rows_after, is_before, IsRising, NextRow, after_all, after_first, after_next, fits_each, fits_next, no_row, source_rows, no_rows, RowFits}
+use Rattle.site_store.specs.Words.{Kept, Contents, Table, IsNextKey, IsLastKey, reads_of_one, AtServer, Blames, Fails, Rules, IsUndamaged, IsSpelt, IsNoDamage, after_key, Misread, MisspeltNext, sees, rows_spelt, spelt_undamaged, no_damage, Stops, next_breaks}
 use Rattle.site_store.specs.declared.sites.Sites.{Sites}
-use Rattle.site_store.specs.Calls.{reads_of_one, AtServer, Blames, Fails}
-use Rattle.site_store.specs.Damage.{Rules, IsUndamaged, IsSpelt, IsNoDamage}
-use Rattle.site_store.specs.Records.{after_key, Misread, MisspeltNext}
-use Rattle.site_store.specs.Views.{sees}
-use Rattle.site_store.specs.laws.Damage.{rows_spelt, spelt_undamaged, no_damage}
-use Rattle.site_store.specs.one_server.Calls.{Stops}
-use Rattle.site_store.specs.one_server.laws.Damage.{next_breaks}
+use Rattle.repl_model.specs.Words.{Values, TableDef, all_weaker, filter_none, Fault, DefinedTable, all_places, may_be_key, are_among, KeepsTable, source_at, Rows, key_of, last_commit, ServerTable, Server, at_place_in, at_one}
+use Rattle.repl_types.specs.declared.area.Area.TheVariants as areas
+use Rattle.stored_commits.specs.records.SourceTables.{StandsUnderKey, RowsStand}
+use Rattle.stored_commits.specs.records.laws.StandingRows.{rows_apart, table_of_entries, standing_fit, standing_rise, standing_some}
 use Rattle.stored_defs.specs.Reading.{table_rules}
-use Rattle.world_store.specs.SpelledRows.{RowFits}
 use Rattle.source_log.specs.Scanning.{HasCommitted, rows_left, IsFirstLeft, ShowsBadRow}
 use Rattle.source_log.proofs.OwnTables.{own_tables_keep}
+use Rattle.stored_commits.specs.laws.SourceLogs.{source_stands}
 
 -- an entry of the rows of a table
 abbrev Entry : Type 0
@@ -52,22 +22,22 @@ Entry = Values × Values
 
 -- ---- the rows of a table
 
-module _ (keys : KeysOfRowsFit) (stand : SourceRowsStand) (server : Server) (table : DefinedTable) (c : Contents) (has : HasCommitted server table c) where
+module _ (server : Server) (table : DefinedTable) (c : Contents) (has : HasCommitted server table c) where
   -- its committed rows
   abbrev rows : Rows
   rows = source_at table.def server.log (last_commit server.log)
 
   -- they stand under their keys
   rows_stand : RowsStand table.def rows
-  rows_stand = stand server table.def has.kept.log
+  rows_stand = source_stands server table.def has.kept.log
 
   -- and can be spelled
   rows_fit : AllByRecursion (RowFits IsKey IsRow) (entries rows)
-  rows_fit = standing_fit keys table.def rows rows_stand
+  rows_fit = standing_fit table.def rows rows_stand
 
   -- their keys rise
   rows_rise : IsRising key_spelling (entries rows)
-  rows_rise = standing_rise keys table.def rows rows_stand
+  rows_rise = standing_rise table.def rows rows_stand
 
   -- the table has a key
   keyed : 0 < length table.def.key
@@ -79,7 +49,7 @@ module _ (keys : KeysOfRowsFit) (stand : SourceRowsStand) (server : Server) (tab
 
   -- so no key is spelled by nothing
   rows_after_all : rows_after key_spelling [] (entries rows) ≡ entries rows
-  rows_after_all = after_all key_spelling [] (entries rows) (standing_some keys table.def rows rows_stand keyed)
+  rows_after_all = after_all key_spelling [] (entries rows) (standing_some table.def rows rows_stand keyed)
 
   -- the contents have them
   stored : c areas.Source table.number ≡ table_from_rows key_spelling row_spelling (entries rows)
@@ -146,7 +116,7 @@ module _ {K : Type 0} (kept : K → Kept) (s0 s1 : Sites K) (server : ℕ) where
       next_breaks of_table kept IsKey key_spelling IsSourceRow source_row_spelling s0 s1 server areas.Source number after (reads_of_one 1 server areas.Source) e (λ bytes h. h refl refl) (λ bytes h. h refl refl) f
 
   -- no damage is reported of committed rows
-  pub none_bad : KeysOfRowsFit → SourceRowsStand → (of : Server) (table : DefinedTable) (c : Contents) → HasCommitted of table c → sees kept s0 server ≡ Some c → (e : Fault) → Blames kept s0 s1 (ShowsBadRow kept s0 server table.number) e → IsNoDamage e
-  none_bad keys stand of table c has seen e blames =
+  pub none_bad : (of : Server) (table : DefinedTable) (c : Contents) → HasCommitted of table c → sees kept s0 server ≡ Some c → (e : Fault) → Blames kept s0 s1 (ShowsBadRow kept s0 server table.number) e → IsNoDamage e
+  none_bad of table c has seen e blames =
       let of_table = table_rules IsKey key_spelling IsSourceRow source_row_spelling areas.Source table.number in
-      no_damage kept s0 s1 (λ s. s ≡ server) of_table e (λ s is. subst (λ (k : ℕ). (d : Contents) × (sees kept s0 k ≡ Some d) × IsUndamaged of_table d) (sym is) (c, seen, rows_undamaged keys stand of table c has)) blames
+      no_damage kept s0 s1 (λ s. s ≡ server) of_table e (λ s is. subst (λ (k : ℕ). (d : Contents) × (sees kept s0 k ≡ Some d) × IsUndamaged of_table d) (sym is) (c, seen, rows_undamaged of table c has)) blames

@@ -1,22 +1,9 @@
 -- A server that is seen to have what a sound world calls for: proofs.
-use Rattle.std.proofs.Common.{◌≡◌, ℕ, [], sym, subst}
-use Rattle.std.specs.Prelude.{Option, Some, IfSome}
-use Rattle.repl_types.specs.declared.fault.Fault.{Fault}
-use Rattle.keep_core.specs.Contents.{Contents}
-use Rattle.keep_core.specs.Kept.{Kept}
-use Rattle.repl_records.specs.SourceSide.{IsHead}
-use Rattle.repl_records.specs.declared.source_side.Head.{Head}
-use Rattle.repl_model.specs.World.{empty_server, Server, World, server_in}
-use Rattle.lists.specs.laws.Members.{In}
-use Rattle.stored_commits.specs.records.InFlight.{InFlightRowsStand, OpenChangesAreRows, OpenChangesAreStored}
-use Rattle.stored_commits.specs.records.LongerTables.{HeadFits}
-use Rattle.stored_commits.specs.records.SourceLogs.{SourceRowsStand}
+use Rattle.std.proofs.Common.{◌≡◌, ℕ, [], sym, subst, Option, Some, IfSome}
+use Rattle.world_store.specs.Words.{IsHead, Head, head_of}
+use Rattle.site_store.specs.Words.{Contents, Kept, Blames, IsUndamaged, IsNoDamage, sees, no_damage}
 use Rattle.site_store.specs.declared.sites.Sites.{Sites}
-use Rattle.site_store.specs.Calls.{Blames}
-use Rattle.site_store.specs.Damage.{IsUndamaged, IsNoDamage}
-use Rattle.site_store.specs.Views.{sees}
-use Rattle.site_store.specs.laws.Damage.{no_damage}
-use Rattle.world_store.specs.LogRows.{head_of}
+use Rattle.repl_model.specs.Words.{Fault, empty_server, Server, World, server_in, In}
 use Rattle.source_log.specs.Rules.{all_rules, EndIs, ShowsDamage}
 use Rattle.source_log.specs.Scanning.{IsSeenAs}
 use Rattle.source_log.specs.Storing.{StoresWhole}
@@ -39,12 +26,12 @@ module _ {K : Type 0} (kept : K → Kept) (sites : Sites K) (place : ℕ) (w : W
   whole = held_whole w server seen.reveals.0 seen.sound member seen.reveals.2
 
   -- the end that is read is that of its log
-  pub end_seen : HeadFits → (head : Head) → IsHead head → IfSome (sees kept sites place) (EndIs head) → head ≡ head_of server
-  end_seen fits head is read =
-      whole_end server seen.reveals.0 fits whole head is (subst (λ (o : Option Contents). IfSome o (EndIs head)) seen.reveals.1 read)
+  pub end_seen : (head : Head) → IsHead head → IfSome (sees kept sites place) (EndIs head) → head ≡ head_of server
+  end_seen head is read =
+      whole_end server seen.reveals.0 whole head is (subst (λ (o : Option Contents). IfSome o (EndIs head)) seen.reveals.1 read)
 
   -- no damage is reported of it
-  pub none_seen : InFlightRowsStand → OpenChangesAreRows → OpenChangesAreStored → SourceRowsStand → HeadFits → (s1 : Sites K) (e : Fault) → Blames kept sites s1 (ShowsDamage kept sites place) e → IsNoDamage e
-  none_seen in_flight are_rows stored source fits s1 e blames = no_damage kept sites s1 (λ s. s ≡ place) all_rules e
-      (λ s is. subst (λ (k : ℕ). (c : Contents) × (sees kept sites k ≡ Some c) × IsUndamaged all_rules c) (sym is) (seen.reveals.0, seen.reveals.1, none_shown in_flight are_rows stored source fits server seen.reveals.0 whole))
+  pub none_seen : (s1 : Sites K) (e : Fault) → Blames kept sites s1 (ShowsDamage kept sites place) e → IsNoDamage e
+  none_seen s1 e blames = no_damage kept sites s1 (λ s. s ≡ place) all_rules e
+      (λ s is. subst (λ (k : ℕ). (c : Contents) × (sees kept sites k ≡ Some c) × IsUndamaged all_rules c) (sym is) (seen.reveals.0, seen.reveals.1, none_shown server seen.reveals.0 whole))
       blames

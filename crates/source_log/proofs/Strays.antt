@@ -1,37 +1,17 @@
 -- Changes in flight that are damaged: proofs.
-use Rattle.std.proofs.Common.{◌≡◌, ℕ, true, false, List, refl, sym, subst, ◌∙◌}
-use Rattle.std.specs.Prelude.{Option, Some, None, IfSome}
-use Rattle.std.specs.Option.{option_map}
+use Rattle.std.proofs.Common.{◌≡◌, ℕ, true, false, List, refl, sym, subst, ◌∙◌, Option, Some, None, IfSome, option_map}
+use Rattle.world_store.specs.Words.{not_both, IsLogRecord, log_spelling, b64, short_text, one_whole, one_log_record, in_flight_spelling, InFlight}
+use Rattle.site_store.specs.Words.{Contents, Kept, RowIs, sees, no_access, Reads, ClosesAll, IsMemoryOr, Breaks, unfit_breaks, if_seen, if_both_seen}
+use Rattle.site_store.specs.declared.sites.Sites.{Sites}
+use Rattle.repl_model.specs.Words.{Change, LogRecord, Fault, defined_table_spelling, IsDefinedTable, DefinedTable, one_defined_table, table_of}
 use Rattle.repl_types.specs.declared.area.Area.TheVariants as areas
-use Rattle.repl_types.specs.declared.record.Change.{Change}
-use Rattle.repl_types.specs.declared.record.LogRecord.{LogRecord}
 use Rattle.repl_types.specs.declared.record.LogRecord.TheVariants as records
 use Rattle.repl_types.specs.declared.status.DamageCause.TheVariants as causes
-use Rattle.repl_types.specs.declared.fault.Fault.{Fault}
 use Rattle.repl_types.specs.declared.fault.Fault.TheVariants as faults
-use Rattle.keep_core.specs.Contents.{Contents}
-use Rattle.keep_core.specs.Kept.{Kept}
-use Rattle.rows_in_order.specs.laws.Before.{not_both}
-use Rattle.row_codec.specs.LogRecords.{IsLogRecord, log_spelling}
-use Rattle.row_codec.specs.Spelling.{b64, short_text}
-use Rattle.row_codec.specs.laws.Ones.{one_whole}
-use Rattle.row_codec.specs.laws.LogRecords.{one_log_record}
-use Rattle.repl_definitions.specs.Defined.{defined_table_spelling, IsDefinedTable}
-use Rattle.repl_definitions.specs.declared.defined.DefinedTable.{DefinedTable}
-use Rattle.repl_definitions.specs.laws.Defined.{one_defined_table}
-use Rattle.repl_records.specs.SourceSide.{in_flight_spelling}
-use Rattle.repl_records.specs.declared.source_side.InFlight.{InFlight}
-use Rattle.repl_model.specs.Tables.{table_of}
-use Rattle.site_store.specs.declared.sites.Sites.{Sites}
-use Rattle.site_store.specs.Records.{RowIs}
-use Rattle.site_store.specs.Views.{sees}
-use Rattle.site_store.specs.Calls.{no_access, Reads, ClosesAll, IsMemoryOr}
-use Rattle.site_store.specs.one_server.Calls.{Breaks}
-use Rattle.site_store.specs.one_server.laws.Damage.{unfit_breaks}
-use Rattle.site_store.specs.laws.Passing.{if_seen, if_both_seen}
 use Rattle.source_log.specs.Fitting.{may_stand}
 use Rattle.source_log.specs.Rules.{rules, flight_key, IsInFlight, IsLogged, HasTable, IsKeptChange}
-use Rattle.source_log.proofs.Extending.{some_none, some_is}
+use Rattle.source_log.proofs.Extending.{some_none}
+use Rattle.source_log.specs.laws.Whole.{same_value}
 
 -- the log has no change of a transaction at a position that may stand at its table
 abbrev pub IsStray : ℕ → ℕ → Contents → Type 0
@@ -39,16 +19,16 @@ IsStray tx pos c = IsInFlight tx c pos × ((change : Change) → IsKeptChange tx
 
 -- the log has another record there
 pub other_record : (tx pos : ℕ) (r : LogRecord) (c : Contents) → IsInFlight tx c pos → IsLogRecord r → ((change : Change) → r ≡ records.Change tx change → ⊥) → c areas.Log 0 (b64 pos) ≡ Some (log_spelling r) → IsStray tx pos c
-other_record tx pos r c flight typed other stands = (flight, λ change kept. other change (one_whole IsLogRecord log_spelling one_log_record r (records.Change tx change) typed kept.typed (some_is (sym stands ∙ kept.logged))))
+other_record tx pos r c flight typed other stands = (flight, λ change kept. other change (one_whole IsLogRecord log_spelling one_log_record r (records.Change tx change) typed kept.typed (same_value (sym stands ∙ kept.logged))))
 
 -- or a change that may not stand at its table
 pub other_table : (tx pos : ℕ) (change : Change) (table : DefinedTable) (c : Contents) → IsInFlight tx c pos → IsLogRecord (records.Change tx change) → IsLogged tx c pos change → c areas.Defs 0 (short_text (table_of change)) ≡ Some (defined_table_spelling table) → IsDefinedTable table → may_stand table.def change ≡ false → IsStray tx pos c
 other_table tx pos change table c flight typed logged stands fits refused = (
   flight,
   λ other kept.
-      let is : records.Change tx other ≡ records.Change tx change = one_whole IsLogRecord log_spelling one_log_record (records.Change tx other) (records.Change tx change) kept.typed typed (some_is (sym kept.logged ∙ logged)) in
+      let is : records.Change tx other ≡ records.Change tx change = one_whole IsLogRecord log_spelling one_log_record (records.Change tx other) (records.Change tx change) kept.typed typed (same_value (sym kept.logged ∙ logged)) in
       let has = subst (AtTable c) is (kept.table, kept.has) in
-      let same : has.0 ≡ table = one_whole IsDefinedTable defined_table_spelling one_defined_table has.0 table has.1.fits fits (some_is (sym has.1.stands ∙ stands)) in
+      let same : has.0 ≡ table = one_whole IsDefinedTable defined_table_spelling one_defined_table has.0 table has.1.fits fits (same_value (sym has.1.stands ∙ stands)) in
       not_both (may_stand table.def change) (subst (λ (t : DefinedTable). may_stand t.def change ≡ true) same has.1.may) refused,
 )
   where

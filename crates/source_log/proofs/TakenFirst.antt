@@ -1,31 +1,24 @@
 -- Records that are taken one after another: proofs.
-use Rattle.std.proofs.Common.{◌≡◌, ◌≢◌, ℕ, zero, suc, ◌+◌, ◌<◌, ◌≤◌, Bool, true, false, cond, List, [], ◌∷◌, ◌++◌, length, take, drop, get_or, refl, sym, ap, subst, ◌∙◌, arith}
-use Rattle.std.specs.Prelude.{Some, ◌&&◌, nat_lt}
+use Rattle.std.proofs.Common.{◌≡◌, ◌≢◌, ℕ, zero, suc, ◌+◌, ◌<◌, ◌≤◌, Bool, true, false, cond, List, [], ◌∷◌, ◌++◌, length, take, drop, get_or, refl, sym, ap, subst, ◌∙◌, arith, Some, ◌&&◌, nat_lt}
 use Rattle.std.specs.List.{AllByRecursion}
 use Rattle.std.proofs.lemmas.Bool.{and_parts, ltb-true}
 use Rattle.std.proofs.lemmas.List.{append_assoc, append-nil, take_more, drop_more}
-use Rattle.repl_types.specs.declared.area.Area.{Area}
+use Rattle.world_store.specs.Words.{b64, Head, head_of}
+use Rattle.site_store.specs.Words.{Contents, IsLastKey}
+use Rattle.repl_model.specs.Words.{Area, LogRecord, is_applicable, Server, tables_of, log_limit, with_more}
 use Rattle.repl_types.specs.declared.area.Area.TheVariants as areas
-use Rattle.repl_types.specs.declared.record.LogRecord.{LogRecord}
 use Rattle.repl_types.specs.declared.call_errors.AppendError.TheVariants as errors
-use Rattle.keep_core.specs.Contents.{Contents, IsLastKey}
-use Rattle.row_codec.specs.Spelling.{b64}
-use Rattle.repl_records.specs.declared.source_side.Head.{Head}
-use Rattle.repl_model.specs.Applicable.{is_applicable}
-use Rattle.repl_model.specs.World.{Server, tables_of}
-use Rattle.repl_model.specs.SoundLogs.{log_limit}
-use Rattle.repl_model.specs.Longer.{with_more}
-use Rattle.stored_commits.specs.records.LongerTables.{HeadGoesOn, head_after}
+use Rattle.stored_commits.specs.records.LongerTables.{head_after}
 use Rattle.stored_commits.specs.logs.LongerServers.{is_of_log}
 use Rattle.world_commits.specs.logs.LongerLogs.{CanFollow, AllFollow}
-use Rattle.world_commits.specs.logs.StaysSound.{LogStaysSound}
-use Rattle.world_store.specs.LogRows.{head_of}
 use Rattle.source_log.specs.Appending.{is_taken, taken, error_at, stop_at, TakesFirst}
 use Rattle.source_log.specs.Storing.{IsKept, Stores, outcome_of, Extends, TakesRecord, MayAppend}
 use Rattle.source_log.specs.declared.outcome.Outcome.{Outcome}
 use Rattle.source_log.specs.declared.outcome.Outcome.TheVariants as outcomes
 use Rattle.source_log.proofs.Drops.{take_whole}
 use Rattle.source_log.proofs.Extending.{extends_none, extends_then}
+use Rattle.world_commits.specs.laws.OneLog.{log_stays_sound}
+use Rattle.stored_commits.specs.laws.LogTables.{head_goes_on}
 
 -- ---- one record
 
@@ -45,9 +38,9 @@ taken_follow server (r ∷ rs) all = pick (is_taken server r) refl (taken_follow
     pick false took rest = tt
 
 -- what is known of a server is known after a record that is taken
-kept_more : LogStaysSound → (server : Server) (r : LogRecord) → IsKept server → MayAppend r → is_taken server r ≡ true → IsKept (with_more (r ∷ []) server)
-kept_more sound server r kept may took = record {
-  log = sound server (r ∷ []) kept.log (follows server r may took, tt);
+kept_more : (server : Server) (r : LogRecord) → IsKept server → MayAppend r → is_taken server r ≡ true → IsKept (with_more (r ∷ []) server)
+kept_more server r kept may took = record {
+  log = log_stays_sound server (r ∷ []) kept.log (follows server r may took, tt);
   world = kept.world;
   before = kept.before;
   keeps = kept.keeps;
@@ -135,8 +128,8 @@ module _ (head : Head) (records : List LogRecord) (n : ℕ) (end : Head) (c d e 
   longer server = ap (λ (l : List LogRecord). record server { log = l }) (append_assoc server.log (take n records) (r ∷ []) ∙ ap (λ (l : List LogRecord). server.log ++ l) more)
 
   -- one more was taken
-  pub took_more : LogStaysSound → HeadGoesOn → MayAppend r → TakesRecord end r outcomes.Taken d e → TookSome head records (n + 1) (head_after r end) c e
-  took_more sound goes_on may takes = record {
+  pub took_more : MayAppend r → TakesRecord end r outcomes.Taken d e → TookSome head records (n + 1) (head_after r end) c e
+  took_more may takes = record {
     others = λ a m o. takes.others a m o ∙ some.others a m o;
     stays = λ m. takes.end m ∙ some.stays m;
     extends = λ last. extends_then c d e (some.extends last) (takes.extends (some.ends last));
@@ -152,9 +145,9 @@ module _ (head : Head) (records : List LogRecord) (n : ℕ) (end : Head) (c d e 
               ∙ ap (λ (b : Bool). take n records ++ cond b (r ∷ taken (with_more (r ∷ []) here) (drop (n + 1) records)) []) took
               ∙ sym (append_assoc (take n records) (r ∷ []) (taken (with_more (r ∷ []) here) (drop (n + 1) records)))
               ∙ (λ i. more i ++ taken (longer server i) (drop (n + 1) records));
-          at_end = ap (head_after r) now.at_end ∙ sym (goes_on here r) ∙ ap head_of (longer server);
+          at_end = ap (head_after r) now.at_end ∙ sym (head_goes_on here r) ∙ ap head_of (longer server);
           stores = subst (λ (s : Server). Stores s e) (longer server) (takes.stores here now.kept now.at_end now.stores);
-          kept = subst IsKept (longer server) (kept_more sound here r now.kept may took);
+          kept = subst IsKept (longer server) (kept_more here r now.kept may took);
         };
   }
 

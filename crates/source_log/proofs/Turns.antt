@@ -1,33 +1,24 @@
 -- Changes are made one after another, and taken back: proofs.
-use Rattle.std.proofs.Common.{◌≡◌, ℕ, zero, suc, ◌+◌, ◌<◌, ◌≤◌, Bool, true, false, cond, List, [], ◌∷◌, ◌++◌, length, map, take, drop, get_or, refl, sym, ap, subst, ◌∙◌, arith}
-use Rattle.std.specs.Prelude.{Option, Some, None, ◌&&◌, ◌==◌, slice_get}
+use Rattle.std.proofs.Common.{◌≡◌, ℕ, zero, suc, ◌+◌, ◌<◌, ◌≤◌, Bool, true, false, cond, List, [], ◌∷◌, ◌++◌, length, map, take, drop, get_or, refl, sym, ap, subst, ◌∙◌, arith, Option, Some, None, ◌&&◌, ◌==◌, slice_get, bytes_eq, eqb-true, eq-eqb}
 use Rattle.std.specs.List.{AllByRecursion}
 use Rattle.std.specs.Option.{option_map_or}
-use Rattle.std.specs.Str.{bytes_eq}
-use Rattle.std.proofs.lemmas.Bool.{eqb-true, eq-eqb}
-use Rattle.rows_in_order.specs.laws.Before.{not_both}
-use Rattle.repl_types.specs.laws.Lists.{all_weaker}
 use Rattle.stored_defs.specs.laws.Standing.{all_at_place}
-use Rattle.repl_model.specs.Applicable.{table_named}
-use Rattle.repl_model.specs.World.{ServerTable, Server, tables_of}
-use Rattle.world_store.specs.Tables.{no_rows}
-use Rattle.stored_commits.specs.records.Applying.{EmptyListApplies, FirstThenOthersApply, AppliesToItsOwn, applies_to_each, apply_to_each}
-use Rattle.stored_commits.specs.records.SourceTables.{RowsStand, rows_table, ChangeIsStored, RowsStayStanding, with_effect}
+use Rattle.stored_commits.specs.records.Applying.{applies_to_each, apply_to_each}
+use Rattle.stored_commits.specs.records.SourceTables.{RowsStand, rows_table, with_effect}
 use Rattle.source_log.specs.Making.{StepCanBeMade, HasSource, SourceStands, IsOfServer, TablesApart, Tells, MakesOne, MakesFirst, with_made, all_made, all_unmade, changes_of}
 use Rattle.source_log.proofs.MayStand.{parts_of}
-use Rattle.site_store.specs.Damage.{ShownBefore}
 use Rattle.source_log.specs.Rules.{rules}
 use Rattle.source_log.specs.Storing.{Extends}
 use Rattle.source_log.proofs.Extending.{extended_shown, all_made_extends}
 use Rattle.source_log.proofs.Drops.{take_whole}
 use Rattle.std.proofs.lemmas.List.{take_more, drop_more}
+use Rattle.world_store.specs.Words.{not_both, no_rows}
+use Rattle.site_store.specs.Words.{ShownBefore, Contents, Table}
+use Rattle.repl_model.specs.Words.{all_weaker, table_named, ServerTable, Server, tables_of, Change, TableDef, Rows, table_of, inverse, applies_here, after_change, after_changes, same_name}
 use Rattle.repl_types.specs.declared.area.Area.TheVariants as areas
-use Rattle.repl_types.specs.declared.record.Change.{Change}
-use Rattle.repl_types.specs.declared.table.TableDef.{TableDef}
-use Rattle.keep_core.specs.Contents.{Contents, Table}
-use Rattle.repl_model.specs.Tables.{Rows, table_of, inverse, applies_here, after_change, after_changes}
-use Rattle.repl_model.specs.laws.GrowingServers.{same_name}
 use Rattle.source_log.specs.declared.step.Step.{Step}
+use Rattle.stored_commits.specs.laws.StoredRows.{change_stands, change_stored}
+use Rattle.stored_commits.specs.laws.InTurn.{applies_to_own, empty_list_applies, first_then_others}
 
 -- one more is made last
 made_more : (steps : List Step) (step : Step) (c : Contents) → all_made (steps ++ step ∷ []) c ≡ with_made step.table step.change (all_made steps c)
@@ -92,7 +83,7 @@ rows_at server rows step c has of = has step.table.number ∙ ap (λ (o : Option
 stand_at : (server : Server) (rows : TableDef → Rows) (step : Step) → SourceStands server rows → IsOfServer server step → RowsStand step.table.def (rows step.table.def)
 stand_at server rows step stand of = subst (λ (d : TableDef). RowsStand d (rows d)) of.def (all_at_get (λ (t : ServerTable). RowsStand t.def (rows t.def)) server.tables step.table.number of.table stand of.at_number)
 
-module _ (stored : ChangeIsStored) (stays : RowsStayStanding) (server : Server) (apart : TablesApart server) where
+module _ (server : Server) (apart : TablesApart server) where
   -- one change is made of the rows
   one_source : (rows : TableDef → Rows) (step : Step) (c : Contents) → SourceStands server rows → HasSource server rows c → IsOfServer server step → StepCanBeMade step → HasSource server (λ def. after_change def step.change (rows def)) (with_made step.table step.change c)
   one_source rows step c stand has of can n = by_number (num == n) refl
@@ -113,7 +104,7 @@ module _ (stored : ChangeIsStored) (stays : RowsStayStanding) (server : Server) 
       own = (parts_of def change can.stands).own
 
       made : with_effect def change (c areas.Source num) ≡ rows_table (after_change def change (rows def))
-      made = ap (with_effect def change) (rows_at server rows step c has of) ∙ sym (stored def change (rows def) (stand_at server rows step stand of) can.rows ∙ ap (λ (b : Bool). cond b (with_effect def change (rows_table (rows def))) (rows_table (rows def))) own)
+      made = ap (with_effect def change) (rows_at server rows step c has of) ∙ sym (change_stored def change (rows def) (stand_at server rows step stand of) can.rows ∙ ap (λ (b : Bool). cond b (with_effect def change (rows_table (rows def))) (rows_table (rows def))) own)
 
       at_num : now (slice_get server.tables num) ≡ rows_table (after_change def change (rows def))
       at_num = ap now of.at_number ∙ ap (λ (d : TableDef). rows_table (after_change d change (rows d))) of.def
@@ -126,14 +117,14 @@ module _ (stored : ChangeIsStored) (stays : RowsStayStanding) (server : Server) 
 
       other : (num == n) ≡ false → (o : Option ServerTable) → slice_get server.tables n ≡ o → option_map_or (λ t. rows_table (rows t.def)) o no_rows ≡ now o
       other ne None at = refl
-      other ne (Some t) at = sym (stored t.def change (rows t.def) (all_at_get (λ (u : ServerTable). RowsStand u.def (rows u.def)) server.tables n t stand at) can.rows ∙ ap (λ (b : Bool). cond b (with_effect t.def change (rows_table (rows t.def))) (rows_table (rows t.def))) (elsewhere t at ne (bytes_eq (table_of change) t.def.name) refl))
+      other ne (Some t) at = sym (change_stored t.def change (rows t.def) (all_at_get (λ (u : ServerTable). RowsStand u.def (rows u.def)) server.tables n t stand at) can.rows ∙ ap (λ (b : Bool). cond b (with_effect t.def change (rows_table (rows t.def))) (rows_table (rows t.def))) (elsewhere t at ne (bytes_eq (table_of change) t.def.name) refl))
 
       by_number : (b : Bool) → (num == n) ≡ b → cond b (with_effect def change (c areas.Source num)) (c areas.Source n) ≡ now (slice_get server.tables n)
       by_number true e = made ∙ sym at_num ∙ ap (λ (m : ℕ). now (slice_get server.tables m)) (eqb-true num n e)
       by_number false e = has n ∙ other e (slice_get server.tables n) refl
 
   one_stands : (rows : TableDef → Rows) (step : Step) → SourceStands server rows → StepCanBeMade step → SourceStands server (λ def. after_change def step.change (rows def))
-  one_stands rows step stand can = all_weaker (λ t. RowsStand t.def (rows t.def)) (λ t. RowsStand t.def (after_change t.def step.change (rows t.def))) server.tables (λ t s. stays t.def step.change (rows t.def) s can.rows) stand
+  one_stands rows step stand can = all_weaker (λ t. RowsStand t.def (rows t.def)) (λ t. RowsStand t.def (after_change t.def step.change (rows t.def))) server.tables (λ t s. change_stands t.def step.change (rows t.def) s can.rows) stand
 
   -- and so are all
   pub made_source : (steps : List Step) (rows : TableDef → Rows) (c : Contents) → SourceStands server rows → HasSource server rows c → AllByRecursion (IsOfServer server) steps → AllByRecursion StepCanBeMade steps → HasSource server (rows_after steps rows) (all_made steps c) × SourceStands server (rows_after steps rows)
@@ -151,23 +142,23 @@ pub record MadeFirst (steps : List Step) (n : ℕ) (c d : Contents) : Type 0 whe
 pub first_none : (steps : List Step) (c : Contents) → MadeFirst steps 0 c c
 first_none steps c = record { makes = refl; back = refl; left = λ server rows apart stand has of. refl }
 
-module _ (stored : ChangeIsStored) (stays : RowsStayStanding) (first : FirstThenOthersApply) (own : AppliesToItsOwn) (steps : List Step) (can : AllByRecursion StepCanBeMade steps) (n : ℕ) (lt : n < length steps) (step : Step) (is : step ≡ get_or steps n step) where
+module _ (steps : List Step) (can : AllByRecursion StepCanBeMade steps) (n : ℕ) (lt : n < length steps) (step : Step) (is : step ≡ get_or steps n step) where
   -- whether the next one applies decides
   one_turn : (answer : Bool) (c d : Contents) → MadeFirst steps n c d → Tells step.table step.change answer d → (server : Server) (rows : TableDef → Rows) → TablesApart server → SourceStands server rows → HasSource server rows c → AllByRecursion (IsOfServer server) steps → apply_to_each (tables_of server) (changes_of steps) rows ≡ (answer && apply_to_each (tables_of server) (changes_of (drop (n + 1) steps)) (rows_after (take (n + 1) steps) rows))
   one_turn answer c d made tells server rows apart stand has of =
       let xs = take n steps in
       let rest = drop (n + 1) steps in
       let now = rows_after xs rows in
-      let both = made_source stored stays server apart xs rows c stand has (all_take (IsOfServer server) steps n of) (all_take StepCanBeMade steps n can) in
+      let both = made_source server apart xs rows c stand has (all_take (IsOfServer server) steps n of) (all_take StepCanBeMade steps n can) in
       let here : HasSource server now d = subst (HasSource server now) (sym made.makes) both.0 in
       let of_step : IsOfServer server step = subst (IsOfServer server) (sym is) (all_at_place (IsOfServer server) steps n step of lt) in
       let says : answer ≡ applies_here step.table.def step.change (now step.table.def) = tells.decides (now step.table.def) (stand_at server now step both.1 of_step) (rows_at server now step d here of_step) in
-      let its : applies_to_each (tables_of server) step.change now ≡ answer = own (tables_of server) step.change step.table.def now apart.found of_step.named ∙ sym says in
+      let its : applies_to_each (tables_of server) step.change now ≡ answer = applies_to_own (tables_of server) step.change step.table.def now apart.found of_step.named ∙ sym says in
       let split : drop n steps ≡ step ∷ rest = drop_more steps n step lt ∙ ap (λ (s : Step). s ∷ rest) (sym is) in
       let more : (λ def. after_change def step.change (now def)) ≡ rows_after (take (n + 1) steps) rows = λ i def. (sym (after_more def xs step (rows def)) ∙ ap (λ (l : List Step). after_changes def (changes_of l) (rows def)) (ap (λ (s : Step). xs ++ s ∷ []) is ∙ sym (take_more steps n step lt))) i in
       made.left server rows apart stand has of
       ∙ ap (λ (l : List Step). apply_to_each (tables_of server) (changes_of l) now) split
-      ∙ first (tables_of server) step.change (changes_of rest) now
+      ∙ first_then_others (tables_of server) step.change (changes_of rest) now
       ∙ (λ i. its i && apply_to_each (tables_of server) (changes_of rest) (more i))
 
   pub first_next : (c d e : Contents) → MadeFirst steps n c d → MakesOne step true d e → MadeFirst steps (n + 1) c e
@@ -190,12 +181,12 @@ module _ (stored : ChangeIsStored) (stays : RowsStayStanding) (first : FirstThen
   }
 
 -- all were made
-pub first_all : EmptyListApplies → (steps : List Step) (n : ℕ) (c d : Contents) → length steps ≤ n → MadeFirst steps n c d → MakesFirst steps (length steps) c d
-first_all empty steps n c d all made = record {
+pub first_all : (steps : List Step) (n : ℕ) (c d : Contents) → length steps ≤ n → MadeFirst steps n c d → MakesFirst steps (length steps) c d
+first_all steps n c d all made = record {
   few = omega arith;
   makes = made.makes ∙ ap (λ (l : List Step). all_made l c) same;
   back = ap (λ (l : List Step). all_unmade l d) (sym same) ∙ made.back;
-  whole = λ e server rows apart stand has of. made.left server rows apart stand has of ∙ ap (λ (l : List Step). apply_to_each (tables_of server) (changes_of l) (rows_after (take n steps) rows)) (dropped steps n all) ∙ empty (tables_of server) (rows_after (take n steps) rows);
+  whole = λ e server rows apart stand has of. made.left server rows apart stand has of ∙ ap (λ (l : List Step). apply_to_each (tables_of server) (changes_of l) (rows_after (take n steps) rows)) (dropped steps n all) ∙ empty_list_applies (tables_of server) (rows_after (take n steps) rows);
   stopped = λ some. absurd (omega (arith, some));
 }
   where

@@ -1,32 +1,13 @@
 -- Tables that the changes of a unit call for, and that are damaged: proofs.
-use Rattle.std.proofs.Common.{◌≡◌, inl, inr, ℕ, zero, false, List, [], ◌∷◌, refl, sym, ap, subst, ◌∙◌}
-use Rattle.std.specs.Prelude.{Option, Some, None, IfSome}
-use Rattle.repl_types.specs.declared.area.Area.{Area}
-use Rattle.repl_types.specs.declared.area.Area.TheVariants as areas
-use Rattle.repl_types.specs.declared.status.DamageCause.{DamageCause}
-use Rattle.repl_types.specs.declared.status.DamageCause.TheVariants as causes
-use Rattle.repl_types.specs.declared.unit.Placed.{Placed}
-use Rattle.repl_types.specs.declared.unit.Unit.{Unit as LogUnit}
-use Rattle.repl_types.specs.declared.fault.Fault.{Fault}
-use Rattle.repl_types.specs.declared.fault.Fault.TheVariants as faults
-use Rattle.keep_core.specs.Contents.{Contents, Table}
-use Rattle.keep_core.specs.Kept.{Kept}
-use Rattle.row_codec.specs.Spelling.{short_text}
-use Rattle.repl_definitions.specs.Defined.{defined_table_spelling, IsDefinedTable}
-use Rattle.repl_definitions.specs.declared.defined.DefinedTable.{DefinedTable}
-use Rattle.repl_model.specs.Applicable.{is_signal}
-use Rattle.repl_model.specs.Tables.{table_of}
-use Rattle.lists.specs.laws.Members.{In}
+use Rattle.std.proofs.Common.{◌≡◌, inl, inr, ℕ, zero, false, List, [], ◌∷◌, refl, sym, ap, subst, ◌∙◌, Option, Some, None, IfSome}
+use Rattle.world_store.specs.Words.{short_text}
+use Rattle.site_store.specs.Words.{Contents, Table, Kept, Bounds, no_access, Reads, ClosesAll, AtServer, Fails, IsMemoryOr, joined, Shows, ShownBefore, RowIs, Misspelt, MissesOrMisreads, IsMissing, sees, shown_first, shown_second, Looks, GoesOn, Stops, FailsToWrite, write_breaks_after, needed_breaks, unfit_breaks, breaks_after, stops_as, write_fails_on, if_seen, any_seen}
 use Rattle.site_store.specs.declared.sites.Sites.{Sites}
-use Rattle.site_store.specs.Calls.{Bounds, no_access, Reads, ClosesAll, AtServer, Fails, IsMemoryOr}
-use Rattle.site_store.specs.Damage.{joined, Shows, ShownBefore}
-use Rattle.site_store.specs.Records.{RowIs, Misspelt, MissesOrMisreads, IsMissing}
-use Rattle.site_store.specs.Views.{sees}
-use Rattle.site_store.specs.laws.Damage.{shown_first, shown_second}
-use Rattle.site_store.specs.one_server.Calls.{Looks, GoesOn, Stops, FailsToWrite}
-use Rattle.site_store.specs.one_server.laws.Damage.{write_breaks_after, needed_breaks, unfit_breaks, breaks_after}
-use Rattle.site_store.specs.one_server.laws.Faults.{stops_as, write_fails_on}
-use Rattle.site_store.specs.laws.Passing.{if_seen, any_seen}
+use Rattle.repl_model.specs.Words.{Area, DamageCause, Placed, Fault, defined_table_spelling, IsDefinedTable, DefinedTable, is_signal, table_of, In}
+use Rattle.repl_types.specs.declared.area.Area.TheVariants as areas
+use Rattle.repl_types.specs.declared.status.DamageCause.TheVariants as causes
+use Rattle.repl_types.specs.declared.unit.Unit.{Unit as LogUnit}
+use Rattle.repl_types.specs.declared.fault.Fault.TheVariants as faults
 use Rattle.source_log.specs.Fitting.{may_stand}
 use Rattle.source_log.specs.Rules.{all_rules, ShowsDamage, BreaksFirst}
 use Rattle.source_log.specs.Units.{may_be_table, calls_for_table, is_unfit_table, table_rules, ShowsBadTable, ShowsUnitDamage}

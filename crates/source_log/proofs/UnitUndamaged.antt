@@ -1,38 +1,21 @@
 -- No damage is shown to a unit whose changes fit a server: proofs.
-use Rattle.std.proofs.Common.{◌≡◌, inl, inr, ℕ, zero, true, false, List, ◌||◌, sym, ap, subst, ◌∙◌}
-use Rattle.std.specs.Prelude.{Some, None}
+use Rattle.std.proofs.Common.{◌≡◌, inl, inr, ℕ, zero, true, false, List, ◌||◌, sym, ap, subst, ◌∙◌, Some, None}
 use Rattle.std.proofs.lemmas.Bool.{or_cases}
-use Rattle.repl_types.specs.declared.area.Area.{Area}
+use Rattle.world_store.specs.Words.{one_whole, not_both}
+use Rattle.site_store.specs.Words.{Contents, Kept, Rules, joined, IsUndamaged, IsSpelt, IsNoDamage, sees, no_damage, Stops}
+use Rattle.site_store.specs.declared.sites.Sites.{Sites}
+use Rattle.repl_model.specs.Words.{Area, Placed, Fault, defined_table_spelling, IsDefinedTable, DefinedTable, one_defined_table, is_signal, is_change_applicable, Server, tables_of, In, at_one}
 use Rattle.repl_types.specs.declared.area.Area.TheVariants as areas
 use Rattle.repl_types.specs.declared.status.DamageCause.TheVariants as causes
-use Rattle.repl_types.specs.declared.unit.Placed.{Placed}
 use Rattle.repl_types.specs.declared.unit.Unit.{Unit as LogUnit}
-use Rattle.repl_types.specs.declared.fault.Fault.{Fault}
-use Rattle.keep_core.specs.Contents.{Contents}
-use Rattle.keep_core.specs.Kept.{Kept}
-use Rattle.repl_definitions.specs.Defined.{defined_table_spelling, IsDefinedTable}
-use Rattle.repl_definitions.specs.declared.defined.DefinedTable.{DefinedTable}
-use Rattle.repl_definitions.specs.laws.Defined.{one_defined_table}
-use Rattle.row_codec.specs.laws.Ones.{one_whole}
-use Rattle.rows_in_order.specs.laws.Before.{not_both}
-use Rattle.repl_model.specs.Applicable.{is_signal, is_change_applicable}
-use Rattle.repl_model.specs.World.{Server, tables_of}
-use Rattle.lists.specs.laws.Members.{In, at_one}
-use Rattle.stored_commits.specs.records.InFlight.{InFlightRowsStand, OpenChangesAreRows, OpenChangesAreStored}
-use Rattle.stored_commits.specs.records.LongerTables.{HeadFits}
-use Rattle.stored_commits.specs.records.SourceLogs.{SourceRowsStand}
-use Rattle.site_store.specs.declared.sites.Sites.{Sites}
-use Rattle.site_store.specs.Damage.{Rules, joined, IsUndamaged, IsSpelt, IsNoDamage}
-use Rattle.site_store.specs.Views.{sees}
-use Rattle.site_store.specs.laws.Damage.{no_damage}
-use Rattle.site_store.specs.one_server.Calls.{Stops}
 use Rattle.source_log.specs.Fitting.{may_stand}
 use Rattle.source_log.specs.Rules.{all_rules, HasTable}
 use Rattle.source_log.specs.Storing.{StoresWhole}
 use Rattle.source_log.specs.Units.{ChangesFit, calls_for_table, is_unfit_table, table_rules, ShowsUnitDamage}
-use Rattle.source_log.proofs.Extending.{some_none, some_is}
+use Rattle.source_log.proofs.Extending.{some_none}
 use Rattle.source_log.proofs.KeptFlights.{has_table}
 use Rattle.source_log.proofs.Undamaged.{all_spelt, none_shown}
+use Rattle.source_log.specs.laws.Whole.{same_value}
 
 -- contents that show no damage by either of two rules, and of which each entry is spelt by both, show none by both together
 joined_undamaged : (r q : Rules) (c : Contents) → IsSpelt r c → IsSpelt q c → IsUndamaged r c → IsUndamaged q c → IsUndamaged (joined r q) c
@@ -50,7 +33,7 @@ joined_undamaged r q c one two first second a (causes.Unfit bytes) h = elim h.1.
 ]
 joined_undamaged r q c one two first second a (causes.NoRest steps) h = h
 
-module _ (in_flight : InFlightRowsStand) (are_rows : OpenChangesAreRows) (stored : OpenChangesAreStored) (source : SourceRowsStand) (fits : HeadFits) (server : Server) (c : Contents) (whole : StoresWhole server c) (unit : LogUnit) (fit : ChangesFit server unit) where
+module _ (server : Server) (c : Contents) (whole : StoresWhole server c) (unit : LogUnit) (fit : ChangesFit server unit) where
   -- each of its changes may stand at its table, if it isn't a start or a stop
   unit_table : (p : Placed) → In p unit.changes → is_signal p.change ≡ false → (table : DefinedTable) × HasTable c p.change table
   unit_table p i plain = has_table server whole.kept c whole.stores p.change
@@ -61,7 +44,7 @@ module _ (in_flight : InFlightRowsStand) (are_rows : OpenChangesAreRows) (stored
 
   -- definitions are spelt
   tables_spelt : IsSpelt (table_rules unit.changes) c
-  tables_spelt areas.Defs zero key value has = (tt, (all_spelt in_flight are_rows stored source fits server c whole areas.Defs 0 key value has).1)
+  tables_spelt areas.Defs zero key value has = (tt, (all_spelt server c whole areas.Defs 0 key value has).1)
   tables_spelt a t key value has = (tt, tt)
 
   -- no table is missing
@@ -75,7 +58,7 @@ module _ (in_flight : InFlightRowsStand) (are_rows : OpenChangesAreRows) (stored
   none_unfit : (a : Area) (t : ℕ) (key value : List ℕ) → c a t key ≡ Some value → is_unfit_table unit.changes a t key value → ⊥
   none_unfit areas.Defs zero key value has h =
       let table = unit_table h.0 h.1 h.2 in
-      let same : table.0 ≡ h.4.0 = one_whole IsDefinedTable defined_table_spelling one_defined_table table.0 h.4.0 table.1.fits h.4.1 (some_is (sym table.1.stands ∙ ap (c areas.Defs 0) (sym h.3) ∙ has) ∙ h.4.2) in
+      let same : table.0 ≡ h.4.0 = one_whole IsDefinedTable defined_table_spelling one_defined_table table.0 h.4.0 table.1.fits h.4.1 (same_value (sym table.1.stands ∙ ap (c areas.Defs 0) (sym h.3) ∙ has) ∙ h.4.2) in
       not_both (may_stand h.4.0.def h.0.change) (subst (λ (d : DefinedTable). may_stand d.def h.0.change ≡ true) same table.1.may) h.4.3
   none_unfit a t key value has h = h
 
@@ -91,7 +74,7 @@ module _ (in_flight : InFlightRowsStand) (are_rows : OpenChangesAreRows) (stored
 
   -- and nothing does
   unit_undamaged : IsUndamaged (joined all_rules (table_rules unit.changes)) c
-  unit_undamaged = joined_undamaged all_rules (table_rules unit.changes) c (all_spelt in_flight are_rows stored source fits server c whole) tables_spelt (none_shown in_flight are_rows stored source fits server c whole) tables_undamaged
+  unit_undamaged = joined_undamaged all_rules (table_rules unit.changes) c (all_spelt server c whole) tables_spelt (none_shown server c whole) tables_undamaged
 
   -- no damage is reported
   pub none_damaged : {K : Type 0} (kept : K → Kept) (s0 s1 : Sites K) (n : ℕ) → sees kept s0 n ≡ Some c → (e : Fault) → Stops kept s0 s1 (ShowsUnitDamage kept s0 n unit) e → IsNoDamage e

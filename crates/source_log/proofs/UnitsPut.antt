@@ -1,41 +1,24 @@
 -- A unit of the program's own is put at the end of a log: proofs.
-use Rattle.std.proofs.Common.{◌≡◌, ℕ, ◌+◌, ◌<◌, Bool, false, cond, List, [], ◌∷◌, ◌++◌, length, map, refl, sym, ap, subst, ◌∙◌, append_assoc, arith}
-use Rattle.std.specs.Prelude.{Some, nat_le, slice_get}
+use Rattle.std.proofs.Common.{◌≡◌, ℕ, ◌+◌, ◌<◌, Bool, false, cond, List, [], ◌∷◌, ◌++◌, length, map, refl, sym, ap, subst, ◌∙◌, append_assoc, arith, Some, nat_le, slice_get, leb-false}
 use Rattle.std.specs.List.{AllByRecursion}
 use Rattle.std.specs.Option.{option_map_or}
-use Rattle.std.proofs.lemmas.Bool.{leb-false}
+use Rattle.world_store.specs.Words.{log_spelling, b64, one_whole, first_head, single_spelling, IsHead, head_spelling, one_head, Head, same_itself, put_here, head_of, no_rows, source_table}
+use Rattle.site_store.specs.Words.{Contents, Table, set_key, put_at, or_first}
+use Rattle.repl_model.specs.Words.{LogRecord, Placed, with_more, log_limit, open_changes, ServerTable, Server}
 use Rattle.repl_types.specs.declared.area.Area.TheVariants as areas
-use Rattle.repl_types.specs.declared.record.LogRecord.{LogRecord}
-use Rattle.repl_types.specs.declared.unit.Placed.{Placed}
 use Rattle.repl_types.specs.declared.unit.Unit.{Unit as LogUnit}
-use Rattle.keep_core.specs.Contents.{Contents, Table, set_key, put_at}
-use Rattle.row_codec.specs.LogRecords.{log_spelling}
-use Rattle.row_codec.specs.Spelling.{b64}
-use Rattle.row_codec.specs.laws.Ones.{one_whole}
-use Rattle.repl_records.specs.FirstStates.{first_head}
-use Rattle.repl_records.specs.RecordKeys.{single_spelling}
-use Rattle.repl_records.specs.SourceSide.{IsHead, head_spelling}
-use Rattle.repl_records.specs.laws.SourceSide.{one_head}
-use Rattle.repl_records.specs.declared.source_side.Head.{Head}
-use Rattle.rows_in_order.specs.laws.Rising.{same_itself}
-use Rattle.rows_in_order.specs.laws.Written.{put_here}
-use Rattle.repl_model.specs.Longer.{with_more}
-use Rattle.repl_model.specs.SoundLogs.{log_limit}
-use Rattle.repl_model.specs.Units.{open_changes}
-use Rattle.repl_model.specs.World.{ServerTable, Server}
-use Rattle.world_store.specs.LogRows.{head_of}
-use Rattle.world_store.specs.Tables.{no_rows, source_table}
-use Rattle.stored_commits.specs.records.InFlight.{in_flight_table, OpenChangesAreRows}
-use Rattle.stored_commits.specs.records.LongerTables.{log_table, LogGetsRow, HeadGoesOn, HeadFits}
+use Rattle.stored_commits.specs.records.InFlight.{in_flight_table}
+use Rattle.stored_commits.specs.records.LongerTables.{log_table}
 use Rattle.stored_commits.specs.records.SourceTables.{rows_table}
-use Rattle.site_store.specs.Records.{or_first}
 use Rattle.source_log.specs.Rules.{EndIs}
-use Rattle.source_log.specs.Storing.{CommitMakesChanges, IsKept, Stores}
-use Rattle.source_log.specs.Units.{own_change, own_commit, unit_records, MayBePut, MayAppendUnit, ChangeOpens, CommitCloses, ChangeLeavesRows, HasChanges, PutsChanges, PutsCommit, HasUnit, AppendsUnit, HasNoRoomFor}
+use Rattle.source_log.specs.Storing.{IsKept, Stores}
+use Rattle.source_log.specs.Units.{own_change, own_commit, unit_records, MayBePut, MayAppendUnit, HasChanges, PutsChanges, PutsCommit, HasUnit, AppendsUnit, HasNoRoomFor}
 use Rattle.source_log.proofs.Appended.{end_apart}
 use Rattle.source_log.proofs.LogEnds.{others_apart}
 use Rattle.source_log.proofs.OwnChanges.{own_length}
-use Rattle.source_log.proofs.OwnFlights.{own_none, same_flights, unit_closes, unit_commits}
+use Rattle.source_log.proofs.OwnFlights.{same_flights, unit_closes, unit_commits}
+use Rattle.stored_commits.specs.laws.LogTables.{head_fits, head_goes_on, log_gets_row}
+use Rattle.world_commits.specs.laws.SignalUnits.{none_in_flight}
 
 -- ---- the records of a unit
 
@@ -53,17 +36,17 @@ commit_may unit all = (records_put unit.changes (own_commit unit.head) all).1
 -- ---- the end of the log
 
 -- the end that is read is that of a server whose stored end is its end
-end_is : HeadFits → (server : Server) (c : Contents) (head : Head) → IsKept server → IsHead head → EndIs head c → EndIs (head_of server) c → head ≡ head_of server
-end_is fits server c head kept is read own = one_whole IsHead head_spelling one_head head (head_of server) is (fits server kept.log) (read ∙ sym own)
+end_is : (server : Server) (c : Contents) (head : Head) → IsKept server → IsHead head → EndIs head c → EndIs (head_of server) c → head ≡ head_of server
+end_is server c head kept is read own = one_whole IsHead head_spelling one_head head (head_of server) is (head_fits server kept.log) (read ∙ sym own)
 
 -- if there is no room, there is none for such a server
-pub no_room : HeadFits → (unit : LogUnit) (c : Contents) (head : Head) → IsHead head → EndIs head c → nat_le (head.last + length unit.changes + 1) log_limit ≡ false → HasNoRoomFor unit c
-no_room fits unit c head is read full server kept own stores =
-    subst (λ (h : Head). log_limit < h.last + length unit.changes + 1) (end_is fits server c head kept is read own) (leb-false (head.last + length unit.changes + 1) log_limit full)
+pub no_room : (unit : LogUnit) (c : Contents) (head : Head) → IsHead head → EndIs head c → nat_le (head.last + length unit.changes + 1) log_limit ≡ false → HasNoRoomFor unit c
+no_room unit c head is read full server kept own stores =
+    subst (λ (h : Head). log_limit < h.last + length unit.changes + 1) (end_is server c head kept is read own) (leb-false (head.last + length unit.changes + 1) log_limit full)
 
 -- ---- a unit
 
-module _ (gets : LogGetsRow) (are_rows : OpenChangesAreRows) (goes_on : HeadGoesOn) (fits : HeadFits) (opens : ChangeOpens) (closes : CommitCloses) (leaves : ChangeLeavesRows) (commits : CommitMakesChanges) (unit : LogUnit) (head : Head) (is : IsHead head) (c m d : Contents) (read : EndIs head c) (room : head.last + length unit.changes < log_limit) (puts : PutsChanges head.last unit.changes c m) (ends : PutsCommit (head.last + length unit.changes + 1) unit.head m d) where
+module _ (unit : LogUnit) (head : Head) (is : IsHead head) (c m d : Contents) (read : EndIs head c) (room : head.last + length unit.changes < log_limit) (puts : PutsChanges head.last unit.changes c m) (ends : PutsCommit (head.last + length unit.changes + 1) unit.head m d) where
   -- its seq
   abbrev seq : ℕ
   seq = head.last + length unit.changes + 1
@@ -87,7 +70,7 @@ module _ (gets : LogGetsRow) (are_rows : OpenChangesAreRows) (goes_on : HeadGoes
   module _ (server : Server) (kept : IsKept server) (own : EndIs (head_of server) c) (stores : Stores server c) where
     -- the end that was read is the server's
     same_end : head ≡ head_of server
-    same_end = end_is fits server c head kept is read own
+    same_end = end_is server c head kept is read own
 
     -- the server with the changes, and with the commit
     abbrev changed : Server
@@ -102,7 +85,7 @@ module _ (gets : LogGetsRow) (are_rows : OpenChangesAreRows) (goes_on : HeadGoes
 
     -- the program had nothing in flight
     none : open_changes 0 server.log ≡ []
-    none = own_none server.log kept.log.own
+    none = none_in_flight server.log kept.log.own
 
     -- the one is the other with the commit
     commit_last : with_more (commit ∷ []) changed ≡ longer
@@ -116,7 +99,7 @@ module _ (gets : LogGetsRow) (are_rows : OpenChangesAreRows) (goes_on : HeadGoes
     longer_end : end ≡ head_of longer
     longer_end =
         (λ i. record { last = sym len i + 1; commit = sym len i + 1; time = unit.head.time })
-        ∙ sym (goes_on changed commit)
+        ∙ sym (head_goes_on changed commit)
         ∙ ap head_of commit_last
 
     -- the log gets the commit
@@ -125,7 +108,7 @@ module _ (gets : LogGetsRow) (are_rows : OpenChangesAreRows) (goes_on : HeadGoes
         ap (λ (x : Contents). x areas.Log 0) ends
         ∙ put_here m areas.Log 0 (b64 seq) (Some (log_spelling commit))
         ∙ (λ i. set_key (has.log i) (b64 (sym len i + 1)) (Some (log_spelling commit)))
-        ∙ sym (gets changed commit (omega (arith, len, room)))
+        ∙ sym (log_gets_row changed commit (omega (arith, len, room)))
         ∙ ap log_table commit_last
 
     -- the source is that of the longer log
@@ -133,7 +116,7 @@ module _ (gets : LogGetsRow) (are_rows : OpenChangesAreRows) (goes_on : HeadGoes
     source_whole n =
         ap (λ (x : Contents). x areas.Source n) ends
         ∙ has.source n
-        ∙ (λ i. option_map_or (λ (t : ServerTable). rows_table (sym (unit_commits opens leaves commits t.def server.log unit none) i)) (slice_get server.tables n) no_rows)
+        ∙ (λ i. option_map_or (λ (t : ServerTable). rows_table (sym (unit_commits t.def server.log unit none) i)) (slice_get server.tables n) no_rows)
 
     -- what is in flight stays
     flights_whole : d areas.Inflight 0 ≡ in_flight_table longer
@@ -141,7 +124,7 @@ module _ (gets : LogGetsRow) (are_rows : OpenChangesAreRows) (goes_on : HeadGoes
         ap (λ (x : Contents). x areas.Inflight 0) ends
         ∙ puts.in_flight
         ∙ stores.in_flight
-        ∙ same_flights are_rows server longer (λ tx. sym (unit_closes opens closes server.log unit none tx))
+        ∙ same_flights server longer (λ tx. sym (unit_closes server.log unit none tx))
 
     -- the end is put in the place of the one before
     end_put : d areas.Head 0 ≡ set_key (c areas.Head 0) key (Some (head_spelling (head_of longer)))

@@ -1,11 +1,9 @@
 -- What taking a record makes of the stored tables of a server's log.
-use Rattle.std.specs.Prelude.{◌≡◌, ◌⊎◌, ℕ, ◌<◌, false, IsTrue, nat_lt, if◌then◌else◌, List, [], ◌∷◌, ◌++◌, length, Option, Some, None}
+use Rattle.std.specs.Prelude.{◌≡◌, ◌⊎◌, ℕ, ◌<◌, false, IsTrue, nat_lt, if◌then◌else◌, List, [], ◌∷◌, length, Option, Some, None}
 use Rattle.repl_types.specs.declared.area.Area.{Area}
 use Rattle.repl_types.specs.declared.area.Area.TheVariants as areas
 use Rattle.repl_types.specs.declared.record.Change.{Change}
 use Rattle.repl_types.specs.declared.record.LogRecord.{LogRecord}
-use Rattle.repl_types.specs.declared.record.SetId.{SetId}
-use Rattle.repl_types.specs.declared.table.TableDef.{TableDef}
 use Rattle.repl_types.specs.declared.record.LogRecord.TheVariants as records
 use Rattle.keep_core.specs.Contents.{Contents, IsLastKey}
 use Rattle.row_codec.specs.LogRecords.{IsLogRecord, log_spelling}
@@ -16,9 +14,6 @@ use Rattle.repl_records.specs.declared.source_side.Head.{Head}
 use Rattle.repl_records.specs.RecordKeys.{IsInFlightKey}
 use Rattle.rows_in_order.specs.Rows.{table_from_rows}
 use Rattle.repl_model.specs.Applicable.{is_applicable}
-use Rattle.repl_model.specs.SourceAt.{unplaced, source_at}
-use Rattle.repl_model.specs.Tables.{after_changes}
-use Rattle.repl_model.specs.Units.{open_changes, last_commit}
 use Rattle.repl_model.specs.World.{Server, World, tables_of}
 use Rattle.repl_model.specs.SoundDefinitions.{ServerKeepsRules}
 use Rattle.repl_model.specs.SoundLogs.{LogIsSound, log_limit}
@@ -59,12 +54,6 @@ pub record StoresWhole (server : Server) (c : Contents) : Type 0 where
   pub kept : IsKept server
   pub stores : Stores server c
   pub end : shown server areas.Head 0 (c areas.Head 0) ≡ head_table server
-
--- after a commit, the source is what the changes that its transaction had in flight make of the source before
-abbrev pub CommitMakesChanges : Type 0
-CommitMakesChanges = (def : TableDef) (tx time : ℕ) (authid : List ℕ) (origin : Option SetId) (log : List LogRecord)
-    → source_at def (log ++ records.Commit tx time authid origin ∷ []) (last_commit (log ++ records.Commit tx time authid origin ∷ []))
-    ≡ after_changes def (unplaced (open_changes tx log)) (source_at def log (last_commit log))
 
 -- ---- one record
 

@@ -1,12 +1,11 @@
 -- One more unit of the program's own at the log of a server: its records, and what they make of contents.
-use Rattle.std.specs.Prelude.{◌≡◌, ◌⊎◌, ℕ, zero, ◌+◌, ◌<◌, ◌≤◌, ◌==◌, ◌||◌, false, IsTrue, if◌then◌else◌, List, [], ◌∷◌, ◌++◌, length, map, Option, Some, None, ⊤}
+use Rattle.std.specs.Prelude.{◌≡◌, ◌⊎◌, ℕ, zero, ◌+◌, ◌<◌, ◌≤◌, ◌||◌, false, IsTrue, List, [], ◌∷◌, ◌++◌, length, map, Option, Some, None, ⊤}
 use Rattle.std.specs.List.{AllByRecursion}
 use Rattle.repl_types.specs.declared.area.Area.{Area}
 use Rattle.repl_types.specs.declared.area.Area.TheVariants as areas
 use Rattle.repl_types.specs.declared.record.Change.{Change}
 use Rattle.repl_types.specs.declared.record.LogRecord.{LogRecord}
 use Rattle.repl_types.specs.declared.record.LogRecord.TheVariants as records
-use Rattle.repl_types.specs.declared.record.SetId.{SetId}
 use Rattle.repl_types.specs.declared.status.DamageCause.{DamageCause}
 use Rattle.repl_types.specs.declared.table.TableDef.{TableDef}
 use Rattle.repl_types.specs.declared.unit.Placed.{Placed}
@@ -28,7 +27,7 @@ use Rattle.repl_model.specs.Longer.{with_more}
 use Rattle.repl_model.specs.SoundLogs.{log_limit}
 use Rattle.repl_model.specs.SourceAt.{unplaced, source_at}
 use Rattle.repl_model.specs.Tables.{Rows, table_of, after_changes}
-use Rattle.repl_model.specs.Units.{open_changes, last_commit}
+use Rattle.repl_model.specs.Units.{last_commit}
 use Rattle.repl_model.specs.World.{Server, tables_of}
 use Rattle.lists.specs.laws.Members.{In}
 use Rattle.world_store.specs.LogRows.{head_of}
@@ -71,24 +70,9 @@ MayAppendUnit unit = AllByRecursion MayBePut (unit_records unit)
 
 -- ---- logs
 
--- one more change of a transaction is in flight for it, and for no other
-abbrev pub ChangeOpens : Type 0
-ChangeOpens = (tx t : ℕ) (change : Change) (log : List LogRecord)
-    → open_changes tx (log ++ records.Change t change ∷ [])
-    ≡ (if t == tx then open_changes tx log ++ record { pos = length log + 1; change = change } ∷ [] else open_changes tx log)
-
--- a commit of a transaction leaves it nothing in flight, and the others what they have
-abbrev pub CommitCloses : Type 0
-CommitCloses = (tx t time : ℕ) (authid : List ℕ) (origin : Option SetId) (log : List LogRecord)
-    → open_changes tx (log ++ records.Commit t time authid origin ∷ []) ≡ (if t == tx then [] else open_changes tx log)
-
 -- the committed rows of a table
 abbrev pub committed : List LogRecord → TableDef → Rows
 committed log def = source_at def log (last_commit log)
-
--- one more change leaves them
-abbrev pub ChangeLeavesRows : Type 0
-ChangeLeavesRows = (def : TableDef) (tx : ℕ) (change : Change) (log : List LogRecord) → committed (log ++ records.Change tx change ∷ []) def ≡ committed log def
 
 -- ---- what is put
 

@@ -17,7 +17,6 @@ ghost use Rattle.site_store.specs.Calls.{ClosesOne, KeepsServers};
 ghost use Rattle.source_log.specs.Appending.{TakesFirst, TakesAll, CommitsEnd, MayCommitEnd};
 ghost use Rattle.source_log.specs.Appending.{HasAppended, HasNotAppended, BlamesOrStops, stop_at};
 
-use crate::laws::{laws_of_logs, laws_of_worlds};
 use crate::outcome::Outcome;
 use crate::progress::Progress;
 use crate::shared_table::SharedTable;
@@ -71,7 +70,6 @@ fn take_first<K: Keeper>(
     ensures few { IfOk result (λ progress. progress.taken ≤ length records.now) }
     ensures fault { IfErr result (Breaks rules K.kept sites.old sites.new server) }
 {
-    laws_of_worlds();
     let mut end = head;
     let mut known: Option<SharedTable> = None;
     'records: for (taken, record) in records.iter().enumerate() {
@@ -177,8 +175,6 @@ pub fn append<K: Keeper>(
         (ShowsDamage K.kept sites.old server)) }
     ensures servers { KeepsServers K.kept sites.old sites.new }
 {
-    laws_of_logs();
-    laws_of_worlds();
     sites.begin(server)?;
     let progress = match take_all(sites, alloc, server, records) {
         Ok(progress) => progress,

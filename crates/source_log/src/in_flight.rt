@@ -6,7 +6,6 @@ ghost use Rattle.site_store.specs.one_server.Calls.{Looks, GoesOn, Breaks, Fails
 ghost use Rattle.source_log.specs.Reading.{IsNextPosition, IsAbove, ArePositions, with_dropped};
 ghost use Rattle.source_log.specs.Rules.{rules};
 
-use crate::laws::laws_of_transactions;
 use keep_core::Keeper;
 use repl_records::{InFlight, InFlightKey};
 use repl_types::{Fault, List};
@@ -29,7 +28,6 @@ fn next_position<K: Keeper>(
     ensures rises { IfOk result (λ next. IfSome next (IsAbove after)) }
     ensures fault { IfErr result (Breaks rules K.kept sites.old sites.new server) }
 {
-    laws_of_transactions();
     let last = InFlightKey { tx, pos: after };
     let Some((key, _row)) = sites.next::<InFlight>(alloc, server, Table0, Some(&last))? else {
         return Ok(None);
@@ -53,7 +51,6 @@ pub fn positions_of<K: Keeper>(
         (ArePositions tx positions)) }
     ensures fault { IfErr result (Breaks rules K.kept sites.old sites.new server) }
 {
-    laws_of_transactions();
     let mut positions = List::new(alloc);
     let mut last = 0;
     loop {

@@ -22,7 +22,6 @@
 mod appending;
 mod fitting;
 mod in_flight;
-mod laws;
 mod making;
 mod outcome;
 mod progress;

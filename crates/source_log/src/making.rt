@@ -8,7 +8,6 @@ ghost use Rattle.source_log.specs.Making.{StepCanBeMade, MakesOne, MakesFirst, M
 ghost use Rattle.source_log.specs.Making.{all_unmade};
 ghost use Rattle.source_log.specs.Rules.{rules};
 
-use crate::laws::laws_of_turns;
 use crate::outcome::Outcome;
 use crate::source::{change_applies, make_change, unmake_change};
 use crate::step::Step;
@@ -55,7 +54,6 @@ fn make_first<K: Keeper>(
     ensures few { IfOk result (λ made. made < length steps.now + 1) }
     ensures fault { IfErr result (Breaks rules K.kept sites.old sites.new server) }
 {
-    laws_of_turns();
     'steps: for (made, step) in steps.iter().enumerate() {
         let applies = make_one(sites, alloc, server, step)?;
         if !applies {

@@ -16,7 +16,6 @@ ghost use Rattle.source_log.specs.Rules.{EndIs, BreaksFirst};
 ghost use Rattle.source_log.specs.Scanning.{IsSeenAs, HasCommitted, IsNextCommitted, ShowsBadRow};
 
 use crate::appending::read_end;
-use crate::laws::{laws_of_logs, laws_of_reads, laws_of_worlds};
 use keep_core::Keeper;
 use repl_definitions::DefinedTable;
 use repl_records::{Head, SourceRow};
@@ -45,8 +44,6 @@ pub fn last_commit<K: Keeper>(
     ensures undamaged { IfErr result (λ e. (w : World) → IsSeenAs K.kept sites.old server w
         → IsNoDamage e) }
 {
-    laws_of_logs();
-    laws_of_worlds();
     match read_end(sites, alloc, server) {
         Ok(head) => Ok(head),
         Err(e) => {
@@ -87,8 +84,6 @@ fn next_row<K: Keeper>(
     ensures fault { IfErr result (Stops K.kept sites.old sites.new
         (ShowsBadRow K.kept sites.old server table.now.number)) }
 {
-    laws_of_logs();
-    laws_of_reads();
     let last = key_of_last(alloc, table, after)?;
     let next = sites.next::<SourceRow>(alloc, server, table.number, last.as_ref())?;
     let Some((_key, stored)) = next else {
@@ -120,8 +115,6 @@ pub fn scan_table<K: Keeper>(
     ensures undamaged { IfErr result (λ e. (s : Server) (c : Contents)
         → sees K.kept sites.old server ≡ Some c → HasCommitted s table.now c → IsNoDamage e) }
 {
-    laws_of_logs();
-    laws_of_reads();
     match next_row(sites, alloc, server, table, after) {
         Ok(found) => Ok(found),
         Err(e) => {

@@ -15,7 +15,6 @@ ghost use Rattle.source_log.specs.Making.{Tells, with_made};
 ghost use Rattle.source_log.specs.Reading.{FindsRow, HasFreeKey};
 ghost use Rattle.source_log.specs.Rules.{rules};
 
-use crate::laws::{laws_of_reads, laws_of_source};
 use keep_core::Keeper;
 use repl_definitions::DefinedTable;
 use repl_records::SourceRow;
@@ -75,7 +74,6 @@ fn put_row<K: Keeper>(
         (key_spelling (key_of_lem table.now.def row.now)) (Some (row_spelling row.now)))) }
     ensures fault { IfErr result (FailsToWrite K.kept sites.old sites.new) }
 {
-    laws_of_source();
     let key = key_of(alloc, &table.def, row)?;
     let stored = stored_row(row)?;
     sites.put::<SourceRow>(alloc, server, table.number, &key, &stored)?;
@@ -190,7 +188,6 @@ fn insert_applies<K: Keeper>(
         (λ c. (name : List ℕ) → Tells table.now (Insert name row.now) answer c)) }
     ensures fault { IfErr result (Breaks rules K.kept sites.old sites.new server) }
 {
-    laws_of_reads();
     let key = key_of(alloc, &table.def, row)?;
     let found = find_row(sites, alloc, server, table.number, &key)?;
     Ok(found.is_none())
@@ -211,7 +208,6 @@ fn delete_applies<K: Keeper>(
         (λ c. (name : List ℕ) → Tells table.now (Delete name row.now) answer c)) }
     ensures fault { IfErr result (Breaks rules K.kept sites.old sites.new server) }
 {
-    laws_of_reads();
     let key = key_of(alloc, &table.def, row)?;
     let found = find_row(sites, alloc, server, table.number, &key)?;
     Ok(is_row(row, &found))
@@ -258,7 +254,6 @@ fn update_applies<K: Keeper>(
         (λ c. (name : List ℕ) → Tells table.now (Update name before.now after.now) answer c)) }
     ensures fault { IfErr result (Breaks rules K.kept sites.old sites.new server) }
 {
-    laws_of_reads();
     let old_key = key_of(alloc, &table.def, before)?;
     let found = find_row(sites, alloc, server, table.number, &old_key)?;
     if !is_row(before, &found) {

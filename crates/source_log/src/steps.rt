@@ -12,7 +12,6 @@ ghost use Rattle.source_log.specs.Rules.{rules, IsInFlight, IsLogged, HasTable, 
 ghost use Rattle.source_log.specs.Rules.{IsKeptChange};
 
 use crate::fitting::may_stand;
-use crate::laws::laws_of_changes;
 use crate::shared_table::SharedTable;
 use crate::step::Step;
 use keep_core::Keeper;
@@ -118,7 +117,6 @@ fn read_step<K: Keeper>(
     ensures can { IfOk result StepCanBeMade }
     ensures fault { IfErr result (Breaks rules K.kept sites.old sites.new server) }
 {
-    laws_of_changes();
     let logged = sites.get_needed::<LogRecord>(alloc, server, Table0, &pos)?;
     let Some(change) = change_of(tx, logged) else {
         return Err(stray(sites, alloc, server, tx, pos));

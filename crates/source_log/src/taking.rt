@@ -17,7 +17,6 @@ ghost use Rattle.source_log.specs.Storing.{TakesRecord, TakesKnowing, HasRoom, I
 
 use crate::fitting::may_stand;
 use crate::in_flight::{drop_changes, positions_of};
-use crate::laws::{laws_of_logs, laws_of_source, laws_of_turns};
 use crate::making::make_all;
 use crate::outcome::Outcome;
 use crate::shared_table::SharedTable;
@@ -127,8 +126,6 @@ fn take_change<K: Keeper>(
     ensures room { IfOk result (HasRoom head.now) }
     ensures fault { IfErr result (Breaks rules K.kept sites.old sites.new server) }
 {
-    laws_of_source();
-    laws_of_logs();
     let found = find_table(sites, alloc, server, table_of(change), known)?;
     let Some(table) = found else {
         return Ok(Outcome::NotApplicable);
@@ -162,8 +159,6 @@ fn take_abort<K: Keeper>(
     ensures room { IfOk result (HasRoom head.now) }
     ensures fault { IfErr result (Breaks rules K.kept sites.old sites.new server) }
 {
-    laws_of_source();
-    laws_of_logs();
     if !has_room(head) {
         return Ok(Outcome::Full);
     }
@@ -201,9 +196,6 @@ fn take_commit<K: Keeper>(
     ensures room { IfOk result (HasRoom head.now) }
     ensures fault { IfErr result (Breaks rules K.kept sites.old sites.new server) }
 {
-    laws_of_source();
-    laws_of_logs();
-    laws_of_turns();
     if time < head.time {
         return Ok(Outcome::NotApplicable);
     }

@@ -18,7 +18,6 @@ ghost use Rattle.source_log.specs.Storing.{StoresWhole};
 
 use crate::appending::read_end;
 use crate::fitting::may_stand;
-use crate::laws::{laws_of_changes, laws_of_logs, laws_of_turns, laws_of_units, laws_of_worlds};
 use crate::source::make_change;
 use crate::taking::LOG_LIMIT;
 use keep_core::Keeper;
@@ -87,7 +86,6 @@ fn make_own<K: Keeper>(
     ensures fault { IfErr result (Stops K.kept sites.old sites.new
         (ShowsBadTable K.kept sites.old server (placed.now ∷ []))) }
 {
-    laws_of_changes();
     let change = &placed.change;
     if is_signal(change) {
         return Ok(());
@@ -139,9 +137,6 @@ fn put_changes<K: Keeper>(
     ensures fault { IfErr result (Stops K.kept sites.old sites.new
         (ShowsBadTable K.kept sites.old server changes.now)) }
 {
-    laws_of_logs();
-    laws_of_turns();
-    laws_of_changes();
     'changes: for (done, placed) in changes.iter().enumerate() {
         put_own(sites, alloc, server, last + done as u64 + 1, placed)?;
     }
@@ -188,9 +183,6 @@ fn put_unit<K: Keeper>(
     ensures fault { IfErr result (Stops K.kept sites.old sites.new
         (ShowsUnitDamage K.kept sites.old server unit.now)) }
 {
-    laws_of_logs();
-    laws_of_worlds();
-    laws_of_units();
     let head = read_end(sites, alloc, server)?;
     let changes = unit.changes.as_slice();
     if !has_room_for(&head, changes.len()) {
@@ -227,8 +219,6 @@ pub fn append_unit<K: Keeper>(
         → sees K.kept sites.old server ≡ Some c → StoresWhole s c → ChangesFit s unit.now
         → IsUndamagedAppend e) }
 {
-    laws_of_logs();
-    laws_of_worlds();
     match put_unit(sites, alloc, server, unit) {
         Ok(Some(seq)) => Ok(seq),
         Ok(None) => Err(AppendError::LogFull(0)),

@@ -1,14 +1,13 @@
 -- The servers that a run needs are servers.
-use Rattle.std.proofs.Common.{◌≡◌, ◌<◌, ℕ, List, [], ◌∷◌, length, get_or, map, codes, refl, sym, ◌∙◌, zero, suc, arith}
-use Rattle.std.specs.List.{AllPairs}
+use Rattle.std.proofs.Common.{◌≡◌, ◌<◌, ℕ, List, [], ◌∷◌, length, get_or, map, codes, refl, sym, ◌∙◌, zero, suc, arith, AllPairs}
 use Rattle.std.proofs.lemmas.Bool.{false≢true}
 use Rattle.std.proofs.lemmas.List.{length-map}
 use Rattle.std.proofs.lemmas.Slice.Eq.{bytes_eq-Decides}
+use Rattle.site_store.specs.Words.{AreServers, AreApart}
 use Rattle.run_words.specs.declared.opening.Opening.{Opening}
 use Rattle.run_words.specs.declared.opening.Opening.TheVariants.{Copy, Servers}
 use Rattle.run_words.specs.declared.opening.ServerWord.{ServerWord}
 use Rattle.run_words.specs.Openings.{IsOpening, GoTogether}
-use Rattle.site_store.specs.Servers.{AreServers, AreApart}
 use Rattle.session_core.specs.Session.{server_names}
 use Rattle.sqlrep.specs.Opened.{needed_servers}
 

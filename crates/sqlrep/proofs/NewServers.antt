@@ -1,21 +1,18 @@
 -- Servers that were just opened.
-use Rattle.std.proofs.Common.{◌≡◌, ◌≢◌, ◌∙◌, ◌<◌, ◌+◌, ℕ, zero, suc, List, [], ◌∷◌, ◌++◌, map, take, length, get_or, false, refl, sym, ap, ap₂, subst, arith}
-use Rattle.std.specs.Prelude.{Some, None, IsTrue}
+use Rattle.std.proofs.Common.{◌≡◌, ◌≢◌, ◌∙◌, ◌<◌, ◌+◌, ℕ, zero, suc, List, [], ◌∷◌, ◌++◌, map, take, length, get_or, false, refl, sym, ap, ap₂, subst, arith, Some, None, IsTrue, bytes_eq}
 use Rattle.std.proofs.lemmas.Bool.{and_parts}
 use Rattle.std.proofs.lemmas.List.{map-append}
 use Rattle.std.proofs.lemmas.Slice.Eq.{bytes_eq-Decides}
 use Rattle.std.specs.List.{AllZip, list_any}
-use Rattle.std.specs.Str.{bytes_eq}
 use Rattle.std.proofs.lemmas.Grind.{common_steps}
-use Rattle.keep_core.specs.Contents.{nothing}
+use Rattle.site_store.specs.Words.{nothing, names_of, site_name, site_keeper, held_of, work_of, AllClosed, AreApart}
+use Rattle.site_store.specs.declared.site.Site.{Site}
+use Rattle.repl_model.specs.Words.{all_differ}
 use Rattle.keep_sqlite.specs.AnyKeepers.{any_kept}
 use Rattle.keep_sqlite.specs.declared.any_keeper.AnyKeeper.{AnyKeeper}
 use Rattle.keep_sqlite.specs.declared.any_keeper.AnyKeeper.TheVariants.{Map, Sqlite}
 use Rattle.run_words.specs.Openings.{map_path}
 use Rattle.run_words.specs.declared.opening.ServerWord.{ServerWord}
-use Rattle.site_store.specs.Servers.{names_of, site_name, site_keeper, held_of, work_of, AllClosed, AreApart}
-use Rattle.site_store.specs.declared.site.Site.{Site}
-use Rattle.lists.specs.Lists.{all_differ}
 use Rattle.sqlrep.specs.Opened.{all_in_memory, IsOpened, AreOpened}
 
 -- the elements up to one more place

@@ -1,14 +1,12 @@
 -- Runs at servers that were just opened, and how they end.
-use Rattle.std.proofs.Common.{◌≡◌, ◌≤◌, ◌∙◌, ℕ, List, [], ◌∷◌, map, true, refl, sym, ap, subst, suc, arith}
-use Rattle.std.specs.Prelude.{Option, Some, None, IsTrue}
+use Rattle.std.proofs.Common.{◌≡◌, ◌≤◌, ◌∙◌, ℕ, List, [], ◌∷◌, map, true, refl, sym, ap, subst, suc, arith, Option, Some, None, IsTrue}
 use Rattle.std.specs.List.{All, AllByRecursion}
-use Rattle.keep_core.specs.Contents.{Contents, nothing}
+use Rattle.world_store.specs.Words.{Stands}
+use Rattle.site_store.specs.Words.{Contents, nothing, list_of, names, held}
+use Rattle.site_store.specs.declared.sites.Sites.{Sites}
+use Rattle.repl_model.specs.Words.{AreServerNames, empty_world, is_name, Status}
 use Rattle.keep_sqlite.specs.AnyKeepers.{any_kept}
 use Rattle.keep_sqlite.specs.declared.any_keeper.AnyKeeper.{AnyKeeper}
-use Rattle.repl_model.specs.Sound.{AreServerNames}
-use Rattle.repl_model.specs.World.{empty_world}
-use Rattle.repl_types.specs.Name.{is_name}
-use Rattle.repl_types.specs.declared.status.Status.{Status}
 use Rattle.repl_types.specs.declared.status.Status.TheVariants as statuses
 use Rattle.run_words.specs.Openings.{IsOpening, IsServerWord, AreWordsOf}
 use Rattle.run_words.specs.declared.opening.Opening.{Opening}
@@ -16,9 +14,6 @@ use Rattle.run_words.specs.declared.opening.Opening.TheVariants.{Copy, Servers}
 use Rattle.run_words.specs.declared.opening.ServerWord.{ServerWord}
 use Rattle.session_core.specs.Inputs.{OfInput}
 use Rattle.session_core.specs.Session.{Asks, Ran, is_done, run_events, server_names}
-use Rattle.site_store.specs.Views.{list_of, names, held}
-use Rattle.site_store.specs.declared.sites.Sites.{Sites}
-use Rattle.world_store.specs.Stands.{Stands}
 use Rattle.sqlrep.specs.Endings.{code_of, done_code, usage_code}
 use Rattle.sqlrep.specs.Opened.{needed_servers, all_in_memory, AreOpened}
 use Rattle.sqlrep.specs.Runs.{RanWhole}

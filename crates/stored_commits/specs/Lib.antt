@@ -4,3 +4,4 @@ pub mod copies
 pub mod logs
 pub mod captures
 pub mod actions
+pub mod laws

@@ -1,30 +1,11 @@
 -- The records of a table are read one after another.
-use Rattle.std.proofs.Common.{◌≡◌, ℕ, ◌<◌, List, [], ◌∷◌, ◌++◌, length, refl, sym, ap, subst, ◌∙◌, append_assoc, append-nil, length-append, arith}
-use Rattle.std.specs.Prelude.{map, Option, Some, None}
+use Rattle.std.proofs.Common.{◌≡◌, ℕ, ◌<◌, List, [], ◌∷◌, ◌++◌, length, refl, sym, ap, subst, ◌∙◌, append_assoc, append-nil, length-append, arith, map, Option, Some, None}
 use Rattle.std.proofs.lemmas.List.{nil_from_length, length-map}
-use Rattle.repl_types.specs.declared.area.Area.{Area}
-use Rattle.repl_types.specs.laws.Lists.{all_append, filter_none}
-use Rattle.repl_types.specs.declared.fault.Fault.{Fault}
-use Rattle.keep_core.specs.Contents.{Contents, Table, IsNextKey, IsLastKey}
-use Rattle.keep_core.specs.Kept.{Kept}
-use Rattle.row_codec.specs.Takes.{One}
-use Rattle.row_codec.specs.laws.Ones.{one_whole}
-use Rattle.rows_in_order.specs.Rows.{table_from_rows, is_before, rows_after, SpellsApart}
-use Rattle.rows_in_order.specs.laws.After.{after_all, after_first, after_next}
-use Rattle.rows_in_order.specs.laws.Fitting.{fits_next}
-use Rattle.rows_in_order.specs.laws.Found.{all_some}
-use Rattle.rows_in_order.specs.laws.Rising.{no_row}
+use Rattle.world_store.specs.Words.{One, one_whole, table_from_rows, is_before, rows_after, SpellsApart, after_all, after_first, after_next, fits_next, all_some, no_row, definition_limit, RowFits, AreRows}
+use Rattle.site_store.specs.Words.{Contents, Table, IsNextKey, IsLastKey, Kept, sees, after_key, Misread, MisspeltNext, reads_of_one, AtServer, Stays, Fails, Damages, at_most_itself, fails_after, next_fails, reads_more}
 use Rattle.site_store.specs.declared.sites.Sites.{Sites}
-use Rattle.site_store.specs.Views.{sees}
-use Rattle.site_store.specs.Records.{after_key, Misread, MisspeltNext}
-use Rattle.site_store.specs.Calls.{reads_of_one, AtServer, Stays, Fails}
-use Rattle.site_store.specs.Damage.{Damages}
-use Rattle.site_store.specs.laws.Counts.{at_most_itself}
-use Rattle.site_store.specs.laws.Damage.{fails_after}
-use Rattle.site_store.specs.laws.Steps.{next_fails}
+use Rattle.repl_model.specs.Words.{Area, all_append, filter_none, Fault}
 use Rattle.stored_defs.specs.Reading.{HasRecords, AllStand, table_rules}
-use Rattle.world_store.specs.SpelledRows.{definition_limit, RowFits, AreRows}
-use Rattle.site_store.specs.laws.Passing.{reads_more}
 
 module _ {A X : Type 0} (key_fits : A → Type 0) (key : A → List ℕ) (fits : X → Type 0) (spelling : X → List ℕ) (a : Area) (t : ℕ) where
   -- the records that were read, followed by those of the rows after the last key, are the records of all rows

@@ -1,11 +1,7 @@
 -- What a set does next, case by case.
-use Rattle.std.proofs.Common.{◌≡◌, ℕ, ◌<◌, ◌≤◌, Bool, true, false, not, ◌||◌, cond, [], ◌∷◌, length, refl, sym, ap, ap₂, ◌∙◌, arith}
-use Rattle.std.specs.Prelude.{nat_le, nat_lt}
-use Rattle.std.proofs.lemmas.Bool.{le-leb, lt-ltb, leb-true}
-use Rattle.repl_model.specs.NextActions.{reports, idles, by_gap, gap_of, is_new, refresh_by_signal, next_action}
-use Rattle.repl_model.specs.Trails.{Trail, synchpoint}
-use Rattle.repl_model.specs.World.{KnownSet}
-use Rattle.world_store.specs.TargetRows.{has_points}
+use Rattle.std.proofs.Common.{◌≡◌, ℕ, ◌<◌, ◌≤◌, Bool, true, false, not, ◌||◌, cond, [], ◌∷◌, length, refl, sym, ap, ap₂, ◌∙◌, arith, nat_le, nat_lt, le-leb, lt-ltb, leb-true}
+use Rattle.world_store.specs.Words.{has_points}
+use Rattle.repl_model.specs.Words.{reports, idles, by_gap, gap_of, is_new, refresh_by_signal, next_action, Trail, synchpoint, KnownSet}
 use Rattle.subs_sets.specs.Actions.{once_refreshed}
 
 -- a number isn't above another that is above it

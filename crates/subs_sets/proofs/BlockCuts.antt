@@ -1,28 +1,14 @@
 -- Where a block ends: the units that it takes, and the others that are captured.
-use Rattle.std.proofs.Common.{◌≡◌, ℕ, zero, suc, ◌+◌, ◌*◌, ◌<◌, ◌≤◌, ◌^◌, Bool, true, false, ◌&&◌, ◌||◌, cond, List, [], ◌∷◌, ◌++◌, length, map, filter, fold, append_assoc, length-append, refl, sym, ap, ap₂, subst, ◌∙◌, arith, inl}
-use Rattle.std.specs.Prelude.{◌==◌, nat_le, nat_lt, min, Option, Some, None}
+use Rattle.std.proofs.Common.{◌≡◌, ℕ, zero, suc, ◌+◌, ◌*◌, ◌<◌, ◌≤◌, ◌^◌, Bool, true, false, ◌&&◌, ◌||◌, cond, List, [], ◌∷◌, ◌++◌, length, map, filter, fold, append_assoc, length-append, refl, sym, ap, ap₂, subst, ◌∙◌, arith, inl, ◌==◌, nat_le, nat_lt, min, Option, Some, None}
 use Rattle.std.specs.List.{AllByRecursion, enumerate_from, last_or}
 use Rattle.std.specs.Option.{option_map_or}
 use Rattle.std.proofs.lemmas.Bool.{and_parts, and_from, both_ways, le-leb, leb-true, lt-ltb, ltb-true, or_right}
-use Rattle.std.proofs.lemmas.List.FromFn.{length-enumerate_from}
 use Rattle.std.proofs.lemmas.Option.{none-some}
-use Rattle.repl_types.specs.declared.record.LogRecord.{LogRecord}
+use Rattle.repl_model.specs.Words.{filter_none, SetDef, is_within, first_cut, block_end, IsSound, log_limit, LogIsSound, times_rise, units_between, synchpoint, units, last_seq, World, KnownSet, In, at_one, in_filter, alike, units_few}
+use Rattle.world_store.specs.Words.{IsUow, filter_few}
 use Rattle.repl_types.specs.declared.unit.Unit.{Unit as LogUnit}
-use Rattle.repl_types.specs.laws.Lists.{filter_none}
-use Rattle.repl_definitions.specs.declared.set.SetDef.{SetDef}
-use Rattle.repl_records.specs.Capture.{IsUow}
-use Rattle.repl_model.specs.NextActions.{is_within, first_cut, block_end}
-use Rattle.repl_model.specs.Sound.{IsSound}
-use Rattle.repl_model.specs.SoundLogs.{log_limit, LogIsSound, times_rise}
-use Rattle.repl_model.specs.SourceAt.{units_between}
-use Rattle.repl_model.specs.Trails.{synchpoint}
-use Rattle.repl_model.specs.Units.{positions, unit_at, units, last_seq}
-use Rattle.repl_model.specs.World.{World, KnownSet}
 use Rattle.world_commits.specs.captures.laws.Units.{others_after}
-use Rattle.lists.specs.laws.Members.{In, at_one, in_filter}
-use Rattle.lists.specs.laws.Places.{alike, filter_map_few}
 use Rattle.subs_sets.specs.Cuts.{captured_after, first_unit, is_within_limits}
-use Rattle.world_store.specs.laws.FewRows.{filter_few}
 use Rattle.subs_sets.specs.laws.UnitRows.{unit_row, captured_units, captured_rise, captured_times, captured_fit, times_filter, times_later}
 
 -- the units that come next at a set
@@ -139,11 +125,6 @@ after_point floor point high (u ∷ us) le = pick (nat_lt floor u.head.seq) refl
         none false = refl
     pick true ea true eb true ih = ap (λ (t : Bool). cond t (u ∷ filter (λ v. nat_lt point v.head.seq) (filter (λ v. nat_lt floor v.head.seq && nat_le v.head.seq high) us)) (filter (λ v. nat_lt point v.head.seq) (filter (λ v. nat_lt floor v.head.seq && nat_le v.head.seq high) us))) eb ∙ ap (λ (l : List LogUnit). u ∷ l) ih
     pick true ea false eb true ih = ap (λ (t : Bool). cond t (u ∷ filter (λ v. nat_lt point v.head.seq) (filter (λ v. nat_lt floor v.head.seq && nat_le v.head.seq high) us)) (filter (λ v. nat_lt point v.head.seq) (filter (λ v. nat_lt floor v.head.seq && nat_le v.head.seq high) us))) eb ∙ ih
-
--- a log has no more units than records
-units_few : (log : List LogRecord) → length (units log) ≤ length log
-unfolding units
-units_few log = omega (arith, filter_map_few (unit_at log) (positions log), length-enumerate_from 1 log)
 
 -- ---- where a block ends
 

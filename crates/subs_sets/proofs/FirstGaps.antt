@@ -1,13 +1,9 @@
 -- The gap of a set, by the first of those of its members, and that of the unit-of-work table.
-use Rattle.std.proofs.Common.{◌≡◌, ℕ, ◌<◌, ◌≤◌, Bool, cond, List, [], ◌∷◌, refl, sym, ap, subst, ◌∙◌}
-use Rattle.std.specs.Prelude.{Option, Some, None}
+use Rattle.std.proofs.Common.{◌≡◌, ℕ, ◌<◌, Bool, cond, List, [], ◌∷◌, refl, sym, ap, subst, ◌∙◌, Option, Some, None, lt-ltb}
 use Rattle.std.specs.List.{filter_map, list_any}
-use Rattle.std.proofs.lemmas.Bool.{lt-ltb, le-ltb}
 use Rattle.std.proofs.lemmas.Option.{none-some}
+use Rattle.repl_model.specs.Words.{Gap, member_gap, uow_gap, is_disabled, gap_of, synchpoint, KnownSet}
 use Rattle.repl_types.specs.declared.refusal.GapPlace.TheVariants as gaps
-use Rattle.repl_model.specs.NextActions.{Gap, member_gap, uow_gap, is_disabled, gap_of}
-use Rattle.repl_model.specs.Trails.{synchpoint}
-use Rattle.repl_model.specs.World.{KnownSet}
 use Rattle.subs_sets.specs.Gaps.{first_of}
 
 -- the first of some gaps, or another one if there is none
@@ -44,13 +40,6 @@ pub pruned_gap : (k : KnownSet) (point floor : ℕ) (name : List ℕ) (disabled 
 pruned_gap k point floor name disabled same named forbidden past =
     (λ i. Some (record { place = gaps.Uow (named i) (same i); disabled = forbidden i }))
     ∙ ap (λ (b : Bool). cond b (Some made) None) (sym (lt-ltb point k.source.floor (subst (λ (n : ℕ). point < n) same past)))
-  where
-    made : Gap
-    made = record { place = gaps.Uow k.source.name k.source.floor; disabled = list_any (is_disabled k.source) k.at_source.def.members }
-
--- one that isn't has none
-pub no_pruned_gap : (k : KnownSet) (point floor : ℕ) → floor ≡ k.source.floor → floor ≤ point → None ≡ uow_gap k.source point k.at_source.def.members
-no_pruned_gap k point floor same before = ap (λ (b : Bool). cond b (Some made) None) (sym (le-ltb point k.source.floor (subst (λ (n : ℕ). n ≤ point) same before)))
   where
     made : Gap
     made = record { place = gaps.Uow k.source.name k.source.floor; disabled = list_any (is_disabled k.source) k.at_source.def.members }

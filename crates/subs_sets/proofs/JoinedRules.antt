@@ -1,13 +1,8 @@
 -- Damage by the rules of a part is damage by the rules of the whole.
 use Rattle.std.proofs.Common.{◌≡◌, ℕ, ◌<◌, length, sym, subst}
-use Rattle.repl_types.specs.declared.fault.Fault.{Fault}
-use Rattle.keep_core.specs.Kept.{Kept}
+use Rattle.site_store.specs.Words.{Kept, Rules, joined, Damages, names, sees, shown_first, shown_second, Breaks, Stops, stops_as}
 use Rattle.site_store.specs.declared.sites.Sites.{Sites}
-use Rattle.site_store.specs.Damage.{Rules, joined, Damages}
-use Rattle.site_store.specs.Views.{names, sees}
-use Rattle.site_store.specs.laws.Damage.{shown_first, shown_second}
-use Rattle.site_store.specs.one_server.Calls.{Breaks, Stops}
-use Rattle.site_store.specs.one_server.laws.Faults.{stops_as}
+use Rattle.repl_model.specs.Words.{Fault}
 use Rattle.set_places.specs.Members.{member_rules}
 use Rattle.prune_control.specs.Noting.{mark_rules}
 use Rattle.subs_sets.specs.Rules.{captured_rules, source_rules, state_rules, ShowsDamage}

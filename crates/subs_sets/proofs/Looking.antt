@@ -1,13 +1,9 @@
 -- Reads, and what is seen after them.
 use Rattle.std.proofs.Common.{◌≡◌, ℕ, false, arith, ◌∙◌}
-use Rattle.repl_types.specs.declared.area.Area.{Area}
-use Rattle.repl_types.specs.declared.area.Area.TheVariants as areas
-use Rattle.keep_core.specs.Kept.{Kept}
-use Rattle.repl_model.specs.World.{World, KnownSet}
+use Rattle.site_store.specs.Words.{Kept, Reads, reads_of_one, Looks, looks_sees}
 use Rattle.site_store.specs.declared.sites.Sites.{Sites}
-use Rattle.site_store.specs.Calls.{Reads, reads_of_one}
-use Rattle.site_store.specs.one_server.Calls.{Looks}
-use Rattle.site_store.specs.one_server.laws.Reads.{looks_sees}
+use Rattle.repl_model.specs.Words.{Area, World, KnownSet}
+use Rattle.repl_types.specs.declared.area.Area.TheVariants as areas
 use Rattle.set_places.specs.declared.placed_set.PlacedSet.{PlacedSet}
 use Rattle.set_places.specs.Members.{ForSource}
 use Rattle.set_places.specs.Reading.{is_of_definitions, ReadsOnly}

@@ -1,42 +1,20 @@
 -- The gaps of members, by their registrations that were read.
-use Rattle.std.proofs.Common.{◌≡◌, ℕ, Bool, true, false, List, length, refl, sym, ap, ap₂, subst, ◌∙◌}
-use Rattle.std.specs.Prelude.{Option, Some, None, IfSome, is_some, slice_get}
+use Rattle.std.proofs.Common.{◌≡◌, ℕ, Bool, true, false, List, length, refl, sym, ap, ap₂, subst, ◌∙◌, Option, Some, None, IfSome, is_some, slice_get}
 use Rattle.std.specs.Option.{option_and_then, option_map_or}
 use Rattle.std.proofs.lemmas.Bool.{false≢true}
 use Rattle.std.proofs.lemmas.Option.{same_Some}
+use Rattle.world_store.specs.Words.{b32, one_whole, registration_state_spelling, IsRegistrationState, RegState, one_registration_state, Reveals}
+use Rattle.site_store.specs.Words.{Contents, RowIs}
+use Rattle.repl_model.specs.Words.{Registration, GapPlace, DefinedRegistration, Member, SetDef, is_disabled, place_of_gap, member_gap, registration_of, IsSound, Registered, ServerTable, World, KnownSet, at_place_in, given_in}
 use Rattle.repl_types.specs.declared.area.Area.TheVariants as areas
-use Rattle.repl_types.specs.declared.change_row.Registration.{Registration}
-use Rattle.repl_types.specs.declared.refusal.GapPlace.{GapPlace}
-use Rattle.keep_core.specs.Contents.{Contents}
-use Rattle.row_codec.specs.Spelling.{b32}
-use Rattle.row_codec.specs.laws.Ones.{one_whole}
-use Rattle.repl_definitions.specs.declared.defined.DefinedRegistration.{DefinedRegistration}
-use Rattle.repl_definitions.specs.declared.member.Member.{Member}
-use Rattle.repl_definitions.specs.declared.set.SetDef.{SetDef}
-use Rattle.repl_records.specs.Capture.{registration_state_spelling, IsRegistrationState}
-use Rattle.repl_records.specs.declared.capture.RegState.{RegState}
-use Rattle.repl_records.specs.laws.Capture.{one_registration_state}
 use Rattle.repl_model.specs.NextActions as model
-use Rattle.repl_model.specs.NextActions.{is_disabled, place_of_gap, member_gap, registration_of}
-use Rattle.repl_model.specs.Sound.{IsSound}
-use Rattle.repl_model.specs.SoundDefinitions.{SetKeepsLimits, UnknownSource, ServerKeepsRules}
-use Rattle.repl_model.specs.World.{Registered, ServerTable, SourceSide, World, KnownSet}
-use Rattle.site_store.specs.Records.{RowIs}
-use Rattle.world_store.specs.Stands.{Reveals}
-use Rattle.lists.specs.laws.Numbered.{at_place_in}
-use Rattle.lists.specs.laws.Members.{at_one, given_in}
 use Rattle.set_places.specs.declared.placed_set.PlacedSet.{PlacedSet}
 use Rattle.set_places.specs.Members.{IsRegistrationOf}
 use Rattle.set_places.specs.Places.{IsPlacedAs}
 use Rattle.subs_sets.specs.Gaps.{registered_in, gap_of_found}
 use Rattle.subs_sets.specs.declared.gaps.Gap.{Gap}
 use Rattle.subs_sets.specs.laws.Captured.{state_of, registered_fits, registration_at}
-
--- the source of a placed set has the name that the set's row says
-pub source_name : (w : World) (k : KnownSet) (set : PlacedSet) → IsSound w → IsPlacedAs w k set → set.at_source.def.source ≡ k.source.name
-source_name w k set sound placed =
-    let keeps = at_one (ServerKeepsRules w) w k.source sound.definitions.servers (at_place_in w set.source k.source placed.source) in
-    ap (λ (def : SetDef). def.source) placed.source_def ∙ (at_one (λ (s : SourceSide). (s.def.source ≡ k.source.name) × SetKeepsLimits w s.def × UnknownSource w k.source s) k.source.source_sets k.at_source keeps.sources (at_place_in k.source.source_sets set.at_source.number k.at_source placed.at_source)).0
+use Rattle.set_places.specs.laws.Standing.{source_name}
 
 -- the world's set has as many members as the one that was found
 pub as_many : (members : List Member) (k : KnownSet) (def : SetDef) → members ≡ def.members → def ≡ k.at_source.def → length members ≡ length k.at_source.def.members

@@ -1,29 +1,11 @@
 -- The first captured unit after a point, by the row that was read.
-use Rattle.std.proofs.Common.{◌≡◌, ℕ, ◌<◌, ◌≤◌, ◌^◌, Bool, List, [], ◌∷◌, ◌++◌, map, filter, cond, refl, sym, ap, ap₂, subst, ◌∙◌, arith}
-use Rattle.std.specs.Prelude.{Option, Some, None, IfSome, nat_lt}
+use Rattle.std.proofs.Common.{◌≡◌, ℕ, ◌<◌, ◌≤◌, ◌^◌, Bool, List, [], ◌∷◌, ◌++◌, map, filter, cond, refl, sym, ap, ap₂, subst, ◌∙◌, arith, Option, Some, None, IfSome, nat_lt, lt-ltb, le-ltb}
 use Rattle.std.specs.List.{AllByRecursion}
-use Rattle.std.proofs.lemmas.Bool.{lt-ltb, le-ltb}
+use Rattle.world_store.specs.Words.{Is64, b64, one_whole, uow_spelling, IsUow, UowRow, one_uow, table_from_rows, AllBelow, NoneAbove, read_next, read_last, uow_rows, Reveals}
+use Rattle.site_store.specs.Words.{Contents, IsNextKey, IsLastKey, Table, NextRowIs, numbers_in_order}
+use Rattle.repl_model.specs.Words.{all_weaker, IsSound, log_limit, Server, World, KnownSet, at_place_in, In, each_image}
 use Rattle.repl_types.specs.declared.area.Area.TheVariants as areas
 use Rattle.repl_types.specs.declared.unit.Unit.{Unit as LogUnit}
-use Rattle.repl_types.specs.laws.Lists.{all_weaker}
-use Rattle.keep_core.specs.Contents.{Contents, IsNextKey, IsLastKey, Table}
-use Rattle.row_codec.specs.Spelling.{Is64, b64}
-use Rattle.row_codec.specs.laws.Ones.{one_whole}
-use Rattle.repl_records.specs.Capture.{uow_spelling, IsUow}
-use Rattle.repl_records.specs.declared.capture.UowRow.{UowRow}
-use Rattle.repl_records.specs.laws.Capture.{one_uow}
-use Rattle.repl_model.specs.Sound.{IsSound}
-use Rattle.repl_model.specs.SoundLogs.{log_limit}
-use Rattle.repl_model.specs.World.{Server, World, KnownSet}
-use Rattle.rows_in_order.specs.Rows.{table_from_rows}
-use Rattle.rows_in_order.specs.Numbers.{AllBelow, NoneAbove}
-use Rattle.rows_in_order.specs.laws.ByNumber.{read_next, read_last}
-use Rattle.site_store.specs.Records.{NextRowIs}
-use Rattle.site_store.specs.laws.Numbers.{numbers_in_order}
-use Rattle.world_store.specs.CaptureRows.{uow_rows}
-use Rattle.world_store.specs.Stands.{Reveals}
-use Rattle.lists.specs.laws.Numbered.{at_place_in}
-use Rattle.lists.specs.laws.Members.{In, each_image}
 use Rattle.set_places.specs.declared.placed_set.PlacedSet.{PlacedSet}
 use Rattle.set_places.specs.Places.{IsPlacedAs}
 use Rattle.subs_sets.specs.Cuts.{captured_after, first_unit}

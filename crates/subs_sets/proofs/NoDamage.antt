@@ -1,25 +1,11 @@
 -- After a fault no transaction is open, and no damage is reported of servers that stand for a world.
-use Rattle.std.proofs.Common.{◌≡◌, ℕ, ◌<◌, [], length, ◌∙◌, arith}
+use Rattle.std.proofs.Common.{◌≡◌, ℕ, ◌<◌, [], length, ◌∙◌, arith, Some}
 use Rattle.std.proofs.lemmas.Option.{slice_get-get_or}
-use Rattle.repl_types.specs.declared.area.Area.{Area}
-use Rattle.repl_types.specs.declared.status.DamageCause.{DamageCause}
-use Rattle.repl_types.specs.declared.fault.Fault.{Fault}
-use Rattle.repl_types.specs.declared.fault.Fault.TheVariants as faults
-use Rattle.keep_core.specs.Contents.{Contents}
-use Rattle.keep_core.specs.Kept.{Kept}
-use Rattle.std.specs.Prelude.{Some}
-use Rattle.repl_model.specs.World.{empty_server, World, server_in}
+use Rattle.world_store.specs.Words.{Stands}
+use Rattle.site_store.specs.Words.{Contents, Kept, no_access, both, ClosesAll, Passes, Blames, IsNoDamage, IsUndamaged, AllClosed, names, held, work, sees, at_most_itself, passes_then, no_damage, Stops}
 use Rattle.site_store.specs.declared.sites.Sites.{Sites}
-use Rattle.site_store.specs.Calls.{no_access, both, ClosesAll, Passes, Blames}
-use Rattle.site_store.specs.Damage.{IsNoDamage, IsUndamaged}
-use Rattle.site_store.specs.Servers.{AllClosed}
-use Rattle.site_store.specs.Views.{names, held, work, sees}
-use Rattle.site_store.specs.laws.Counts.{at_most_itself, passes_then}
-use Rattle.site_store.specs.laws.Damage.{no_damage}
-use Rattle.site_store.specs.one_server.Calls.{Stops}
-use Rattle.world_store.specs.Stands.{Stands}
-use Rattle.lists.specs.laws.Numbered.{at_place_in}
-use Rattle.lists.specs.laws.Members.{In}
+use Rattle.repl_model.specs.Words.{Area, DamageCause, Fault, empty_server, World, server_in, at_place_in, In}
+use Rattle.repl_types.specs.declared.fault.Fault.TheVariants as faults
 use Rattle.stored_defs.specs.laws.Standing.{same_count, seen_at}
 use Rattle.subs_sets.specs.Rules.{rules, ShowsDamage}
 use Rattle.subs_sets.specs.laws.Undamaged.{rules_undamaged}

@@ -1,20 +1,9 @@
 -- What was read of how far the source of a set has captured its log.
-use Rattle.std.proofs.Common.{◌≡◌, subst, ◌∙◌}
-use Rattle.std.specs.Prelude.{Option, IfSome}
+use Rattle.std.proofs.Common.{◌≡◌, subst, ◌∙◌, Option, IfSome}
+use Rattle.world_store.specs.Words.{one_whole, capture_spelling, IsCapture, first_capture, single_spelling, CaptureState, one_capture, capture_state, Reveals}
+use Rattle.site_store.specs.Words.{Contents, StateIs}
+use Rattle.repl_model.specs.Words.{IsSound, World, KnownSet, at_place_in}
 use Rattle.repl_types.specs.declared.area.Area.TheVariants as areas
-use Rattle.keep_core.specs.Contents.{Contents}
-use Rattle.row_codec.specs.laws.Ones.{one_whole}
-use Rattle.repl_records.specs.Capture.{capture_spelling, IsCapture}
-use Rattle.repl_records.specs.FirstStates.{first_capture}
-use Rattle.repl_records.specs.RecordKeys.{single_spelling}
-use Rattle.repl_records.specs.declared.capture.CaptureState.{CaptureState}
-use Rattle.repl_records.specs.laws.Capture.{one_capture}
-use Rattle.repl_model.specs.Sound.{IsSound}
-use Rattle.repl_model.specs.World.{World, KnownSet}
-use Rattle.site_store.specs.Records.{StateIs}
-use Rattle.world_store.specs.CaptureRows.{capture_state}
-use Rattle.world_store.specs.Stands.{Reveals}
-use Rattle.lists.specs.laws.Numbered.{at_place_in}
 use Rattle.set_places.specs.declared.placed_set.PlacedSet.{PlacedSet}
 use Rattle.set_places.specs.Places.{IsPlacedAs}
 use Rattle.subs_sets.specs.laws.Captured.{capture_fits, capture_at}

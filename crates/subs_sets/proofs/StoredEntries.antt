@@ -1,31 +1,13 @@
 -- What was read of the trail of a set.
-use Rattle.std.proofs.Common.{◌≡◌, ℕ, zero, suc, ◌+◌, ◌-◌, ◌≤◌, ◌^◌, Bool, true, false, cond, List, length, get_or, map, refl, sym, ap, subst, ◌∙◌, arith, inl, inr}
-use Rattle.std.specs.Prelude.{Option, Some, None, IfSome, nat_lt, slice_get}
+use Rattle.std.proofs.Common.{◌≡◌, ℕ, zero, suc, ◌+◌, ◌-◌, ◌≤◌, ◌^◌, Bool, true, false, cond, List, length, get_or, map, refl, sym, ap, subst, ◌∙◌, arith, inl, inr, Option, Some, None, IfSome, nat_lt, slice_get, lt-ltb}
 use Rattle.std.specs.List.{enumerate_from}
 use Rattle.std.specs.Option.{option_map, option_map_or}
-use Rattle.std.proofs.lemmas.Bool.{lt-ltb}
 use Rattle.std.proofs.lemmas.List.{length-map}
 use Rattle.std.proofs.lemmas.Option.{none-some, same_Some, slice_get_cases, slice_get-map}
+use Rattle.world_store.specs.Words.{Is64, b64, One, one_whole, entry_spelling, IsEntry, TrailEntry, one_entry, table_from_rows, numbered_at, numbered_found, Reveals, no_rows, trail_entry, trail_rows}
+use Rattle.site_store.specs.Words.{Contents, Table, RowIs, IsRecord, numbers_in_order}
+use Rattle.repl_model.specs.Words.{IsSound, Entry, TargetSide, World, KnownSet, at_place_in, In}
 use Rattle.repl_types.specs.declared.area.Area.TheVariants as areas
-use Rattle.keep_core.specs.Contents.{Contents, Table}
-use Rattle.row_codec.specs.Spelling.{Is64, b64}
-use Rattle.row_codec.specs.Takes.{One}
-use Rattle.row_codec.specs.laws.Ones.{one_whole}
-use Rattle.repl_records.specs.Trail.{entry_spelling, IsEntry}
-use Rattle.repl_records.specs.declared.trail.TrailEntry.{TrailEntry}
-use Rattle.repl_records.specs.laws.Trail.{one_entry}
-use Rattle.repl_model.specs.Sound.{IsSound}
-use Rattle.repl_model.specs.Trails.{Entry}
-use Rattle.repl_model.specs.World.{TargetSide, World, KnownSet}
-use Rattle.rows_in_order.specs.Rows.{table_from_rows}
-use Rattle.rows_in_order.specs.laws.Numbered.{numbered_at, numbered_found}
-use Rattle.site_store.specs.Records.{RowIs, IsRecord}
-use Rattle.site_store.specs.laws.Numbers.{numbers_in_order}
-use Rattle.world_store.specs.Stands.{Reveals}
-use Rattle.world_store.specs.Tables.{no_rows}
-use Rattle.world_store.specs.TargetRows.{trail_entry, trail_rows}
-use Rattle.lists.specs.laws.Numbered.{at_place_in}
-use Rattle.lists.specs.laws.Members.{In}
 use Rattle.set_places.specs.declared.placed_set.PlacedSet.{PlacedSet}
 use Rattle.set_places.specs.Places.{IsPlacedAs}
 use Rattle.set_places.specs.laws.Points.{target_numbers}

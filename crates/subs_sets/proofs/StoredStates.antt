@@ -1,26 +1,11 @@
 -- What was read of how far a set is at its target.
-use Rattle.std.proofs.Common.{◌≡◌, ℕ, Bool, true, false, not, cond, List, length, refl, sym, ap, subst, ◌∙◌}
-use Rattle.std.specs.Prelude.{Option, Some, None, IfSome}
+use Rattle.std.proofs.Common.{◌≡◌, ℕ, Bool, true, false, not, cond, List, length, refl, sym, ap, subst, ◌∙◌, Option, Some, None, IfSome}
 use Rattle.std.proofs.lemmas.Bool.{not-true}
+use Rattle.world_store.specs.Words.{b32, one_whole, state_spelling, IsState, SetState, one_state, has_points, source_time, state_of, Reveals}
+use Rattle.site_store.specs.Words.{Contents, or_first}
+use Rattle.repl_model.specs.Words.{SetDef, TargetSet, IsTargetSet, is_replica_set, IsSound, synchpoint, base_of, replica_point, TargetSide, World, KnownSet, at_place_in}
 use Rattle.repl_types.specs.declared.area.Area.TheVariants as areas
-use Rattle.keep_core.specs.Contents.{Contents}
-use Rattle.row_codec.specs.Spelling.{b32}
-use Rattle.row_codec.specs.laws.Ones.{one_whole}
-use Rattle.repl_definitions.specs.declared.set.SetDef.{SetDef}
-use Rattle.repl_definitions.specs.declared.set.TargetSet.{TargetSet}
-use Rattle.repl_definitions.specs.Sets.{IsTargetSet}
-use Rattle.repl_records.specs.SetState.{state_spelling, IsState}
-use Rattle.repl_records.specs.declared.set_state.SetState.{SetState}
 use Rattle.repl_records.specs.declared.set_state.SetState.TheVariants as states
-use Rattle.repl_records.specs.laws.SetState.{one_state}
-use Rattle.repl_model.specs.Rules.{is_replica_set}
-use Rattle.repl_model.specs.Sound.{IsSound}
-use Rattle.repl_model.specs.Trails.{synchpoint, base_of, replica_point}
-use Rattle.repl_model.specs.World.{TargetSide, World, KnownSet}
-use Rattle.site_store.specs.Records.{or_first}
-use Rattle.world_store.specs.TargetRows.{has_points, source_time, state_of}
-use Rattle.world_store.specs.Stands.{Reveals}
-use Rattle.lists.specs.laws.Numbered.{at_place_in}
 use Rattle.set_places.specs.declared.placed_set.PlacedSet.{PlacedSet}
 use Rattle.set_places.specs.Places.{HasTargetRow, IsPlacedAs}
 use Rattle.subs_sets.specs.Rules.{state_rules}

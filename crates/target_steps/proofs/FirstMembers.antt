@@ -1,7 +1,5 @@
 -- The first members of a set were taken through a step: proofs.
-use Rattle.std.proofs.Common.{◌≡◌, ◌≢◌, ℕ, ◌+◌, ◌-◌, ◌*◌, ◌^◌, ◌<◌, ◌≤◌, Bool, true, false, cond, List, [], ◌∷◌, ◌++◌, length, inl, inr, refl, sym, ap, subst, ◌∙◌, arith}
-use Rattle.std.specs.Prelude.{◌/◌, count_by, sum_by, take, Option, Some, None, slice_get}
-use Rattle.std.specs.List.{flat_map}
+use Rattle.std.proofs.Common.{◌≡◌, ◌≢◌, ℕ, ◌+◌, ◌-◌, ◌*◌, ◌^◌, ◌<◌, ◌≤◌, Bool, true, false, cond, List, [], ◌∷◌, ◌++◌, length, inl, inr, refl, sym, ap, subst, ◌∙◌, arith, ◌/◌, count_by, sum_by, take, Option, Some, None, slice_get, flat_map}
 use Rattle.std.specs.Option.{option_map_or, option_and_then}
 use Rattle.std.proofs.lemmas.Bool.{cases_eq, eqb-false, ne_eqb}
 use Rattle.std.proofs.lemmas.List.{take_more}
@@ -9,30 +7,14 @@ use Rattle.std.proofs.lemmas.List.Sums.{sum_by_push, sum_by-append, sum_by-cons,
 use Rattle.std.proofs.lemmas.Option.{same_Some, slice_get_within, get_or_from_slice_get}
 use Rattle.std.proofs.Math.Nat.{suc-mul, min-eq_left}
 use Rattle.std.proofs.lemmas.Nat.{mul-le}
-use Rattle.repl_types.specs.declared.area.Area.{Area}
+use Rattle.world_store.specs.Words.{member_table, source_of, rows_refreshed, count_op, is_insert, is_update, is_delete, member_changes, selected_few, between_few}
+use Rattle.site_store.specs.Words.{Contents}
+use Rattle.repl_model.specs.Words.{Area, CdRow, Op, Counts, Member, TargetKind, SetDef, changes_between, SourceTable, Server, World, KnownSet, known_sets, source_named, IsSound, log_limit, LogIsSound, MemberIsSound, ReplicaMemberIsSound, known_stands, source_in, In, at_one}
 use Rattle.repl_types.specs.declared.area.Area.TheVariants as areas
-use Rattle.repl_types.specs.declared.change_row.CdRow.{CdRow}
-use Rattle.repl_types.specs.declared.change_row.Op.{Op}
-use Rattle.repl_types.specs.declared.fault.Counts.{Counts}
-use Rattle.keep_core.specs.Contents.{Contents}
-use Rattle.repl_definitions.specs.declared.member.Member.{Member}
-use Rattle.repl_definitions.specs.declared.member.TargetKind.{TargetKind}
 use Rattle.repl_definitions.specs.declared.member.TargetKind.TheVariants.{UserCopy, PointInTime, BaseAggregate, ChangeAggregate, Ccd, Replica}
-use Rattle.repl_definitions.specs.declared.set.SetDef.{SetDef}
-use Rattle.repl_model.specs.ChangeRows.{changes_between}
-use Rattle.repl_model.specs.Selection.{SourceTable}
-use Rattle.repl_model.specs.World.{Server, World, KnownSet, known_sets, source_named}
-use Rattle.repl_model.specs.Sound.{IsSound}
-use Rattle.repl_model.specs.SoundLogs.{log_limit, LogIsSound}
-use Rattle.repl_model.specs.SoundDefinitions.{MemberIsSound, ReplicaMemberIsSound}
-use Rattle.world_store.specs.Tables.{member_table}
-use Rattle.world_store.specs.TargetRows.{source_of, rows_refreshed, count_op, is_insert, is_update, is_delete, member_changes}
-use Rattle.repl_model.specs.laws.KnownSets.{known_stands, source_in}
-use Rattle.lists.specs.laws.Members.{In, at_one}
 use Rattle.stored_commits.specs.actions.StoredSteps.{is_numbered}
 use Rattle.set_places.specs.laws.Known.{same_def, set_keeps_rules, members_few}
 use Rattle.set_places.specs.laws.Sources.{source_is_of}
-use Rattle.world_store.specs.laws.FewRows.{selected_few, between_few}
 use Rattle.target_steps.specs.declared.step.Step.{Step}
 use Rattle.target_steps.specs.declared.step.Step.TheVariants.{Refresh, Block}
 use Rattle.target_steps.specs.Taking.{entry_of, counts_of, counted, no_counts, limited, sum_of, is_target}

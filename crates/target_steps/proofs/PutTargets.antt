@@ -1,36 +1,13 @@
 -- The transaction of a step: proofs.
-use Rattle.std.proofs.Common.{◌≡◌, ◌≢◌, get_or, ℕ, zero, suc, ◌+◌, ◌-◌, ◌^◌, ◌<◌, false, cond, List, length, refl, sym, ap, subst, ◌∙◌, arith}
-use Rattle.std.specs.Prelude.{Bool, Option, Some, None}
+use Rattle.std.proofs.Common.{◌≡◌, ◌≢◌, get_or, ℕ, zero, suc, ◌+◌, ◌-◌, ◌^◌, ◌<◌, false, cond, List, length, refl, sym, ap, subst, ◌∙◌, arith, Bool, Option, Some, None, get_or-set_other}
 use Rattle.std.proofs.lemmas.Bool.{eq-eqb, eqb-false, ne_eqb, true≢false}
-use Rattle.std.proofs.lemmas.List.{get_or-set_other}
-use Rattle.repl_types.specs.declared.area.Area.{Area}
+use Rattle.world_store.specs.Words.{b32, b64, state_spelling, entry_spelling, SetState, TrailEntry, Reveals}
+use Rattle.site_store.specs.Words.{Contents, put_at, set_key, Kept, NoDamage, AllClosed, names, held, work, sees, IsOpenAt, IsClosedAt, Sets, Bounds, no_access, both, Begins, Puts, InDoubt, AtServer, Fails, IsNoDamage, at_most_itself, passes_then, blames_by, GoesOn, Stops, blames_after, stops_as, stops_after, put_fails, write_fails_on, goes_then, goes_put, goes_as}
+use Rattle.site_store.specs.declared.sites.Sites.{Sites}
+use Rattle.repl_model.specs.Words.{Area, DamageCause, Counts, Fault, TargetKind}
 use Rattle.repl_types.specs.declared.area.Area.TheVariants as areas
-use Rattle.repl_types.specs.declared.status.DamageCause.{DamageCause}
-use Rattle.repl_types.specs.declared.fault.Counts.{Counts}
-use Rattle.repl_types.specs.declared.fault.Fault.{Fault}
-use Rattle.keep_core.specs.Contents.{Contents, put_at, set_key}
-use Rattle.keep_core.specs.Kept.{Kept}
-use Rattle.row_codec.specs.Spelling.{b32, b64}
-use Rattle.repl_definitions.specs.declared.member.TargetKind.{TargetKind}
-use Rattle.repl_records.specs.SetState.{state_spelling}
-use Rattle.repl_records.specs.Trail.{entry_spelling}
-use Rattle.repl_records.specs.declared.set_state.SetState.{SetState}
-use Rattle.repl_records.specs.declared.trail.TrailEntry.{TrailEntry}
-use Rattle.world_store.specs.Stands.{Reveals}
 use Rattle.stored_commits.specs.actions.ActedServers.{is_of_step}
 use Rattle.stored_commits.specs.actions.StoredSteps.{PutsStep}
-use Rattle.site_store.specs.declared.sites.Sites.{Sites}
-use Rattle.site_store.specs.Records.{NoDamage}
-use Rattle.site_store.specs.Servers.{AllClosed}
-use Rattle.site_store.specs.Views.{names, held, work, sees, IsOpenAt, IsClosedAt}
-use Rattle.site_store.specs.Works.{Sets}
-use Rattle.site_store.specs.Calls.{Bounds, no_access, both, Begins, Puts, InDoubt, AtServer, Fails}
-use Rattle.site_store.specs.Damage.{IsNoDamage}
-use Rattle.site_store.specs.laws.Counts.{at_most_itself, passes_then}
-use Rattle.site_store.specs.laws.Damage.{blames_by}
-use Rattle.site_store.specs.one_server.Calls.{GoesOn, Stops}
-use Rattle.site_store.specs.one_server.laws.Faults.{blames_after, stops_as, stops_after, put_fails, write_fails_on}
-use Rattle.site_store.specs.one_server.laws.Steps.{goes_then, goes_put, goes_as}
 use Rattle.set_places.specs.declared.placed_set.PlacedSet.{PlacedSet}
 use Rattle.set_places.specs.Steps.{MayCommitStep}
 use Rattle.set_places.specs.laws.Commits.{begun_open, begun_sees_all, stops_step, commit_fails}

@@ -1,10 +1,8 @@
 -- Which areas the calls of a step read: proofs.
 use Rattle.std.proofs.Common.{◌≡◌, ℕ, ◌+◌, ◌-◌, ◌^◌, ◌<◌, ◌≤◌, ap, ◌∙◌, arith}
-use Rattle.repl_types.specs.declared.area.Area.{Area}
-use Rattle.repl_types.specs.declared.fault.Counts.{Counts}
-use Rattle.keep_core.specs.Kept.{Kept}
+use Rattle.site_store.specs.Words.{Kept, Bounds, Passes}
 use Rattle.site_store.specs.declared.sites.Sites.{Sites}
-use Rattle.site_store.specs.Calls.{Bounds, Passes}
+use Rattle.repl_model.specs.Words.{Area, Counts}
 use Rattle.target_steps.specs.declared.step.Step.{Step}
 use Rattle.target_steps.specs.declared.step.Step.TheVariants.{Refresh, Block}
 use Rattle.target_steps.specs.Taking.{ReadsForStep, no_counts, limited, sum_of, change_reads, CountsReads}

@@ -1,34 +1,13 @@
 -- The members of a set are taken through a step, one after another in one transaction: proofs.
-use Rattle.std.proofs.Common.{◌≡◌, ◌≢◌, ℕ, ◌+◌, ◌*◌, ◌<◌, zero, suc, ◌⊎◌, Bool, true, false, List, [], ◌∷◌, ◌++◌, length, get_or, inl, inr, refl, sym, ap, subst, ◌∙◌, arith}
-use Rattle.std.specs.Prelude.{take, Option, Some, None, IsSome, is_some, IfSome, slice_get}
+use Rattle.std.proofs.Common.{◌≡◌, ◌≢◌, ℕ, ◌+◌, ◌*◌, ◌<◌, ◌⊎◌, Bool, true, false, List, [], ◌∷◌, ◌++◌, length, get_or, inl, inr, refl, sym, ap, subst, ◌∙◌, arith, take, Option, Some, None, IsSome, is_some, IfSome, slice_get, get_or-set_same}
 use Rattle.std.proofs.Math.Seq.{take-length}
-use Rattle.std.proofs.lemmas.List.{get_or-set_same}
 use Rattle.std.proofs.lemmas.Option.{slice_get_within}
-use Rattle.repl_types.specs.declared.area.Area.{Area}
-use Rattle.repl_types.specs.declared.area.Area.TheVariants as areas
-use Rattle.repl_types.specs.declared.status.DamageCause.{DamageCause}
-use Rattle.repl_types.specs.declared.fault.Counts.{Counts}
-use Rattle.repl_types.specs.declared.fault.Fault.{Fault}
-use Rattle.keep_core.specs.Contents.{Contents}
-use Rattle.keep_core.specs.Kept.{Kept, seen_of}
-use Rattle.repl_definitions.specs.declared.member.Member.{Member}
-use Rattle.repl_definitions.specs.declared.member.TargetKind.{TargetKind}
-use Rattle.repl_definitions.specs.declared.set.SetDef.{SetDef}
-use Rattle.repl_model.specs.Selection.{SourceTable}
-use Rattle.repl_model.specs.World.{World, KnownSet, source_named}
-use Rattle.repl_model.specs.Sound.{IsSound}
-use Rattle.world_store.specs.Stands.{Holds, Reveals}
-use Rattle.world_store.specs.Tables.{member_table}
-use Rattle.lists.specs.laws.Numbered.{at_place_in}
-use Rattle.lists.specs.laws.Members.{In}
-use Rattle.stored_commits.specs.actions.StoredSteps.{is_numbered, TargetsStand}
+use Rattle.repl_model.specs.Words.{Area, DamageCause, Counts, Fault, Member, TargetKind, SetDef, SourceTable, World, KnownSet, source_named, IsSound, at_place_in, In, at_within}
+use Rattle.world_store.specs.Words.{Holds, Reveals, member_table}
+use Rattle.site_store.specs.Words.{Contents, Kept, seen_of, IsNoDamage, names, held, work, sees, IsOpenAt, IsClosedAt, open_below, other_work, GoesOn, Stops, stops_as, stops_after, goes_none, goes_then, goes_as, goes_open}
 use Rattle.site_store.specs.declared.sites.Sites.{Sites}
-use Rattle.site_store.specs.Damage.{IsNoDamage}
-use Rattle.site_store.specs.Views.{names, held, work, sees, IsOpenAt, IsClosedAt}
-use Rattle.site_store.specs.laws.Transactions.{open_below, other_work}
-use Rattle.site_store.specs.one_server.Calls.{GoesOn, Stops}
-use Rattle.site_store.specs.one_server.laws.Faults.{stops_as, stops_after}
-use Rattle.site_store.specs.one_server.laws.Steps.{goes_none, goes_then, goes_as, goes_open}
+use Rattle.repl_types.specs.declared.area.Area.TheVariants as areas
+use Rattle.stored_commits.specs.actions.StoredSteps.{is_numbered}
 use Rattle.set_places.specs.declared.placed_set.PlacedSet.{PlacedSet}
 use Rattle.set_places.specs.Places.{IsPlacedAtSource, HasSourceRow, IsPlacedAs, IsReadOnly}
 use Rattle.set_places.specs.laws.Known.{is_among, same_def, members_few}
@@ -36,17 +15,12 @@ use Rattle.target_steps.specs.declared.step.Step.{Step}
 use Rattle.target_steps.specs.Taking.{CanStep, entry_of, counted, no_counts, sum_of, TakesMember, ShowsAtEnds, ForMember}
 use Rattle.target_steps.specs.Steps.{TakesEach, ForAllTaken, TakesAll, ForMembers}
 use Rattle.target_steps.proofs.FirstMembers.{SumsTo, FirstTaken, none_taken, next_taken, counts_at, counts_are, sums_more, all_are, source_is, kind_takes}
+use Rattle.stored_commits.specs.laws.ActedTargets.{targets_stand}
 
 -- The first of a set's members were taken through a step, and no damage is shown that wasn't shown before.
 pub record TakesFirst {K : Type 0} (kept : K → Kept) (takes : TargetKind → Bool) (shows : Area → DamageCause → Option Contents → Type 0) (sites : Sites K) (set : PlacedSet) (step : Step) (count : ℕ) (counts : Counts) (c d : Contents) : Type 0 where
   pub shown : (a : Area) (cause : DamageCause) → shows a cause (Some d) → shows a cause (Some c)
   pub taken : ForAllTaken kept takes sites set step c (λ w k. FirstTaken w k set.at_target.number step count counts c d)
-
--- there is an element at each place within a list
-at_place : {X : Type 0} (xs : List X) (n : ℕ) → n < length xs → (x : X) × (slice_get xs n ≡ Some x)
-at_place [] n lt = absurd (omega (arith, lt))
-at_place (x ∷ xs) zero lt = (x, refl)
-at_place (x ∷ xs) (suc n) lt = at_place xs n (omega (arith, lt))
 
 -- what an open transaction is seen to have
 open_sees : (h : Option Contents) (o : Option (Option Contents)) (c : Contents) → IsSome o → seen_of h o ≡ Some c → o ≡ Some (Some c)
@@ -122,7 +96,7 @@ module _ {K : Type 0} (kept : K → Kept) (takes : TargetKind → Bool) (shows :
 
     -- ---- in a world
 
-    module _ (stand : TargetsStand) (unnumbered : (kind : TargetKind) → takes kind ≡ true → is_numbered kind ≡ false) (within : count < length set.at_source.def.members) where
+    module _ (unnumbered : (kind : TargetKind) → takes kind ≡ true → is_numbered kind ≡ false) (within : count < length set.at_source.def.members) where
       module _ (w : World) (k : KnownSet) (sound : IsSound w) (placed : IsPlacedAs w k set) (reveals : Reveals w k.source (sees kept s0 set.source)) (read_only : IsReadOnly k) (can : CanStep k step) (each : TakesEach takes k.at_source.def) (c d : Contents) (holds : Holds w k.target c) (first : TakesFirst kept takes shows s0 set step count counts c d) where
         -- both rows of the set have one definition
         same : k.at_source.def ≡ k.at_target.def
@@ -130,7 +104,7 @@ module _ {K : Type 0} (kept : K → Kept) (takes : TargetKind → Bool) (shows :
 
         -- the next member
         own : (member : Member) × (slice_get k.at_target.def.members count ≡ Some member)
-        own = at_place k.at_target.def.members count (subst (λ (def : SetDef). count < length def.members) (placed.source_def ∙ same) within)
+        own = at_within k.at_target.def.members count (subst (λ (def : SetDef). count < length def.members) (placed.source_def ∙ same) within)
 
         own_in : In own.0 k.at_target.def.members
         own_in = at_place_in k.at_target.def.members count own.0 own.1
@@ -152,7 +126,7 @@ module _ {K : Type 0} (kept : K → Kept) (takes : TargetKind → Bool) (shows :
 
         -- the target of the next one is what the trail makes of it
         before : (source : SourceTable) → source_named own.0.source k.source ≡ Some source → d areas.Target (64 * set.at_target.number + count) ≡ member_table source own.0 k.at_target.trail
-        before source named = taken.later count place_few (omega arith) ∙ (stand w k set.at_target.number c sound (is_among w k set placed read_only) placed.at_target holds).0 count own.0 source own.1 named
+        before source named = taken.later count place_few (omega arith) ∙ (targets_stand w k set.at_target.number c sound (is_among w k set placed read_only) placed.at_target holds).0 count own.0 source own.1 named
 
         own_takes : takes own.0.kind ≡ true
         own_takes = kind_takes w k sound placed.known takes unnumbered each own.0 own_in
@@ -184,14 +158,14 @@ module _ {K : Type 0} (kept : K → Kept) (takes : TargetKind → Bool) (shows :
           none d.0 d.1 w k sound placed (still w k sound placed reveals read_only can each c d.0 holds d.2) it.0 s.0 read_only can (at_source w k sound placed reveals read_only can each c d.0 holds d.2) s.1 (own_takes w k sound placed reveals read_only can each c d.0 holds d.2) (before w k sound placed reveals read_only can each c d.0 holds d.2 s.0 s.1)
 
   -- once all are taken, the targets are those after the step
-  module _ (stand : TargetsStand) (unnumbered : (kind : TargetKind) → takes kind ≡ true → is_numbered kind ≡ false) (s1 : Sites K) (counts : Counts) where
+  module _ (unnumbered : (kind : TargetKind) → takes kind ≡ true → is_numbered kind ≡ false) (s1 : Sites K) (counts : Counts) where
     pub goes_all : (count : ℕ) → count ≡ length set.at_source.def.members → GoesOn kept s0 s1 set.target (TakesFirst kept takes shows s0 set step count counts) → GoesOn kept s0 s1 set.target (TakesAll kept takes s0 set step shows counts)
     goes_all count all goes = goes_as kept s0 s1 set.target (TakesFirst kept takes shows s0 set step count counts) (TakesAll kept takes s0 set step shows counts) open_at goes (λ c d p. record {
       shown = p.shown;
       taken = λ w k sound placed reveals read_only can each holds.
           let first : FirstTaken w k set.at_target.number step count counts c d = p.taken w k sound placed reveals read_only can each holds in
           let every : count ≡ length k.at_target.def.members = all ∙ ap (λ (def : SetDef). length def.members) (placed.source_def ∙ same_def w k sound placed.known) in
-          let stood = (stand w k set.at_target.number c sound (is_among w k set placed read_only) placed.at_target holds).1 in (
+          let stood = (targets_stand w k set.at_target.number c sound (is_among w k set placed read_only) placed.at_target holds).1 in (
             first.others,
             λ q. (
               record {

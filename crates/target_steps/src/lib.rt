@@ -16,7 +16,6 @@
 //! have reached, and the entry that counts these rows.
 #![tactic(auto)]
 
-mod laws;
 mod putting;
 mod step;
 mod targets;

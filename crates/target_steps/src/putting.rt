@@ -1,6 +1,6 @@
 //! A step is put at the target.
 
-ghost use Rattle.std.specs.Prelude.{◌≡◌, ◌<◌, ◌-◌, ◌^◌, ℕ, length, OnErr, IfOk, IfErr};
+ghost use Rattle.std.specs.Prelude.{◌≡◌, ◌<◌, ◌-◌, ◌^◌, length, OnErr, IfOk, IfErr};
 ghost use Rattle.repl_records.specs.SetState.{ZeroIfAbsent};
 ghost use Rattle.site_store.specs.Damage.{IsNoDamage};
 ghost use Rattle.site_store.specs.Servers.{AllClosed};
@@ -14,7 +14,6 @@ ghost use Rattle.target_steps.specs.Steps.{state_after as state_after_lem};
 ghost use Rattle.target_steps.specs.Steps.{entry_after as entry_after_lem};
 ghost use Rattle.target_steps.specs.Steps.{TakesAll, ForMembers, PutsTargets, PutsSomeTargets};
 
-use crate::laws::laws_of_targets;
 use crate::step::Step;
 use crate::targets::Targets;
 use keep_core::Keeper;
@@ -63,7 +62,6 @@ fn take_members<K: Keeper, T: Targets<K>>(
     ensures counted { let members = length set.now.at_source.def.members in
         IfOk result (CountsReads step members K.kept sites.old sites.new) }
 {
-    laws_of_targets();
     let mut counts = Counts {
         rows: 0,
         inserts: 0,

@@ -17,7 +17,7 @@ use Rattle.repl_definitions.specs.declared.predicate.Operand.TheVariants.{Column
 use Rattle.repl_definitions.specs.declared.predicate.Operand.TheVariants as operands
 use Rattle.repl_definitions.specs.declared.predicate.Predicate.{Predicate}
 use Rattle.repl_definitions.specs.declared.predicate.Predicate.TheVariants.{Compare, IsNull, IsNotNull, And, Or}
-use Rattle.repl_model.proofs.Trees.{by_nodes}
+use Rattle.repl_model.specs.laws.Trees.{by_nodes}
 use Rattle.repl_model.specs.Expressions.{is_null, value_of, is_true_of}
 
 -- the row of 5, NULL and 'a'

@@ -10,18 +10,7 @@
 
 ghost use Rattle.std.specs.Prelude.{◌≡◌};
 ghost use Rattle.world_commits.specs.captures.Captures.{with_units, all_rows_captured, taken_units};
-ghost use Rattle.world_commits.specs.captures.StaysSound.{OthersAreNext, CapturesSound};
 ghost use Rattle.world_commits.specs.captures.WorkedCaptures.{uncaptured_hq, started_hq, captured_hq};
-
-/// The units after the first that isn't captured are those that aren't captured after it is.
-pub fn the_others_are_next()
-    ensures { OthersAreNext }
-{}
-
-/// A world stays sound when a server captures the next units of its log.
-pub fn captures_stay_sound()
-    ensures { CapturesSound }
-{}
 
 /// A capture worked out. Of two units the first starts the registration of a table, and the second
 /// inserts a row there. A capture of one unit takes the first, and one of all takes both, or what

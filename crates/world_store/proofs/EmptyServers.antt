@@ -1,11 +1,9 @@
 -- Servers that hold nothing stand for the empty world.
 use Rattle.std.proofs.Common.{◌≡◌, ℕ, zero, suc, List, [], ◌∷◌, map, Some, refl, ap}
 use Rattle.std.specs.List.{AllZip}
+use Rattle.repl_model.specs.Words.{World, restart_after, empty_server, empty_world, units, by_key}
 use Rattle.repl_types.specs.declared.area.Area.TheVariants as areas
 use Rattle.rows_in_order.specs.Contents.{nothing}
-use Rattle.repl_model.specs.World.{World, restart_after, empty_server, empty_world}
-use Rattle.repl_model.specs.Units.{units}
-use Rattle.repl_model.specs.Summaries.{by_key}
 use Rattle.world_store.specs.Tables.{tables, first_table}
 use Rattle.world_store.specs.Stands.{Holds, Reveals}
 

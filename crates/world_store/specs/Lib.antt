@@ -7,3 +7,4 @@ pub mod Stands
 pub mod SpelledRows
 pub mod WorkedRows
 pub mod laws
+pub mod Words

@@ -17,13 +17,12 @@
 
 mod worked_rows;
 
-ghost use Rattle.std.specs.Prelude.{ℕ, List, Option, Some, map};
+ghost use Rattle.std.specs.Prelude.{ℕ, List, Some, map};
 ghost use Rattle.rows_in_order.specs.Contents.{nothing};
 ghost use Rattle.repl_model.specs.Sound.{AreServerNames};
 ghost use Rattle.repl_model.specs.World.{empty_world};
 ghost use Rattle.world_store.specs.Stands.{Stands};
 
-use repl_model::the_empty_world_is_sound;
 pub use worked_rows::{
     worked_capture_rows, worked_change_data, worked_definition_rows, worked_log_rows,
     worked_target_rows, worked_target_table,
@@ -33,6 +32,4 @@ pub use worked_rows::{
 pub fn empty_servers_stand()
     ensures { (names : List (List ℕ)) → AreServerNames names
         → Stands names (map (λ name. Some nothing) names) (empty_world names) }
-{
-    the_empty_world_is_sound();
-}
+{}

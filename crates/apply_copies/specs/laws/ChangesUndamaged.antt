@@ -1,49 +1,13 @@
 -- What a server of a sound world holds shows no damage of the source from which a copy takes change rows.
-use Rattle.std.proofs.Common.{◌≡◌, ℕ, zero, suc, Bool, true, false, cond, List, [], map, refl, sym, ap, subst, ◌∙◌}
-use Rattle.std.specs.Prelude.{max, Option, Some, None, is_some, slice_get}
+use Rattle.std.proofs.Common.{◌≡◌, ℕ, zero, suc, Bool, true, false, cond, List, [], map, refl, sym, ap, subst, ◌∙◌, max, Option, Some, None, is_some, slice_get}
 use Rattle.std.specs.List.{AllByRecursion}
 use Rattle.std.specs.Option.{option_map_or, option_and_then}
 use Rattle.std.proofs.lemmas.Bool.{false≢true}
 use Rattle.std.proofs.lemmas.Option.{none-some}
-use Rattle.repl_types.specs.Sizes.{IsKeySize}
-use Rattle.repl_types.specs.declared.area.Area.{Area}
+use Rattle.world_store.specs.Words.{key_spelling, short_text, one_whole, change_row_spelling, IsChangeRow, change_key_spelling, IsChangeKey, one_change_row, one_change_key, CdKey, ChangeRow, SpellsApart, table_from_rows, fits_each, row_of, table_rows, Holds, no_rows, tables, RowFits}
+use Rattle.site_store.specs.Words.{Contents, Table, Rules, IsSpelt, IsUndamaged, rows_spelt}
+use Rattle.repl_model.specs.Words.{IsKeySize, Area, CdRow, Registration, TableDef, all_weaker, defined_table_spelling, IsDefinedRegistration, DefinedRegistration, DefinedTable, table_named, changes_between, IsSound, KeepsTable, LogIsSound, Registered, Server, ServerTable, World, server_table, tables_of, at_place_in, In, at_one, image_in, each_image}
 use Rattle.repl_types.specs.declared.area.Area.TheVariants as areas
-use Rattle.repl_types.specs.declared.change_row.CdRow.{CdRow}
-use Rattle.repl_types.specs.declared.change_row.Registration.{Registration}
-use Rattle.repl_types.specs.declared.table.TableDef.{TableDef}
-use Rattle.repl_types.specs.laws.Lists.{all_weaker}
-use Rattle.keep_core.specs.Contents.{Contents, Table}
-use Rattle.row_codec.specs.Spelling.{key_spelling, short_text}
-use Rattle.row_codec.specs.laws.Ones.{one_whole}
-use Rattle.repl_definitions.specs.Defined.{defined_table_spelling, IsDefinedRegistration}
-use Rattle.repl_definitions.specs.declared.defined.DefinedRegistration.{DefinedRegistration}
-use Rattle.repl_definitions.specs.declared.defined.DefinedTable.{DefinedTable}
-use Rattle.repl_records.specs.Capture.{change_row_spelling, IsChangeRow}
-use Rattle.repl_records.specs.RecordKeys.{change_key_spelling, IsChangeKey}
-use Rattle.repl_records.specs.laws.Capture.{one_change_row}
-use Rattle.repl_records.specs.laws.RecordKeys.{one_change_key}
-use Rattle.repl_records.specs.declared.record_keys.CdKey.{CdKey}
-use Rattle.repl_records.specs.declared.capture.ChangeRow.{ChangeRow}
-use Rattle.repl_model.specs.Applicable.{table_named}
-use Rattle.repl_model.specs.ChangeRows.{changes_between}
-use Rattle.repl_model.specs.Sound.{IsSound}
-use Rattle.repl_model.specs.SoundDefinitions.{KeepsTable}
-use Rattle.repl_model.specs.SoundLogs.{LogIsSound}
-use Rattle.repl_model.specs.World.{Registered, Server, ServerTable, World, server_table, tables_of}
-use Rattle.rows_in_order.specs.Rows.{SpellsApart, table_from_rows}
-use Rattle.rows_in_order.specs.laws.Fitting.{fits_each}
-use Rattle.rows_in_order.specs.laws.Found.{row_of}
-use Rattle.site_store.specs.Damage.{Rules, IsSpelt, IsUndamaged}
-use Rattle.site_store.specs.laws.Damage.{rows_spelt}
-use Rattle.world_store.specs.DefinitionRows.{table_rows}
-use Rattle.world_store.specs.Stands.{Holds}
-use Rattle.world_store.specs.Tables.{no_rows, tables}
-use Rattle.lists.specs.laws.Numbered.{at_place_in}
-use Rattle.lists.specs.laws.Members.{In, at_one, image_in, each_image}
-use Rattle.stored_commits.specs.records.SourceLogs.{TablesAreFound}
-use Rattle.stored_commits.specs.records.SourceTables.{TypedChangesHaveRows}
-use Rattle.stored_commits.specs.records.StorableRows.{FittingRowIsStorable}
-use Rattle.world_store.specs.SpelledRows.{RowFits}
 use Rattle.stored_defs.specs.laws.NamedTables.{table_stands}
 use Rattle.stored_defs.specs.laws.Standing.{holds_defs, holds_spelt}
 use Rattle.set_places.specs.Members.{HasRegistration, member_rules}
@@ -56,12 +20,13 @@ use Rattle.apply_copies.specs.ChangeRules.{may_be_change_key, may_be_change, cal
 use Rattle.apply_copies.specs.laws.ChangeSizes.{HasSize, all_sized}
 use Rattle.apply_copies.specs.laws.HeldChanges.{IsRegisteredAt, keeps_rules, keeps_table, keeps_registration, registration_held, table_held, changes_held}
 use Rattle.apply_copies.specs.laws.Undamaged.{joined_undamaged, none_too_wide}
+use Rattle.stored_commits.specs.laws.SourceLogs.{tables_are_found}
 
 -- change rows that are spelled alike are one
 pub changes_apart : SpellsApart (RowFits IsChangeKey IsChangeRow) change_key_spelling change_row_spelling
 changes_apart r s fr fs keys values = λ i. (one_whole IsChangeKey change_key_spelling one_change_key r.0 s.0 fr.0 fs.0 keys i, one_whole IsChangeRow change_row_spelling one_change_row r.1 s.1 fr.1 fs.1 values i)
 
-module _ (typed : TypedChangesHaveRows) (found : TablesAreFound) (storable : FittingRowIsStorable) (w : World) (server : Server) (c : Contents) (sound : IsSound w) (i : In server w) (holds : Holds w server c) where
+module _ (w : World) (server : Server) (c : Contents) (sound : IsSound w) (i : In server w) (holds : Holds w server c) where
   -- the rules of change rows
   abbrev row_rules : Rules
   row_rules = record { is_key = may_be_change_key; is_value = may_be_change; is_needed = calls_for_table; is_unfit = is_unfit_change }
@@ -76,10 +41,10 @@ module _ (typed : TypedChangesHaveRows) (found : TablesAreFound) (storable : Fit
       keeps = keeps_table w server c sound i holds number t here.at
 
       named : table_named t.def.name (tables_of server) ≡ Some t.def
-      named = at_one (λ (def : TableDef). table_named def.name (tables_of server) ≡ Some def) (tables_of server) t.def (found w server (keeps_rules w server c sound i holds)) (image_in (λ (u : ServerTable). u.def) server.tables t (at_place_in server.tables number t here.at))
+      named = at_one (λ (def : TableDef). table_named def.name (tables_of server) ≡ Some def) (tables_of server) t.def (tables_are_found w server (keeps_rules w server c sound i holds)) (image_in (λ (u : ServerTable). u.def) server.tables t (at_place_in server.tables number t here.at))
 
-      all : AllByRecursion (HasSize storable t r keeps (keeps_registration w server c sound i holds number t r here)) (changes_between server.log r.reg (max r.start r.floor) server.captured)
-      all = all_sized storable t r keeps (keeps_registration w server c sound i holds number t r here) typed server (at_one LogIsSound w server sound.logs i) named (max r.start r.floor) server.captured
+      all : AllByRecursion (HasSize t r keeps (keeps_registration w server c sound i holds number t r here)) (changes_between server.log r.reg (max r.start r.floor) server.captured)
+      all = all_sized t r keeps (keeps_registration w server c sound i holds number t r here) server (at_one LogIsSound w server sound.logs i) named (max r.start r.floor) server.captured
 
       pick : (active : Bool) → AllByRecursion (λ (q : CdKey × ChangeRow). IsKeySize (key_spelling (key_after (source_of t.def r.reg) (change_of q)))) (cond active (map stored_change (changes_between server.log r.reg (max r.start r.floor) server.captured)) [])
       pick true = each_image (λ (q : CdKey × ChangeRow). IsKeySize (key_spelling (key_after (source_of t.def r.reg) (change_of q)))) stored_change (changes_between server.log r.reg (max r.start r.floor) server.captured) all

@@ -1,42 +1,20 @@
 -- The rows of a user copy of a source at a point: what they are made of, and that they can be stored.
-use Rattle.std.proofs.Common.{◌≡◌, ℕ, List, [], ◌∷◌, length, map, refl, sym, ap, subst, ◌∙◌, arith}
-use Rattle.std.specs.Prelude.{nat_le, Some}
+use Rattle.std.proofs.Common.{◌≡◌, ℕ, List, [], ◌∷◌, length, map, refl, sym, ap, subst, ◌∙◌, arith, nat_le, Some}
 use Rattle.std.specs.FinMap.{empty, entries, len-empty, len-entries}
 use Rattle.std.specs.List.{AllByRecursion}
-use Rattle.repl_types.specs.Value.{Values, key_cmp}
+use Rattle.world_store.specs.Words.{IsLogRecord, IsKey, IsRow, key_spelling, copy_spelling, IsCopy, CopyRow, table_from_rows, RowFits}
+use Rattle.site_store.specs.Words.{Contents, Table, IsUndamaged, IsSpelt, rows_spelt, spelt_undamaged}
+use Rattle.repl_model.specs.Words.{Values, key_cmp, Change, LogRecord, TableDef, Placed, all_filter, all_weaker, IsMember, Member, user_copy, SourceTable, is_selected, selected_rows, target_row, LogIsSound, unplaced, after_units, units_up_to, source_at, Rows, after_change, after_changes, units, Server, each_image}
 use Rattle.repl_types.specs.declared.area.Area.TheVariants as areas
-use Rattle.repl_types.specs.declared.record.Change.{Change}
-use Rattle.repl_types.specs.declared.record.LogRecord.{LogRecord}
 use Rattle.repl_types.specs.declared.record.LogRecord.TheVariants as records
-use Rattle.repl_types.specs.declared.table.TableDef.{TableDef}
-use Rattle.repl_types.specs.declared.unit.Placed.{Placed}
 use Rattle.repl_types.specs.declared.unit.Unit.{Unit as LogUnit}
-use Rattle.repl_types.specs.laws.Lists.{all_filter, all_weaker}
-use Rattle.keep_core.specs.Contents.{Contents, Table}
-use Rattle.row_codec.specs.LogRecords.{IsLogRecord}
-use Rattle.row_codec.specs.Spelling.{IsKey, IsRow, key_spelling}
-use Rattle.repl_definitions.specs.Members.{IsMember}
-use Rattle.repl_definitions.specs.declared.member.Member.{Member}
-use Rattle.repl_records.specs.TargetSide.{copy_spelling, IsCopy}
-use Rattle.repl_records.specs.declared.target_side.CopyRow.{CopyRow}
-use Rattle.repl_model.specs.MemberCopies.{user_copy}
-use Rattle.repl_model.specs.Selection.{SourceTable, is_selected, selected_rows, target_row}
-use Rattle.repl_model.specs.SoundLogs.{LogIsSound}
-use Rattle.repl_model.specs.SourceAt.{unplaced, after_units, units_up_to, source_at}
-use Rattle.repl_model.specs.Tables.{Rows, after_change, after_changes}
-use Rattle.repl_model.specs.Units.{units}
-use Rattle.repl_model.specs.World.{Server}
-use Rattle.rows_in_order.specs.Rows.{table_from_rows}
-use Rattle.lists.specs.laws.Members.{each_image}
-use Rattle.stored_commits.specs.records.SourceTables.{HasRows, StandsUnderKey, RowsStand, KeysOfRowsFit, TypedChangesHaveRows, RowsStayStanding}
+use Rattle.stored_commits.specs.records.SourceTables.{HasRows, StandsUnderKey, RowsStand}
 use Rattle.stored_commits.specs.records.laws.StandingRows.{standing_fit}
-use Rattle.site_store.specs.Damage.{IsUndamaged, IsSpelt}
-use Rattle.site_store.specs.laws.Damage.{rows_spelt, spelt_undamaged}
-use Rattle.world_store.specs.SpelledRows.{RowFits}
 use Rattle.stored_commits.specs.copies.laws.LoggedChanges.{RecordHas, UnitHas, units_have}
 use Rattle.apply_copies.specs.Copying.{selected, copied}
-use Rattle.apply_copies.specs.Rules.{target_rules}
+use Rattle.apply_copies.specs.Rules.{target_rules, TargetIsUndamaged}
 use Rattle.apply_copies.specs.laws.Values.{target_row_fits}
+use Rattle.stored_commits.specs.laws.StoredRows.{change_stands, typed_rows}
 
 -- the rows of a user copy as records are those that are copied
 pub copied_are : (source : SourceTable) (member : Member) (point : ℕ) → map {A = Values × Values} {B = Values × CopyRow} (λ r. (r.0, record { row = r.1 })) (user_copy source member point) ≡ copied member (entries (source_at source.def source.log point))
@@ -53,10 +31,10 @@ copied_are source member point = again (selected_rows source member point)
 abbrev HasRowsEach : LogUnit → Type 0
 HasRowsEach u = AllByRecursion HasRows (unplaced u.changes)
 
-module _ (typed : TypedChangesHaveRows) (log : List LogRecord) (all : AllByRecursion IsLogRecord log) where
+module _ (log : List LogRecord) (all : AllByRecursion IsLogRecord log) where
   -- a change of a record is
   record_has_rows : (r : LogRecord) → IsLogRecord r → RecordHas HasRows r
-  record_has_rows (records.Change tx change) is = typed tx change is
+  record_has_rows (records.Change tx change) is = typed_rows tx change is
   record_has_rows (records.Commit tx time authid origin) is = tt
   record_has_rows (records.Abort tx) is = tt
 
@@ -64,39 +42,38 @@ module _ (typed : TypedChangesHaveRows) (log : List LogRecord) (all : AllByRecur
   units_have_rows : AllByRecursion HasRowsEach (units log)
   units_have_rows = all_weaker (UnitHas HasRows) HasRowsEach (units log) (λ u has. each_image HasRows (λ (p : Placed). p.change) u.changes has) (units_have HasRows log (all_weaker IsLogRecord (RecordHas HasRows) log record_has_rows all))
 
-module _ (typed : TypedChangesHaveRows) (stay : RowsStayStanding) where
-  -- rows stand under their keys after such changes
-  changes_stand : (def : TableDef) (changes : List Change) (rows : Rows) → AllByRecursion HasRows changes → RowsStand def rows → RowsStand def (after_changes def changes rows)
-  changes_stand def [] rows all stand = stand
-  changes_stand def (change ∷ changes) rows all stand = changes_stand def changes (after_change def change rows) all.1 (stay def change rows stand all.0)
+-- rows stand under their keys after such changes
+changes_stand : (def : TableDef) (changes : List Change) (rows : Rows) → AllByRecursion HasRows changes → RowsStand def rows → RowsStand def (after_changes def changes rows)
+changes_stand def [] rows all stand = stand
+changes_stand def (change ∷ changes) rows all stand = changes_stand def changes (after_change def change rows) all.1 (change_stands def change rows stand all.0)
 
-  -- and after such units
-  units_stand : (def : TableDef) (us : List LogUnit) (rows : Rows) → AllByRecursion HasRowsEach us → RowsStand def rows → RowsStand def (after_units def us rows)
-  units_stand def [] rows all stand = stand
-  units_stand def (u ∷ us) rows all stand = units_stand def us (after_changes def (unplaced u.changes) rows) all.1 (changes_stand def (unplaced u.changes) rows all.0 stand)
+-- and after such units
+units_stand : (def : TableDef) (us : List LogUnit) (rows : Rows) → AllByRecursion HasRowsEach us → RowsStand def rows → RowsStand def (after_units def us rows)
+units_stand def [] rows all stand = stand
+units_stand def (u ∷ us) rows all stand = units_stand def us (after_changes def (unplaced u.changes) rows) all.1 (changes_stand def (unplaced u.changes) rows all.0 stand)
 
-  -- the rows of the source of a sound log stand under their keys at each point
-  pub rows_stand_at : (server : Server) (def : TableDef) (point : ℕ) → LogIsSound server → RowsStand def (source_at def server.log point)
-  unfolding source_at
-  rows_stand_at server def point sound = units_stand def (units_up_to point server.log) empty (all_filter HasRowsEach (λ (u : LogUnit). nat_le u.head.seq point) (units server.log) (units_have_rows typed server.log sound.typed)) (none_stand (StandsUnderKey def) (entries (empty {X = Values} {R = key_cmp})) (sym (len-entries (empty {X = Values} {R = key_cmp})) ∙ len-empty key_cmp Values))
-    where
-      none_stand : {X : Type 0} (P : X → Type 0) (xs : List X) → length xs ≡ 0 → AllByRecursion P xs
-      none_stand P [] e = tt
-      none_stand P (x ∷ xs) e = absurd (omega (arith, e))
+-- the rows of the source of a sound log stand under their keys at each point
+pub rows_stand_at : (server : Server) (def : TableDef) (point : ℕ) → LogIsSound server → RowsStand def (source_at def server.log point)
+unfolding source_at
+rows_stand_at server def point sound = units_stand def (units_up_to point server.log) empty (all_filter HasRowsEach (λ (u : LogUnit). nat_le u.head.seq point) (units server.log) (units_have_rows server.log sound.typed)) (none_stand (StandsUnderKey def) (entries (empty {X = Values} {R = key_cmp})) (sym (len-entries (empty {X = Values} {R = key_cmp})) ∙ len-empty key_cmp Values))
+  where
+    none_stand : {X : Type 0} (P : X → Type 0) (xs : List X) → length xs ≡ 0 → AllByRecursion P xs
+    none_stand P [] e = tt
+    none_stand P (x ∷ xs) e = absurd (omega (arith, e))
 
-  -- the rows of a user copy of it can be stored
-  pub copy_rows_fit : KeysOfRowsFit → (server : Server) (source : SourceTable) (member : Member) (point : ℕ) → LogIsSound server → source.log ≡ server.log → IsMember member → AllByRecursion (RowFits IsKey IsCopy) (map (λ r. (r.0, record { row = r.1 })) (user_copy source member point))
-  copy_rows_fit keys server source member point sound same fits = subst (AllByRecursion (RowFits IsKey IsCopy)) (sym (copied_are source member point)) (each (selected member rows) (all_filter (λ (r : Values × Values). IsKey r.0 × IsRow r.1) (λ (r : Values × Values). is_selected member r.1) rows all))
-    where
-      rows : List (Values × Values)
-      rows = entries (source_at source.def source.log point)
+-- the rows of a user copy of it can be stored
+pub copy_rows_fit : (server : Server) (source : SourceTable) (member : Member) (point : ℕ) → LogIsSound server → source.log ≡ server.log → IsMember member → AllByRecursion (RowFits IsKey IsCopy) (map (λ r. (r.0, record { row = r.1 })) (user_copy source member point))
+copy_rows_fit server source member point sound same fits = subst (AllByRecursion (RowFits IsKey IsCopy)) (sym (copied_are source member point)) (each (selected member rows) (all_filter (λ (r : Values × Values). IsKey r.0 × IsRow r.1) (λ (r : Values × Values). is_selected member r.1) rows all))
+  where
+    rows : List (Values × Values)
+    rows = entries (source_at source.def source.log point)
 
-      all : AllByRecursion (λ (r : Values × Values). IsKey r.0 × IsRow r.1) rows
-      all = standing_fit keys source.def (source_at source.def source.log point) (subst (λ (log : List LogRecord). RowsStand source.def (source_at source.def log point)) (sym same) (rows_stand_at server source.def point sound))
+    all : AllByRecursion (λ (r : Values × Values). IsKey r.0 × IsRow r.1) rows
+    all = standing_fit source.def (source_at source.def source.log point) (subst (λ (log : List LogRecord). RowsStand source.def (source_at source.def log point)) (sym same) (rows_stand_at server source.def point sound))
 
-      each : (rs : List (Values × Values)) → AllByRecursion (λ (r : Values × Values). IsKey r.0 × IsRow r.1) rs → AllByRecursion (RowFits IsKey IsCopy) (map {A = Values × Values} {B = Values × CopyRow} (λ r. (r.0, record { row = target_row member r.1 })) rs)
-      each [] h = tt
-      each (r ∷ rs) h = ((h.0.0, target_row_fits r.1 h.0.1.1 member fits), each rs h.1)
+    each : (rs : List (Values × Values)) → AllByRecursion (λ (r : Values × Values). IsKey r.0 × IsRow r.1) rs → AllByRecursion (RowFits IsKey IsCopy) (map {A = Values × Values} {B = Values × CopyRow} (λ r. (r.0, record { row = target_row member r.1 })) rs)
+    each [] h = tt
+    each (r ∷ rs) h = ((h.0.0, target_row_fits r.1 h.0.1.1 member fits), each rs h.1)
 
 -- a target that has rows of a copy, and no others, shows no damage
 pub target_undamaged : (number : ℕ) (c : Contents) (rows : List (Values × CopyRow)) → c areas.Target number ≡ table_from_rows key_spelling copy_spelling rows → AllByRecursion (RowFits IsKey IsCopy) rows → IsUndamaged (target_rules number) c
@@ -114,3 +91,7 @@ target_undamaged number c rows is fit = spelt_undamaged (target_rules number) (�
       λ area table. (there key value (sym (λ i. c (area i) (table i) key) ∙ has)).0 refl refl,
       λ area table. (there key value (sym (λ i. c (area i) (table i) key) ∙ has)).1 refl refl,
     )
+
+-- a target that has the rows of a user copy of a sound log's source, and no others, shows no damage
+pub copied_undamaged : TargetIsUndamaged
+copied_undamaged server source member point number c sound same fits is = target_undamaged number c (map (λ r. (r.0, record { row = r.1 })) (user_copy source member point)) is (copy_rows_fit server source member point sound same fits)

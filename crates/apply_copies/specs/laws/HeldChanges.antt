@@ -1,34 +1,12 @@
 -- What a server of a sound world holds of a registration, its table and its change rows.
-use Rattle.std.proofs.Common.{◌≡◌, ℕ, ◌^◌, ◌≤◌, ◌<◌, Bool, true, false, cond, List, [], length, map, sym, ap, subst, ◌∙◌, arith}
-use Rattle.std.specs.Prelude.{max, Option, Some, IfSome, slice_get}
+use Rattle.std.proofs.Common.{◌≡◌, ℕ, ◌^◌, ◌≤◌, ◌<◌, Bool, true, false, cond, List, [], length, map, sym, ap, subst, ◌∙◌, arith, max, Option, Some, IfSome, slice_get, bytes_eq}
 use Rattle.std.specs.Option.{option_map_or, option_and_then}
-use Rattle.std.specs.Str.{bytes_eq}
 use Rattle.std.proofs.lemmas.List.{length-map}
 use Rattle.std.proofs.lemmas.Option.{same_Some}
+use Rattle.world_store.specs.Words.{short_text, change_row_spelling, change_key_spelling, table_from_rows, row_of, registration_rows, Holds, no_rows, tables, between_few}
+use Rattle.site_store.specs.Words.{Contents, Table}
+use Rattle.repl_model.specs.Words.{CdRow, Registration, defined_registration_spelling, IsDefinedRegistration, DefinedRegistration, DefinedTable, changes_between, RegistrationKeepsRules, IsSound, NumbersAreSound, KeepsTable, ServerKeepsRules, LogIsSound, log_limit, Registered, Server, ServerTable, World, server_table, at_place_in, In, at_one, found_in, same_name}
 use Rattle.repl_types.specs.declared.area.Area.TheVariants as areas
-use Rattle.repl_types.specs.declared.change_row.CdRow.{CdRow}
-use Rattle.repl_types.specs.declared.change_row.Registration.{Registration}
-use Rattle.keep_core.specs.Contents.{Contents, Table}
-use Rattle.row_codec.specs.Spelling.{short_text}
-use Rattle.repl_definitions.specs.Defined.{defined_registration_spelling, IsDefinedRegistration}
-use Rattle.repl_definitions.specs.declared.defined.DefinedRegistration.{DefinedRegistration}
-use Rattle.repl_definitions.specs.declared.defined.DefinedTable.{DefinedTable}
-use Rattle.repl_records.specs.Capture.{change_row_spelling}
-use Rattle.repl_records.specs.RecordKeys.{change_key_spelling}
-use Rattle.repl_model.specs.ChangeRows.{changes_between}
-use Rattle.repl_model.specs.Rules.{RegistrationKeepsRules}
-use Rattle.repl_model.specs.Sound.{IsSound, NumbersAreSound}
-use Rattle.repl_model.specs.SoundDefinitions.{KeepsTable, ServerKeepsRules}
-use Rattle.repl_model.specs.SoundLogs.{LogIsSound, log_limit}
-use Rattle.repl_model.specs.World.{Registered, Server, ServerTable, World, server_table}
-use Rattle.rows_in_order.specs.Rows.{table_from_rows}
-use Rattle.rows_in_order.specs.laws.Found.{row_of}
-use Rattle.world_store.specs.DefinitionRows.{registration_rows}
-use Rattle.world_store.specs.Stands.{Holds}
-use Rattle.world_store.specs.Tables.{no_rows, tables}
-use Rattle.lists.specs.laws.Numbered.{at_place_in}
-use Rattle.lists.specs.laws.Members.{In, at_one, found_in}
-use Rattle.repl_model.specs.laws.GrowingServers.{same_name}
 use Rattle.stored_defs.specs.laws.NamedTables.{table_numbered}
 use Rattle.stored_defs.specs.laws.Standing.{holds_defs}
 use Rattle.set_places.specs.Members.{HasRegistration}
@@ -36,7 +14,6 @@ use Rattle.set_places.specs.laws.Registrations.{registration_row_is}
 use Rattle.stored_commits.specs.units.StoredChanges.{stored_change}
 use Rattle.cd_tables.specs.Captured.{ServerIsSound, captured_changes}
 use Rattle.cd_tables.specs.laws.SoundChanges.{change_rows_are}
-use Rattle.world_store.specs.laws.FewRows.{between_few}
 use Rattle.apply_copies.specs.ChangeRules.{IsRegisteredIn}
 use Rattle.apply_copies.specs.Changing.{HasChanges}
 

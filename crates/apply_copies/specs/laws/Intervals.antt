@@ -1,28 +1,16 @@
 -- The change rows of an interval are those of its units, among all that a server has captured.
-use Rattle.std.proofs.Common.{◌≡◌, ℕ, ◌≤◌, Bool, true, false, cond, List, [], ◌∷◌, ◌++◌, map, refl, ap, ◌∙◌, arith}
-use Rattle.std.specs.Prelude.{◌&&◌, nat_lt, nat_le, max, filter}
+use Rattle.std.proofs.Common.{◌≡◌, ℕ, ◌≤◌, Bool, true, false, cond, List, [], ◌∷◌, ◌++◌, map, refl, ap, ◌∙◌, arith, ◌&&◌, nat_lt, nat_le, max, filter}
 use Rattle.std.specs.List.{AllByRecursion, flat_map}
 use Rattle.std.proofs.lemmas.Bool.{ltb-true, leb-true, lt-ltb, le-leb, and_parts}
 use Rattle.std.proofs.lemmas.List.Elements.{filter-append}
-use Rattle.repl_types.specs.declared.change_row.CdRow.{CdRow}
-use Rattle.repl_types.specs.declared.change_row.Registration.{Registration}
-use Rattle.repl_types.specs.declared.record.Change.{Change}
+use Rattle.world_store.specs.Words.{CdKey, ChangeRow, not_both}
+use Rattle.repl_model.specs.Words.{CdRow, Registration, Change, LogRecord, all_weaker, filter_none, filter_all, shows_nothing, insert_row, update_row, delete_row, rows_of, rows_of_placed, change_rows, changes_between, units_between, units, Registered, Server, filter_images, all_flat_map}
 use Rattle.repl_types.specs.declared.record.Change.TheVariants.{Insert, Update, Delete, Start, Stop}
-use Rattle.repl_types.specs.declared.record.LogRecord.{LogRecord}
 use Rattle.repl_types.specs.declared.unit.Unit.{Unit as LogUnit}
-use Rattle.repl_types.specs.laws.Lists.{all_weaker, filter_none, filter_all}
-use Rattle.repl_records.specs.declared.record_keys.CdKey.{CdKey}
-use Rattle.repl_records.specs.declared.capture.ChangeRow.{ChangeRow}
-use Rattle.repl_model.specs.ChangeRows.{shows_nothing, insert_row, update_row, delete_row, rows_of, rows_of_placed, change_rows, changes_between}
-use Rattle.repl_model.specs.SourceAt.{units_between}
-use Rattle.repl_model.specs.Units.{units}
-use Rattle.repl_model.specs.World.{Registered, Server}
-use Rattle.rows_in_order.specs.laws.Before.{not_both}
 use Rattle.stored_commits.specs.units.StoredChanges.{stored_change}
-use Rattle.lists.specs.laws.Images.{filter_images}
 use Rattle.cd_tables.specs.Captured.{captured_changes}
 use Rattle.cd_tables.specs.StoredRows.{change_of}
-use Rattle.cd_tables.specs.laws.InOrder.{all_always, all_lists}
+use Rattle.cd_tables.specs.laws.InOrder.{all_always}
 use Rattle.cd_tables.specs.laws.SoundChanges.{of_own}
 use Rattle.apply_copies.specs.Changing.{rows_between}
 
@@ -61,7 +49,7 @@ module _ (reg : Registration) where
   -- and so are those of a unit
   of_unit : (u : LogUnit) → AllByRecursion (IsOf u.head.seq) (change_rows reg u)
   unfolding change_rows
-  of_unit u = let seq = u.head.seq in all_lists (IsOf seq) (rows_of_placed reg seq) u.changes (all_always (λ placed. AllByRecursion (IsOf seq) (rows_of_placed reg seq placed)) (λ placed. of_own reg seq (AllByRecursion (IsOf seq)) placed tt (of_change seq placed.pos placed.change)) u.changes)
+  of_unit u = let seq = u.head.seq in all_flat_map (IsOf seq) (rows_of_placed reg seq) u.changes (all_always (λ placed. AllByRecursion (IsOf seq) (rows_of_placed reg seq placed)) (λ placed. of_own reg seq (AllByRecursion (IsOf seq)) placed tt (of_change seq placed.pos placed.change)) u.changes)
 
   -- the rows whose seqs pass a test are those of the units that do
   kept_rows : (p : ℕ → Bool) (us : List LogUnit) → filter (λ r. p r.commitseq) (flat_map (change_rows reg) us) ≡ flat_map (change_rows reg) (filter (λ u. p u.head.seq) us)

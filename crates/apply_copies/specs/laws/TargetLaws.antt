@@ -1,15 +1,10 @@
 -- What is known of user copies as targets: which damage is shown of them, and that their rows aren't numbered.
-use Rattle.std.proofs.Common.{◌≡◌, ℕ, true, false, inl, inr}
-use Rattle.std.specs.Prelude.{Option, None}
-use Rattle.repl_types.specs.declared.area.Area.{Area}
-use Rattle.repl_types.specs.declared.status.DamageCause.{DamageCause}
+use Rattle.std.proofs.Common.{◌≡◌, ℕ, true, false, inl, inr, Option, None}
+use Rattle.site_store.specs.Words.{Contents, shown_unseen}
+use Rattle.repl_model.specs.Words.{Area, DamageCause, TargetKind}
 use Rattle.repl_types.specs.declared.status.DamageCause.TheVariants as causes
-use Rattle.keep_core.specs.Contents.{Contents}
-use Rattle.repl_definitions.specs.declared.member.TargetKind.{TargetKind}
 use Rattle.repl_definitions.specs.declared.member.TargetKind.TheVariants.{UserCopy, PointInTime, BaseAggregate, ChangeAggregate, Ccd, Replica}
 use Rattle.stored_commits.specs.actions.StoredSteps.{is_numbered}
-use Rattle.site_store.specs.Damage.{Rules, Shows}
-use Rattle.site_store.specs.laws.Damage.{shown_unseen}
 use Rattle.apply_copies.specs.ChangeRules.{change_source_rules}
 use Rattle.apply_copies.specs.Rules.{source_rules, target_rules}
 use Rattle.apply_copies.specs.Copies.{is_user_copy, ShowsCopyDamage}

@@ -1,40 +1,13 @@
 -- What shows no damage of a source that a copy is loaded from.
-use Rattle.std.proofs.Common.{◌≡◌, ℕ, zero, suc, ◌≤◌, List, length, inl, inr, refl, sym, ap, subst, ◌∙◌, arith}
-use Rattle.std.specs.Prelude.{Option, Some, None, slice_get}
+use Rattle.std.proofs.Common.{◌≡◌, ℕ, zero, suc, ◌≤◌, List, length, inl, inr, refl, sym, ap, subst, ◌∙◌, arith, Option, Some, None, slice_get}
 use Rattle.std.specs.FinMap.{entries}
 use Rattle.std.specs.Option.{option_map_or}
 use Rattle.std.proofs.lemmas.Option.{none-some}
-use Rattle.repl_types.specs.Sizes.{row_limit}
-use Rattle.repl_types.specs.Value.{Values}
-use Rattle.repl_types.specs.declared.area.Area.{Area}
+use Rattle.world_store.specs.Words.{IsKey, IsRow, key_spelling, row_spelling, set_spelling, source_row_spelling, table_from_rows, row_of, source_set_rows, source_rows, Holds, no_rows, tables, RowFits}
+use Rattle.site_store.specs.Words.{Contents, Table, Rules, joined, IsUndamaged, IsSpelt, rows_spelt}
+use Rattle.repl_model.specs.Words.{row_limit, Values, Area, all_weaker, source_set_spelling, Member, SetDef, SourceSet, IsSound, ServerKeepsRules, SetKeepsLimits, UnknownSource, source_at, last_commit, ServerTable, SourceSide, Server, World, at_place_in, In, at_one}
 use Rattle.repl_types.specs.declared.area.Area.TheVariants as areas
 use Rattle.repl_types.specs.declared.status.DamageCause.TheVariants as causes
-use Rattle.repl_types.specs.laws.Lists.{all_weaker}
-use Rattle.keep_core.specs.Contents.{Contents, Table}
-use Rattle.row_codec.specs.Spelling.{IsKey, IsRow, key_spelling, row_spelling, set_spelling}
-use Rattle.repl_records.specs.SourceSide.{source_row_spelling}
-use Rattle.repl_definitions.specs.Sets.{source_set_spelling}
-use Rattle.repl_definitions.specs.declared.member.Member.{Member}
-use Rattle.repl_definitions.specs.declared.set.SetDef.{SetDef}
-use Rattle.repl_definitions.specs.declared.set.SourceSet.{SourceSet}
-use Rattle.repl_model.specs.Sound.{IsSound}
-use Rattle.repl_model.specs.SoundDefinitions.{ServerKeepsRules, SetKeepsLimits, UnknownSource}
-use Rattle.repl_model.specs.SourceAt.{source_at}
-use Rattle.repl_model.specs.Units.{last_commit}
-use Rattle.repl_model.specs.World.{ServerTable, SourceSide, Server, World}
-use Rattle.rows_in_order.specs.Rows.{table_from_rows}
-use Rattle.rows_in_order.specs.laws.Found.{row_of}
-use Rattle.site_store.specs.Damage.{Rules, joined, IsUndamaged, IsSpelt}
-use Rattle.site_store.specs.laws.Damage.{rows_spelt}
-use Rattle.world_store.specs.DefinitionRows.{source_set_rows}
-use Rattle.world_store.specs.LogRows.{source_rows}
-use Rattle.world_store.specs.Stands.{Holds}
-use Rattle.world_store.specs.Tables.{no_rows, tables}
-use Rattle.lists.specs.laws.Numbered.{at_place_in}
-use Rattle.lists.specs.laws.Members.{In, at_one}
-use Rattle.stored_commits.specs.records.SourceLogs.{SourceRowsStand}
-use Rattle.stored_commits.specs.records.SourceTables.{KeysOfRowsFit}
-use Rattle.world_store.specs.SpelledRows.{RowFits}
 use Rattle.stored_defs.specs.laws.Standing.{holds_defs}
 use Rattle.set_places.specs.Members.{member_rules}
 use Rattle.set_places.specs.laws.Registrations.{members_undamaged}
@@ -74,7 +47,7 @@ module _ (w : World) (server : Server) (c : Contents) (sound : IsSound w) (i : I
       let narrow : length member.columns ≤ row_limit = at_one (λ (m : Member). length m.columns ≤ row_limit) side.0.def.members member limits.columns (subst (λ (def : SetDef). In member def.members) side.3 wide.3.1) in
       omega (arith, narrow, wide.3.2)
 
-module _ (keys : KeysOfRowsFit) (stand : SourceRowsStand) (w : World) (server : Server) (c : Contents) (sound : IsSound w) (i : In server w) (holds : Holds w server c) where
+module _ (w : World) (server : Server) (c : Contents) (sound : IsSound w) (i : In server w) (holds : Holds w server c) where
   -- the rules of the rows of a source
   abbrev row_rules : Rules
   row_rules = record { is_key = may_be_source_key; is_value = may_be_source_row; is_needed = λ a t key d. ⊥; is_unfit = is_too_wide }
@@ -88,7 +61,7 @@ module _ (keys : KeysOfRowsFit) (stand : SourceRowsStand) (w : World) (server : 
       by_table None at = absurd (none-some value (sym (ap (λ (u : Table). u key) (holds areas.Source n ∙ ap (λ (o : Option ServerTable). option_map_or (λ t. table_from_rows key_spelling source_row_spelling (source_rows server t.def)) o no_rows) at)) ∙ has))
       by_table (Some t) at =
           let rows = entries (source_at t.def server.log (last_commit server.log)) in
-          let all : HasRows n rows c = has_committed keys stand w server c sound i holds n t at in
+          let all : HasRows n rows c = has_committed w server c sound i holds n t at in
           rows_spelt row_rules areas.Source n key_spelling row_spelling rows key value (all_weaker (RowFits IsKey IsRow) (λ (r : Values × Values). row_rules.is_key areas.Source n (key_spelling r.0) × row_rules.is_value areas.Source n (row_spelling r.1)) rows (λ r fit. ((r.0, fit.0, refl), (record { row = r.1 }, fit.1, refl))) all.fit) (ap (λ (u : Table). u key) (sym all.is) ∙ has)
 
   -- what a server of a sound world holds shows no damage by the rules of the source of a copy

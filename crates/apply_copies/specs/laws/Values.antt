@@ -1,27 +1,13 @@
 -- The values that expressions have are values, and rows that are made of them are rows.
-use Rattle.std.proofs.Common.{◌≡◌, ℕ, zero, suc, ◌-◌, ◌≤◌, ◌^◌, ℤ, pos, negsuc, Bool, true, false, cond, nat_le, leb, List, [], ◌∷◌, ◌++◌, length, get_or, refl, sym, subst, arith}
-use Rattle.std.specs.Prelude.{◌+ℤ◌, ◌-ℤ◌, ◌*ℤ◌, Option, Some, None}
-use Rattle.std.specs.Int.{w64}
-use Rattle.std.specs.Int.RustNames.{FitsSigned}
+use Rattle.std.proofs.Common.{◌≡◌, ℕ, zero, suc, ◌-◌, ◌≤◌, ◌^◌, ℤ, pos, negsuc, Bool, true, false, cond, nat_le, leb, List, [], ◌∷◌, ◌++◌, length, get_or, refl, sym, subst, arith, ◌+ℤ◌, ◌-ℤ◌, ◌*ℤ◌, Option, Some, None, w64, FitsSigned}
 use Rattle.std.specs.List.{AllByRecursion, filter_map, cons_option}
 use Rattle.std.proofs.lemmas.Bool.{and_parts, leb-true}
 use Rattle.std.proofs.lemmas.Str.{IsUtf8-append}
-use Rattle.repl_types.specs.Sizes.{text_limit}
-use Rattle.repl_types.specs.Value.{Values}
-use Rattle.repl_types.specs.ValueText.{IsValue}
-use Rattle.repl_types.specs.declared.value.Value.{Value}
+use Rattle.repl_model.specs.Words.{text_limit, Values, IsValue, Value, ExprNode, IsExprNode, expr_layer_top, expr_layer_below, expr_nodes, IsExpr, IsSource, IsTargetColumn, IsMember, Expr, Expr-F, fold-roll-Expr, ind-Expr, map-Expr, roll-Expr, ColumnFrom, Member, TargetColumn, has_64_bits, integer, of_integers, of_texts, layer_value, value_of, plain_value, target_row, all_parts}
+use Rattle.world_store.specs.Words.{IsRow}
 use Rattle.repl_types.specs.declared.value.Value.TheVariants.{Null, Int, Text}
-use Rattle.row_codec.specs.Spelling.{IsRow}
-use Rattle.repl_definitions.specs.Exprs.{ExprNode, IsExprNode, expr_layer_top, expr_layer_below, expr_nodes, IsExpr}
-use Rattle.repl_definitions.specs.Members.{IsSource, IsTargetColumn, IsMember}
-use Rattle.repl_definitions.specs.declared.expr.Expr.{Expr, Expr-F, fold-roll-Expr, ind-Expr, map-Expr, roll-Expr}
 use Rattle.repl_definitions.specs.declared.expr.Expr.TheOpen as layer
-use Rattle.repl_definitions.specs.declared.member.ColumnFrom.{ColumnFrom}
 use Rattle.repl_definitions.specs.declared.member.ColumnFrom.TheVariants.{Plain, Count, CountOf, Sum, Min, Max}
-use Rattle.repl_definitions.specs.declared.member.Member.{Member}
-use Rattle.repl_definitions.specs.declared.member.TargetColumn.{TargetColumn}
-use Rattle.repl_model.specs.Expressions.{has_64_bits, integer, of_integers, of_texts, layer_value, value_of}
-use Rattle.repl_model.specs.Selection.{plain_value, target_row}
 
 -- ---- what operators make
 
@@ -65,11 +51,6 @@ value_at [] place all = tt
 value_at (v ∷ row) zero all = all.0
 value_at (v ∷ row) (suc place) all = value_at row place all.1
 
--- what holds of the nodes of two expressions holds of those of each
-of_both : {X : Type 0} (P : X → Type 0) (xs ys : List X) → AllByRecursion P (xs ++ ys) → AllByRecursion P xs × AllByRecursion P ys
-of_both P [] ys all = (tt, all)
-of_both P (x ∷ xs) ys all = let rest = of_both P xs ys all.1 in ((all.0, rest.0), rest.1)
-
 module _ (row : Values) (all : AllByRecursion IsValue row) where
   -- the value of an expression is a value, if its literals are
   abbrev HasValue : Expr → Type 0
@@ -97,7 +78,7 @@ module _ (row : Values) (all : AllByRecursion IsValue row) where
   expr_step x (layer.Add l r) e = subst (λ z. HasValue (roll-Expr z)) e (at_expr (layer.Add l.0 r.0) (λ nodes. integers_fit ◌+ℤ◌ (value_of row l.0) (value_of row r.0)))
   expr_step x (layer.Sub l r) e = subst (λ z. HasValue (roll-Expr z)) e (at_expr (layer.Sub l.0 r.0) (λ nodes. integers_fit ◌-ℤ◌ (value_of row l.0) (value_of row r.0)))
   expr_step x (layer.Mul l r) e = subst (λ z. HasValue (roll-Expr z)) e (at_expr (layer.Mul l.0 r.0) (λ nodes. integers_fit ◌*ℤ◌ (value_of row l.0) (value_of row r.0)))
-  expr_step x (layer.Concat l r) e = subst (λ z. HasValue (roll-Expr z)) e (at_expr (layer.Concat l.0 r.0) (λ nodes. let both = of_both IsExprNode (expr_nodes l.0) (expr_nodes r.0) nodes.1 in texts_fit (value_of row l.0) (value_of row r.0) (l.1 both.0) (r.1 both.1)))
+  expr_step x (layer.Concat l r) e = subst (λ z. HasValue (roll-Expr z)) e (at_expr (layer.Concat l.0 r.0) (λ nodes. let both = all_parts IsExprNode (expr_nodes l.0) (expr_nodes r.0) nodes.1 in texts_fit (value_of row l.0) (value_of row r.0) (l.1 both.0) (r.1 both.1)))
 
   -- the value of an expression for a row of values is a value, if the expression's literals are
   pub value_fits : (e : Expr) → IsExpr e → IsValue (value_of row e)

@@ -1,21 +1,12 @@
 -- What is known of a set whose next action is a block.
-use Rattle.std.proofs.Common.{◌≡◌, ◌⊎◌, ℕ, ◌-◌, ◌<◌, ◌≤◌, Bool, true, false, cond, ◌&&◌, ◌||◌, List, [], ◌∷◌, map, filter, fold, refl, sym, ap, subst, ◌∙◌, arith, inl, inr}
-use Rattle.std.specs.Prelude.{IsTrue, ◌==◌, nat_lt, nat_le, Option, Some, None}
+use Rattle.std.proofs.Common.{◌≡◌, ◌⊎◌, ℕ, ◌-◌, ◌<◌, ◌≤◌, Bool, true, false, cond, ◌&&◌, ◌||◌, List, [], ◌∷◌, map, filter, fold, refl, sym, ap, subst, ◌∙◌, arith, inl, inr, IsTrue, ◌==◌, nat_lt, nat_le, Option, Some, None}
 use Rattle.std.specs.List.{AllByRecursion, filter_map, cons_option, enumerate_from, last_or, list_any}
 use Rattle.std.specs.Option.{option_map_or}
 use Rattle.std.proofs.lemmas.Bool.{and_parts, and_from, cond-true, cond-false, lt-ltb, le-ltb, le-leb, ltb-true, ltb-false, lt-leb, leb-true, leb-false, eqb-true}
 use Rattle.std.proofs.lemmas.Option.{same_Some, none-some}
-use Rattle.repl_types.specs.laws.Lists.{filter_none}
+use Rattle.repl_model.specs.Words.{filter_none, is_within, first_cut, block_end, Gap, is_disabled, member_gap, uow_gap, gap_of, signals, refreshes, blocks, reports, idles, refuses, is_new, refresh_by_signal, by_gap, next_action, is_seq, NumbersAreSound, units_up_to, units_between, time_at, synchpoint, base_of, units, last_time, KnownSet, numbered_in, In, at_one, at_each, in_filter, kept_by, in_map, some_passes}
 use Rattle.repl_types.specs.declared.refusal.GapPlace.TheVariants as places
 use Rattle.repl_types.specs.declared.unit.Unit.{Unit as LogUnit}
-use Rattle.repl_model.specs.NextActions.{is_within, first_cut, block_end, Gap, is_disabled, member_gap, uow_gap, gap_of, signals, refreshes, blocks, reports, idles, refuses, is_new, refresh_by_signal, by_gap, next_action}
-use Rattle.repl_model.specs.Sound.{is_seq, NumbersAreSound}
-use Rattle.repl_model.specs.SourceAt.{units_up_to, units_between, time_at}
-use Rattle.repl_model.specs.Trails.{synchpoint, base_of}
-use Rattle.repl_model.specs.Units.{units, last_time}
-use Rattle.repl_model.specs.World.{KnownSet}
-use Rattle.lists.specs.laws.Numbered.{numbered_in}
-use Rattle.lists.specs.laws.Members.{In, at_one, at_each, in_filter, kept_by, in_map, some_passes}
 use Rattle.world_commits.specs.captures.laws.Units.{Rise, units_rise, is_after, all_after}
 use Rattle.subs_sets.specs.Cuts.{first_unit, time_from}
 use Rattle.subs_sets.specs.laws.UnitRows.{rise_filter}

@@ -1,22 +1,15 @@
 -- The tables of contents that have what a server captured.
-use Rattle.std.proofs.Common.{◌≡◌, ℕ, Bool, true, false, cond, ◌&&◌, List, [], ◌∷◌, map, inl, inr, refl, sym, ap, ◌∙◌, arith}
-use Rattle.std.specs.Prelude.{max, nat_lt, nat_le, filter, Option, Some, None, slice_get}
+use Rattle.std.proofs.Common.{◌≡◌, ℕ, Bool, true, false, cond, ◌&&◌, List, [], ◌∷◌, map, refl, sym, ap, ◌∙◌, max, nat_lt, nat_le, filter, Option, Some, None, slice_get}
 use Rattle.std.specs.Option.{option_map, option_map_or, option_and_then}
-use Rattle.std.proofs.lemmas.Bool.{cases_lt, lt-ltb, le-ltb}
+use Rattle.world_store.specs.Words.{change_row_spelling, change_key_spelling, UowRow, table_from_rows}
+use Rattle.site_store.specs.Words.{Contents, Table}
+use Rattle.repl_model.specs.Words.{units_between, units, Registered, Server, ServerTable, filter_images}
 use Rattle.repl_types.specs.declared.unit.Unit.{Unit as LogUnit}
-use Rattle.keep_core.specs.Contents.{Contents, Table}
-use Rattle.repl_records.specs.Capture.{change_row_spelling}
-use Rattle.repl_records.specs.RecordKeys.{change_key_spelling}
-use Rattle.repl_records.specs.declared.capture.UowRow.{UowRow}
-use Rattle.repl_model.specs.SourceAt.{units_between}
-use Rattle.repl_model.specs.Units.{units}
-use Rattle.repl_model.specs.World.{Registered, Server, ServerTable}
-use Rattle.rows_in_order.specs.Rows.{table_from_rows}
 use Rattle.stored_commits.specs.units.StoredCaptures.{HasCaptured}
-use Rattle.lists.specs.laws.Images.{filter_images}
 use Rattle.cd_tables.specs.Captured.{shown_head, unit_row, captured_units, next_captured, captured_changes}
 use Rattle.cd_tables.specs.Finding.{first_unit}
 use Rattle.cd_tables.specs.StoredRows.{first_of, HasChangeRows, HasUnitRows, head_of}
+use Rattle.stored_commits.specs.laws.RowsSoFar.{below_higher}
 
 -- the captured units stand in the unit-of-work table
 pub has_units : (server : Server) (c : Contents) → HasCaptured server c → HasUnitRows (captured_units server) c
@@ -28,16 +21,6 @@ has_changes server c has n t r at is = has.changes n ∙ ap (λ (o : Option Serv
   where
     stored : Registered → Table
     stored q = table_from_rows change_key_spelling change_row_spelling (captured_changes server q)
-
--- a number is above the higher of two if it is above both
-above_both : (a b n : ℕ) → nat_lt (max a b) n ≡ (nat_lt a n && nat_lt b n)
-above_both a b n = elim (cases_lt a n) [
-  | inl la ↦ elim (cases_lt b n) [
-    | inl lb ↦ lt-ltb (max a b) n (omega (arith, la, lb)) ∙ sym (λ i. lt-ltb a n la i && lt-ltb b n lb i)
-    | inr lb ↦ le-ltb (max a b) n (omega (arith, lb)) ∙ sym (λ i. lt-ltb a n la i && le-ltb b n lb i)
-  ]
-  | inr la ↦ le-ltb (max a b) n (omega (arith, la)) ∙ sym (ap (λ (t : Bool). t && nat_lt b n) (le-ltb a n la))
-]
 
 -- a filter of what a filter keeps is the filter by both tests
 filter_both : {X : Type 0} (p q r : X → Bool) → ((x : X) → (q x && p x) ≡ r x) → (xs : List X) → filter p (filter q xs) ≡ filter r xs
@@ -59,7 +42,7 @@ first_captured after server =
     ap (λ (l : List (ℕ × UowRow)). option_map head_of (first_of l)) (filter_images (unit_row server) (λ r. nat_lt after r.0) there)
     ∙ ap (option_map head_of) (first_image (unit_row server) (filter (λ u. nat_lt after u.head.seq) there))
     ∙ heads (first_of (filter (λ u. nat_lt after u.head.seq) there))
-    ∙ ap (λ (l : List LogUnit). option_map (shown_head server) (first_of l)) (filter_both (λ u. nat_lt after u.head.seq) (λ u. nat_lt server.floor u.head.seq && nat_le u.head.seq server.captured) (λ u. nat_lt (max after server.floor) u.head.seq && nat_le u.head.seq server.captured) (λ u. moved (nat_lt server.floor u.head.seq) (nat_le u.head.seq server.captured) (nat_lt after u.head.seq) ∙ ap (λ (b : Bool). b && nat_le u.head.seq server.captured) (sym (above_both after server.floor u.head.seq))) (units server.log))
+    ∙ ap (λ (l : List LogUnit). option_map (shown_head server) (first_of l)) (filter_both (λ u. nat_lt after u.head.seq) (λ u. nat_lt server.floor u.head.seq && nat_le u.head.seq server.captured) (λ u. nat_lt (max after server.floor) u.head.seq && nat_le u.head.seq server.captured) (λ u. moved (nat_lt server.floor u.head.seq) (nat_le u.head.seq server.captured) (nat_lt after u.head.seq) ∙ ap (λ (b : Bool). b && nat_le u.head.seq server.captured) (sym (below_higher after server.floor u.head.seq))) (units server.log))
   where
     there : List LogUnit
     there = units_between server.floor server.captured server.log

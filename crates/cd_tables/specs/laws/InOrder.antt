@@ -1,12 +1,8 @@
 -- Lists in which each element stands in a relation to each later one.
-use Rattle.std.proofs.Common.{◌≡◌, ℕ, ◌<◌, Bool, true, false, cond, List, [], ◌∷◌, ◌++◌, map, Option, Some, None, arith}
-use Rattle.std.specs.Prelude.{IfSome}
+use Rattle.std.proofs.Common.{◌≡◌, ℕ, ◌<◌, Bool, true, false, cond, List, [], ◌∷◌, ◌++◌, map, Option, Some, None, arith, IfSome, Less}
 use Rattle.std.specs.List.{AllByRecursion, filter, filter_map, flat_map, cons_option}
-use Rattle.std.specs.declared.cmp.Ordering.TheVariants.{Less}
-use Rattle.repl_types.specs.Bytes.{bytes_cmp}
-use Rattle.repl_types.specs.laws.Lists.{all_weaker, all_append, all_filter}
-use Rattle.lists.specs.laws.Members.{each_image, each_given}
-use Rattle.rows_in_order.specs.Rows.{IsRising}
+use Rattle.world_store.specs.Words.{IsRising}
+use Rattle.repl_model.specs.Words.{bytes_cmp, all_weaker, all_append, all_filter, each_image, each_given, all_flat_map}
 
 -- each element stands in a relation to each later one
 abbrev pub InOrder : {X : Type 0} → (X → X → Type 0) → List X → Type 0
@@ -21,11 +17,6 @@ Below at x y = at x < at y
 pub all_always : {X : Type 0} (P : X → Type 0) → ((x : X) → P x) → (xs : List X) → AllByRecursion P xs
 all_always P f [] = tt
 all_always P f (x ∷ xs) = (f x, all_always P f xs)
-
--- what holds of each element of each list that a function gives holds of each of all its lists
-pub all_lists : {X Y : Type 0} (P : Y → Type 0) (f : X → List Y) (xs : List X) → AllByRecursion (λ x. AllByRecursion P (f x)) xs → AllByRecursion P (flat_map f xs)
-all_lists P f [] all = tt
-all_lists P f (x ∷ xs) all = all_append P (f x) (flat_map f xs) all.0 (all_lists P f xs all.1)
 
 -- what a filter keeps of a list in order is in order
 pub filter_in_order : {X : Type 0} (R : X → X → Type 0) (p : X → Bool) (xs : List X) → InOrder R xs → InOrder R (filter p xs)
@@ -61,7 +52,7 @@ lists_in_order R S Of f step own [] all order = tt
 lists_in_order {X} {Y} R S Of f step own (x ∷ xs) all order = append_in_order S (f x) (flat_map f xs) all.0 (lists_in_order R S Of f step own xs all.1 order.1) (all_weaker (Of x) (λ y. AllByRecursion (S y) (flat_map f xs)) (f x) later (own x))
   where
     later : (y : Y) → Of x y → AllByRecursion (S y) (flat_map f xs)
-    later y is = all_lists (S y) f xs (all_weaker (R x) (λ z. AllByRecursion (S y) (f z)) xs (λ z r. all_weaker (Of z) (S y) (f z) (λ v of. step x z y v r is of) (own z)) order.0)
+    later y is = all_flat_map (S y) f xs (all_weaker (R x) (λ z. AllByRecursion (S y) (f z)) xs (λ z r. all_weaker (Of z) (S y) (f z) (λ v of. step x z y v r is of) (own z)) order.0)
 
 -- rows of elements in order rise, if the key of an element's row is before those of later ones
 pub rows_rise : {X A Y : Type 0} (R : X → X → Type 0) (fits : X → Type 0) (key : A → List ℕ) (row : X → A × Y) → ((x z : X) → fits x → fits z → R x z → bytes_cmp (key (row x).0) (key (row z).0) ≡ Less) → (xs : List X) → AllByRecursion fits xs → InOrder R xs → IsRising key (map row xs)

@@ -1,47 +1,20 @@
 -- The change rows that a sound server has captured.
-use Rattle.std.proofs.Common.{◌≡◌, ℕ, zero, suc, ◌<◌, ◌≤◌, ◌^◌, ◌⊎◌, inl, inr, Bool, true, false, cond, ◌&&◌, List, [], ◌∷◌, map, length, refl, sym, ap, subst, ◌∙◌, arith}
-use Rattle.std.specs.Prelude.{max, Option, Some, IfSome, slice_get, slice_index_or}
+use Rattle.std.proofs.Common.{◌≡◌, ℕ, zero, suc, ◌<◌, ◌≤◌, ◌^◌, ◌⊎◌, inl, inr, Bool, true, false, cond, ◌&&◌, List, [], ◌∷◌, map, length, refl, sym, ap, subst, ◌∙◌, arith, max, Option, Some, IfSome, slice_get, slice_index_or, bytes_eq, Ordering, Less, Equal}
 use Rattle.std.specs.List.{AllByRecursion}
 use Rattle.std.specs.Cmp.{nat_cmp_is}
 use Rattle.std.specs.Ordering.{nat_cmp, ordering_then}
-use Rattle.std.specs.Str.{bytes_eq}
-use Rattle.std.specs.declared.cmp.Ordering.{Ordering}
-use Rattle.std.specs.declared.cmp.Ordering.TheVariants.{Less, Equal}
 use Rattle.std.proofs.lemmas.List.{length-map}
 use Rattle.std.proofs.lemmas.Option.{same_Some}
 use Rattle.std.proofs.lemmas.Bool.{and_parts}
-use Rattle.lists.specs.laws.Members.{each_image}
-use Rattle.repl_types.specs.Bytes.{bytes_cmp}
-use Rattle.repl_types.specs.Value.{Values, images}
-use Rattle.repl_types.specs.ValueText.{IsValue}
-use Rattle.repl_types.specs.laws.Lists.{all_weaker}
-use Rattle.repl_types.specs.declared.record.Change.{Change}
+use Rattle.world_store.specs.Words.{Is16, Is64, IsRow, IsChange, whole_order, IsChangeKey, change_key_spelling, change_key_cmp, IsChangeRow, order_change_key, RowFits}
+use Rattle.repl_model.specs.Words.{each_image, bytes_cmp, Values, images, IsValue, all_weaker, Change, CdRow, Registration, Placed, RegistrationKeepsRules, all_places, are_among, places_rise, table_of, units_between, shows_nothing, insert_row, update_row, delete_row, rows_of, rows_of_placed, change_rows, changes_between, LogIsSound, KeepsTable, Registered, Server, ServerTable, among_below, among_first, rising_few, all_flat_map}
 use Rattle.repl_types.specs.declared.record.Change.TheVariants.{Insert, Update, Delete, Start, Stop}
-use Rattle.repl_types.specs.declared.change_row.CdRow.{CdRow}
-use Rattle.repl_types.specs.declared.change_row.Registration.{Registration}
-use Rattle.repl_types.specs.declared.unit.Placed.{Placed}
 use Rattle.repl_types.specs.declared.unit.Unit.{Unit as LogUnit}
 use Rattle.repl_types.specs.declared.value.Value.TheVariants.{Null}
-use Rattle.row_codec.specs.Spelling.{Is16, Is64, IsRow}
-use Rattle.row_codec.specs.LogRecords.{IsChange}
-use Rattle.row_codec.specs.laws.Orders.{whole_order}
-use Rattle.repl_records.specs.RecordKeys.{IsChangeKey, change_key_spelling, change_key_cmp}
-use Rattle.repl_records.specs.Capture.{IsChangeRow}
-use Rattle.repl_records.specs.laws.RecordKeys.{order_change_key}
-use Rattle.repl_model.specs.Rules.{RegistrationKeepsRules, all_places}
-use Rattle.lists.specs.Lists.{are_among, places_rise}
-use Rattle.repl_model.specs.Tables.{table_of}
-use Rattle.repl_model.specs.SourceAt.{units_between}
-use Rattle.repl_model.specs.ChangeRows.{shows_nothing, insert_row, update_row, delete_row, rows_of, rows_of_placed, change_rows, changes_between}
-use Rattle.repl_model.specs.SoundLogs.{LogIsSound}
-use Rattle.repl_model.specs.SoundDefinitions.{KeepsTable}
-use Rattle.repl_model.specs.World.{Registered, Server, ServerTable}
-use Rattle.world_store.specs.SpelledRows.{RowFits}
-use Rattle.lists.specs.laws.Places.{among_below, among_first, rising_few}
 use Rattle.stored_commits.specs.units.StoredChanges.{stored_change}
 use Rattle.cd_tables.specs.Captured.{ServerIsSound, captured_changes}
 use Rattle.cd_tables.specs.StoredRows.{AreChangeRows}
-use Rattle.cd_tables.specs.laws.InOrder.{InOrder, Below, all_always, all_lists, lists_in_order, rows_rise}
+use Rattle.cd_tables.specs.laws.InOrder.{InOrder, Below, all_always, lists_in_order, rows_rise}
 use Rattle.cd_tables.specs.laws.SoundUnits.{ChangeFits, UnitFits, place_of, seq_of, between_fit, between_rise}
 
 -- a change row has a spelling, under a key that has one
@@ -78,7 +51,7 @@ value_at (v ∷ vs) zero all = all.0
 value_at (v ∷ vs) (suc place) all = value_at vs place all.1
 
 -- the images of a row of values are values
-images_are : (places : List ℕ) (row : Values) → AllByRecursion IsValue row → AllByRecursion IsValue (images places row)
+pub images_are : (places : List ℕ) (row : Values) → AllByRecursion IsValue row → AllByRecursion IsValue (images places row)
 images_are [] row all = tt
 images_are (place ∷ places) row all = (value_at row place all, images_are places row all)
 
@@ -87,7 +60,7 @@ imaged : (places : List ℕ) (row : Values) → length places < 2 ^ 16 → IsRow
 imaged places row few fit = (omega (arith, few, length-map places (λ place. slice_index_or row place Null)), images_are places row fit.1)
 
 -- NULLs are values
-nulls_are : (places : List ℕ) → AllByRecursion IsValue (map (λ place. Null) places)
+pub nulls_are : (places : List ℕ) → AllByRecursion IsValue (map (λ place. Null) places)
 nulls_are [] = tt
 nulls_are (place ∷ places) = (tt, nulls_are places)
 
@@ -178,7 +151,7 @@ module _ (reg : Registration) where
   -- the rows of a unit are of the unit
   of_unit : (u : LogUnit) → AllByRecursion (IsOfUnit u) (change_rows reg u)
   unfolding change_rows
-  of_unit u = all_lists (IsOfUnit u) (rows_of_placed reg u.head.seq) u.changes (all_always (λ placed. AllByRecursion (IsOfUnit u) (rows_of_placed reg u.head.seq placed)) (λ placed.
+  of_unit u = all_flat_map (IsOfUnit u) (rows_of_placed reg u.head.seq) u.changes (all_always (λ placed. AllByRecursion (IsOfUnit u) (rows_of_placed reg u.head.seq placed)) (λ placed.
       of_own reg u.head.seq (AllByRecursion (IsOfUnit u)) placed tt (all_weaker (IsOfChange u.head.seq placed) (IsOfUnit u) (rows_of reg u.head.seq placed.pos placed.change) (λ r is. is.0) (of_change reg u.head.seq placed placed.change))) u.changes)
 
   -- they stand in order
@@ -199,7 +172,7 @@ module _ (reg : Registration) where
   -- and have spellings
   unit_rows_fit : HasFewColumns reg → (u : LogUnit) → UnitFits u → AllByRecursion ChangeRowFits (change_rows reg u)
   unfolding change_rows
-  unit_rows_fit few u fit = all_lists ChangeRowFits (rows_of_placed reg u.head.seq) u.changes (all_weaker ChangeFits (λ placed. AllByRecursion ChangeRowFits (rows_of_placed reg u.head.seq placed)) u.changes
+  unit_rows_fit few u fit = all_flat_map ChangeRowFits (rows_of_placed reg u.head.seq) u.changes (all_weaker ChangeFits (λ placed. AllByRecursion ChangeRowFits (rows_of_placed reg u.head.seq placed)) u.changes
       (λ placed is. of_own reg u.head.seq (AllByRecursion ChangeRowFits) placed tt (change_rows_fit reg u.head.seq placed.pos is.1.0 placed.change few fit.seq is.0 is.1.1)) fit.changes)
 
   -- ---- the rows of a log
@@ -215,7 +188,7 @@ module _ (reg : Registration) where
     -- they have spellings
     pub log_rows_fit : HasFewColumns reg → AllByRecursion ChangeRowFits (changes_between server.log reg low high)
     unfolding changes_between
-    log_rows_fit few = all_lists ChangeRowFits (change_rows reg) (units_between low high server.log)
+    log_rows_fit few = all_flat_map ChangeRowFits (change_rows reg) (units_between low high server.log)
         (all_weaker UnitFits (λ u. AllByRecursion ChangeRowFits (change_rows reg u)) (units_between low high server.log) (unit_rows_fit few) (between_fit server sound low high))
 
 -- ---- their keys

@@ -1,26 +1,11 @@
 -- The units of a sound log, and the rows of the captured ones.
-use Rattle.std.proofs.Common.{◌≡◌, ℕ, ◌+◌, ◌<◌, ◌≤◌, ◌^◌, Bool, true, false, cond, ◌&&◌, List, [], ◌∷◌, Some, None, refl, arith}
-use Rattle.std.specs.Prelude.{◌==◌, nat_lt, nat_le, IfSome, find}
+use Rattle.std.proofs.Common.{◌≡◌, ℕ, ◌+◌, ◌<◌, ◌≤◌, ◌^◌, Bool, true, false, cond, ◌&&◌, List, [], ◌∷◌, Some, None, refl, arith, ◌==◌, nat_lt, nat_le, IfSome, find, nat_cmp}
 use Rattle.std.specs.List.{AllByRecursion, filter, enumerate_from}
 use Rattle.std.specs.Option.{option_map_or}
-use Rattle.std.specs.Ordering.{nat_cmp}
-use Rattle.repl_types.specs.laws.Lists.{all_weaker, all_filter}
-use Rattle.repl_types.specs.declared.record.LogRecord.{LogRecord}
+use Rattle.world_store.specs.Words.{Is64, IsName, IsOrigin, b64, IsChange, IsLogRecord, whole_order, order64, IsUow, IsCode, key_before, RowFits}
+use Rattle.repl_model.specs.Words.{all_weaker, all_filter, LogRecord, Placed, At, positions, last_end, change_of, changes_up_to, unit_at, units, units_between, LogIsSound, Server, code_in, all_numbered, each_image, each_given}
 use Rattle.repl_types.specs.declared.record.LogRecord.TheVariants as records
-use Rattle.repl_types.specs.declared.unit.Placed.{Placed}
 use Rattle.repl_types.specs.declared.unit.Unit.{Unit as LogUnit}
-use Rattle.row_codec.specs.Spelling.{Is64, IsName, IsOrigin, b64}
-use Rattle.row_codec.specs.LogRecords.{IsChange, IsLogRecord}
-use Rattle.row_codec.specs.laws.Orders.{whole_order, order64}
-use Rattle.repl_records.specs.Capture.{IsUow, IsCode}
-use Rattle.repl_model.specs.Units.{At, positions, last_end, change_of, changes_up_to, unit_at, units}
-use Rattle.repl_model.specs.SourceAt.{units_between}
-use Rattle.repl_model.specs.SoundLogs.{LogIsSound}
-use Rattle.repl_model.specs.World.{Server, code_in}
-use Rattle.rows_in_order.specs.laws.ByNumber.{key_before}
-use Rattle.world_store.specs.SpelledRows.{RowFits}
-use Rattle.lists.specs.laws.Places.{all_numbered}
-use Rattle.lists.specs.laws.Members.{each_image, each_given}
 use Rattle.cd_tables.specs.Captured.{ServerIsSound, unit_row, captured_units}
 use Rattle.cd_tables.specs.StoredRows.{AreUnitRows}
 use Rattle.cd_tables.specs.laws.InOrder.{InOrder, Below, filter_in_order, given_rise, rows_rise}

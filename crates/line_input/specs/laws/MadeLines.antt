@@ -1,7 +1,5 @@
 -- Laws of lines of which bytes are made up: proofs, and nothing to believe.
-use Rattle.std.proofs.Common.{◌≡◌, ◌≤◌, ◌-◌, ◌+◌, ◌++◌, ◌∷◌, [], ℕ, List, zero, suc, refl, sym, ap, ap₂, ◌∙◌, append_assoc, arith}
-use Rattle.std.specs.Prelude.{Option, None}
-use Rattle.std.specs.Option.{option_map, option_to_list}
+use Rattle.std.proofs.Common.{◌≡◌, ◌≤◌, ◌-◌, ◌+◌, ◌++◌, ◌∷◌, [], ℕ, List, zero, suc, refl, sym, ap, ap₂, ◌∙◌, append_assoc, arith, Option, None, option_map, option_to_list}
 use Rattle.std.specs.Str.Lines.{lines}
 use Rattle.line_input.specs.laws.Lines.{lines-feed, lines-made}
 use Rattle.line_input.specs.Lines.{ScriptLine, script_line, script_from}

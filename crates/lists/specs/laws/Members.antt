@@ -1,5 +1,5 @@
 -- The elements of lists: which they are, and what holds of each.
-use Rattle.std.proofs.Common.{◌≡◌, Bool, true, false, cond, not, ◌||◌, ◌⊎◌, inl, inr, List, [], ◌∷◌, ◌++◌, map, Option, Some, None, refl, sym, ap, subst, ◌∙◌}
+use Rattle.std.proofs.Common.{◌≡◌, Bool, true, false, cond, not, ◌||◌, ◌⊎◌, inl, inr, List, [], ◌∷◌, ◌++◌, map, Option, Some, None, refl, sym, ap, subst, ◌∙◌, ◌+◌}
 use Rattle.std.specs.List.{AllByRecursion, AllZip, filter, filter_map, cons_option, flat_map, find, list_all, list_any}
 use Rattle.std.specs.Option.{option_or, option_map, is_some, IfSome}
 use Rattle.std.proofs.lemmas.Bool.{true≢false, false≢true, both_ways, not-true, and_parts, and_from, or_cases, or_left, or_right, cond_both}
@@ -267,3 +267,18 @@ found_alike {X} {Y} R p q f (x ∷ xs) (y ∷ ys) h = by_test (p x) (q y) (f x y
     by_test true false e rest = absurd (false≢true e)
     by_test false true e rest = absurd (true≢false e)
     by_test false false e rest = rest
+
+-- the one element that passes a test is found
+pub find_alone : {X : Type 0} (p : X → Bool) (xs : List X) (x : X) → In x xs → p x ≡ true → ((y : X) → In y xs → p y ≡ true → y ≡ x) → find p xs ≡ Some x
+find_alone p [] x i e alone = absurd i
+find_alone {X} p (y ∷ ys) x i e alone = by_test (λ j. find_alone p ys x j e (λ z k passes. alone z (inr k) passes)) (p y) refl i
+  where
+    by_test : (In x ys → find p ys ≡ Some x) → (b : Bool) → p y ≡ b → In x (y ∷ ys) → cond b (Some y) (find p ys) ≡ Some x
+    by_test rest true passes j = ap Some (alone y (inl refl) passes)
+    by_test rest false fails (inl same) = absurd (false≢true (sym fails ∙ ap p (sym same) ∙ e))
+    by_test rest false fails (inr j) = rest j
+
+-- what holds of two lists, one after the other, holds of both
+pub all_parts : {X : Type 0} (P : X → Type 0) (xs ys : List X) → AllByRecursion P (xs ++ ys) → AllByRecursion P xs × AllByRecursion P ys
+all_parts P [] ys all = (tt, all)
+all_parts P (x ∷ xs) ys all = let rest = all_parts P xs ys all.1 in ((all.0, rest.0), rest.1)

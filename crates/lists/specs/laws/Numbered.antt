@@ -1,8 +1,8 @@
 -- Elements with their numbers, and the places of elements.
-use Rattle.std.proofs.Common.{◌≡◌, ℕ, zero, suc, ◌+◌, ◌-◌, ◌≤◌, inl, inr, List, [], ◌∷◌, ap, sym, ◌∙◌, arith}
-use Rattle.std.specs.Prelude.{Option, Some, slice_get}
-use Rattle.std.specs.List.{enumerate_from}
+use Rattle.std.proofs.Common.{◌≡◌, ℕ, zero, suc, ◌+◌, ◌-◌, ◌≤◌, inl, inr, List, [], ◌∷◌, ap, sym, ◌∙◌, arith, Option, Some, slice_get, map, refl, ◌++◌}
+use Rattle.std.specs.List.{enumerate_from, AllByRecursion, flat_map}
 use Rattle.lists.specs.laws.Members.{In}
+use Rattle.std.specs.Option.{option_map_or}
 
 -- an element stands with a number
 pub in_numbered : {X : Type 0} (n : ℕ) (xs : List X) (x : X) → In x xs → (m : ℕ) × In (m, x) (enumerate_from n xs)
@@ -44,3 +44,19 @@ at_place_in {X} (y ∷ ys) zero x e = inl (inside y x e)
     inside : (a b : X) → ◌≡◌ {A = Option X} (Some a) (Some b) → b ≡ a
     inside a b e = cc
 at_place_in (y ∷ ys) (suc n) x e = inr (at_place_in ys n x e)
+
+-- they make the same of numbered elements
+pub numbered_alike : {X Y : Type 0} (f g : ℕ × X → Y) (b : ℕ) (xs : List X) → AllByRecursion (λ x. (n : ℕ) → f (n, x) ≡ g (n, x)) xs → map f (enumerate_from b xs) ≡ map g (enumerate_from b xs)
+numbered_alike f g b [] all = refl
+numbered_alike {X} {Y} f g b (x ∷ xs) all = ap (λ (y : Y). y ∷ map f (enumerate_from (b + 1) xs)) (all.0 b) ∙ ap (λ (l : List Y). g (b, x) ∷ l) (numbered_alike f g (b + 1) xs all.1)
+
+-- and the same lists
+pub numbered_lists_alike : {X Y : Type 0} (f g : ℕ × X → List Y) (b : ℕ) (xs : List X) → AllByRecursion (λ x. (n : ℕ) → f (n, x) ≡ g (n, x)) xs → flat_map f (enumerate_from b xs) ≡ flat_map g (enumerate_from b xs)
+numbered_lists_alike f g b [] all = refl
+numbered_lists_alike {X} {Y} f g b (x ∷ xs) all = ap (λ (l : List Y). l ++ flat_map f (enumerate_from (b + 1) xs)) (all.0 b) ∙ ap (λ (l : List Y). g (b, x) ++ l) (numbered_lists_alike f g (b + 1) xs all.1)
+
+-- they make the same of a place
+pub place_alike : {X Z : Type 0} (f g : X → Z) (z : Z) (xs : List X) (n : ℕ) → AllByRecursion (λ x. f x ≡ g x) xs → option_map_or f (slice_get xs n) z ≡ option_map_or g (slice_get xs n) z
+place_alike f g z [] n all = refl
+place_alike f g z (x ∷ xs) zero all = all.0
+place_alike f g z (x ∷ xs) (suc n) all = place_alike f g z xs n all.1

@@ -1,8 +1,7 @@
 -- Lists of places and of numbered things: proofs, and nothing to believe.
-use Rattle.std.proofs.Common.{◌≡◌, ℕ, zero, suc, ◌+◌, ◌<◌, ◌≤◌, Bool, true, false, List, [], ◌∷◌, length, map, refl, sym, arith}
-use Rattle.std.specs.Prelude.{◌&&◌, ◌||◌, not, ◌==◌, nat_lt, Option, Some, None, IfSome}
+use Rattle.std.proofs.Common.{◌≡◌, ℕ, zero, suc, ◌+◌, ◌<◌, ◌≤◌, Bool, true, false, List, [], ◌∷◌, length, refl, sym, arith, ◌||◌, not, ◌==◌, nat_lt, Option, Some, None, ap, inl, inr, ◌≢◌, ◌⊎◌, slice_get}
 use Rattle.std.specs.List.{AllByRecursion, cons_option, IsDistinct, enumerate_from, filter_map, list_all, list_any, range_with_len}
-use Rattle.std.proofs.lemmas.Bool.{and_parts, eqb-true, ltb-true}
+use Rattle.std.proofs.lemmas.Bool.{and_parts, eqb-true, ltb-true, false≢true}
 use Rattle.std.proofs.lemmas.Map.Steps.{length-le_from_distinct_below}
 use Rattle.lists.specs.laws.Members.{at_each, passes_at}
 use Rattle.lists.specs.Lists.{all_differ, is_among, are_among, places_rise}
@@ -99,3 +98,24 @@ rising_from m n (p ∷ ps) e low high le =
 -- numbers that rise below a limit are no more than it
 pub rising_few : (n : ℕ) (ps : List ℕ) → places_rise ps ≡ true → AllByRecursion (λ p. p < n) ps → length ps ≤ n
 rising_few n ps e all = let few = rising_from 0 n ps e (at_each (λ p. 0 ≤ p) ps (λ p i. omega arith)) all (omega arith) in omega arith
+
+-- of two places one is the first
+pub one_first : (m n : ℕ) → m ≢ n → (m < n) ⊎ (n < m)
+one_first zero zero ne = absurd (ne refl)
+one_first zero (suc n) ne = inl (omega arith)
+one_first (suc m) zero ne = inr (omega arith)
+one_first (suc m) (suc n) ne = elim (one_first m n (λ e. ne (ap suc e))) [
+  | inl lt ↦ inl (omega (arith, lt))
+  | inr lt ↦ inr (omega (arith, lt))
+]
+
+-- what stands at each place below the length
+pub at_within : {X : Type 0} (xs : List X) (n : ℕ) → n < length xs → (x : X) × (slice_get xs n ≡ Some x)
+at_within [] n lt = absurd (omega arith)
+at_within (x ∷ xs) zero lt = (x, refl)
+at_within (x ∷ xs) (suc n) lt = at_within xs n (omega arith)
+
+-- what isn't nothing is above it
+pub above_zero : (n : ℕ) → not (n == 0) ≡ true → 0 < n
+above_zero zero e = absurd (false≢true e)
+above_zero (suc n) e = omega arith

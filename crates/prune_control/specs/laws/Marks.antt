@@ -1,32 +1,11 @@
 -- The marks of sets, as their sources hold them.
-use Rattle.std.proofs.Common.{◌≡◌, ℕ, zero, ◌/◌, ◌%◌, ◌^◌, List, [], ◌∷◌, ◌++◌, refl, sym, ap, subst, ◌∙◌, arith, inl, inr}
-use Rattle.std.specs.Prelude.{Option, Some, None, slice_get}
-use Rattle.std.specs.Option.{option_or}
+use Rattle.std.proofs.Common.{◌≡◌, ℕ, zero, ◌/◌, ◌%◌, ◌^◌, List, [], ◌∷◌, ◌++◌, sym, ap, subst, ◌∙◌, arith, inl, inr, Option, Some, None, slice_get}
 use Rattle.std.proofs.lemmas.Option.{none-some}
-use Rattle.repl_types.specs.declared.area.Area.{Area}
+use Rattle.world_store.specs.Words.{b32, b64, one_whole, mark_spelling, IsMark, SyncMark, one_mark, table_from_rows, row_of, mark_rows, Holds, tables, first_table, Spells, no_first}
+use Rattle.site_store.specs.Words.{Contents, Table, Shows, IsUndamaged}
+use Rattle.repl_model.specs.Words.{Area, DamageCause, SourceSet, IsSound, ServerKeepsRules, SourceSide, Server, World, KnownSet, known_sets, known_stands, source_in, In, at_one}
 use Rattle.repl_types.specs.declared.area.Area.TheVariants as areas
-use Rattle.repl_types.specs.declared.status.DamageCause.{DamageCause}
 use Rattle.repl_types.specs.declared.status.DamageCause.TheVariants as causes
-use Rattle.keep_core.specs.Contents.{Contents, Table}
-use Rattle.row_codec.specs.Spelling.{b32, b64}
-use Rattle.row_codec.specs.laws.Ones.{one_whole}
-use Rattle.repl_definitions.specs.declared.set.SourceSet.{SourceSet}
-use Rattle.repl_records.specs.Prune.{mark_spelling, IsMark}
-use Rattle.repl_records.specs.declared.prune.SyncMark.{SyncMark}
-use Rattle.repl_records.specs.laws.Prune.{one_mark}
-use Rattle.repl_model.specs.Sound.{IsSound}
-use Rattle.repl_model.specs.SoundDefinitions.{ServerKeepsRules}
-use Rattle.repl_model.specs.World.{SourceSide, Server, World, KnownSet, known_sets}
-use Rattle.rows_in_order.specs.Rows.{table_from_rows}
-use Rattle.rows_in_order.specs.laws.Found.{row_of}
-use Rattle.site_store.specs.Damage.{Shows, IsUndamaged}
-use Rattle.world_store.specs.CaptureRows.{mark_rows}
-use Rattle.world_store.specs.Stands.{Holds}
-use Rattle.world_store.specs.Tables.{no_rows, tables, with_first, first_table}
-use Rattle.repl_model.specs.laws.KnownSets.{known_stands, source_in}
-use Rattle.lists.specs.laws.Members.{In, at_one}
-use Rattle.world_store.specs.SpelledRows.{Spells}
-use Rattle.world_store.specs.laws.FirstStates.{no_first}
 use Rattle.set_places.specs.laws.Points.{mark_short, signal_short}
 use Rattle.set_places.specs.laws.SetRows.{held_source_row}
 use Rattle.prune_control.specs.Noting.{may_be_mark, calls_for_mark, mark_rules}

@@ -1,17 +1,10 @@
 -- Rows under the numbers of the things that they are made of.
-use Rattle.std.proofs.Common.{◌≡◌, ℕ, zero, suc, ◌+◌, ◌<◌, ◌≤◌, ◌^◌, Bool, cond, List, [], ◌∷◌, length, get_or, map, ap, subst, ◌∙◌, arith}
-use Rattle.std.specs.Prelude.{Option, Some, None, IfSome, slice_get}
+use Rattle.std.proofs.Common.{◌≡◌, ℕ, zero, suc, ◌+◌, ◌<◌, ◌≤◌, ◌^◌, Bool, cond, List, [], ◌∷◌, length, get_or, map, ap, subst, ◌∙◌, arith, Option, Some, None, IfSome, slice_get, option_map}
 use Rattle.std.specs.List.{cons_option, enumerate_from, filter_map}
-use Rattle.std.specs.Option.{option_map}
 use Rattle.std.proofs.lemmas.List.{length-map}
 use Rattle.std.proofs.lemmas.Option.{none-some, same_Some, slice_get_within, slice_get-map, get_or_from_slice_get}
-use Rattle.keep_core.specs.Contents.{same_key}
-use Rattle.row_codec.specs.Spelling.{b32}
-use Rattle.rows_in_order.specs.Rows.{table_from_rows}
-use Rattle.rows_in_order.specs.laws.ByNumber.{key_same}
-use Rattle.rows_in_order.specs.laws.Numbered.{numbered_at}
-use Rattle.rows_in_order.specs.laws.Rising.{same_itself}
-use Rattle.rows_in_order.specs.laws.Written.{differ_numbers}
+use Rattle.world_store.specs.Words.{b32, table_from_rows, key_same, numbered_at, same_itself, differ_numbers}
+use Rattle.site_store.specs.Words.{same_key}
 use Rattle.stored_commits.specs.actions.laws.Numbered.{small_in_order, numbered_images}
 
 -- ---- each thing makes a row

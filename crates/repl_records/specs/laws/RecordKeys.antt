@@ -1,7 +1,6 @@
 -- Proofs that each key has one spelling, that byte order of spellings is the order of keys, and how long
 -- they are. There is nothing to believe here.
-use Rattle.std.proofs.Common.{◌≡◌, ℕ, length, refl, ap, arith}
-use Rattle.std.specs.Ordering.{nat_cmp}
+use Rattle.std.proofs.Common.{◌≡◌, ℕ, length, refl, ap, arith, nat_cmp}
 use Rattle.repl_types.specs.Sequence.{sequence_cmp}
 use Rattle.repl_types.specs.Sizes.{IsKeySize}
 use Rattle.repl_types.specs.declared.sequence.Sequence.{Sequence}

@@ -1,12 +1,11 @@
 -- The order of keys.
-use Rattle.std.proofs.Common.{◌≡◌, ℕ, ◌<◌, Bool, true, false, List, [], ◌∷◌, length, arith, refl, sym, ap, ◌∙◌}
-use Rattle.std.specs.Ordering.{is_lt, is_eq, ordering_reverse}
-use Rattle.std.specs.declared.cmp.Ordering.{Ordering}
-use Rattle.std.specs.declared.cmp.Ordering.TheVariants.{Less, Equal, Greater}
+use Rattle.std.proofs.Common.{◌≡◌, ℕ, ◌<◌, Bool, true, false, List, [], ◌∷◌, length, arith, refl, sym, ap, ◌∙◌, Ordering, Less, Equal, Greater}
+use Rattle.std.specs.Ordering.{is_lt, is_eq, ordering_reverse, ordering_then}
 use Rattle.std.specs.Cmp.{IsTotalOrder}
 use Rattle.std.proofs.lemmas.Cmp.{nat_list_cmp_total, tied_itself, alike_right}
 use Rattle.repl_types.specs.Bytes.{bytes_cmp}
 use Rattle.rows_in_order.specs.Rows.{is_before, IsUpTo}
+use Rattle.keep_core.specs.Contents.{same_key}
 
 -- keys are in a total order
 pub order : IsTotalOrder bytes_cmp
@@ -75,3 +74,25 @@ empty_first (b ∷ bs) = refl
 pub empty_before : (a : List ℕ) → 0 < length a → bytes_cmp [] a ≡ Less
 empty_before [] lt = absurd (omega arith)
 empty_before (b ∷ bs) lt = refl
+
+-- keys that are the same aren't apart
+pub tied_not_greater : (k q : List ℕ) → k ≡ q → bytes_cmp k q ≡ Greater → ⊥
+tied_not_greater k q same e = clash (sym (tied_itself order k) ∙ ap (bytes_cmp k) same ∙ e)
+  where
+    clash : Equal ≡ Greater → ⊥
+    clash e = cc
+
+-- what is up to a key and isn't that one is before it
+pub before_key : (k q : List ℕ) → is_before k q ≡ false → same_key k q ≡ false → bytes_cmp q k ≡ Less
+before_key k q upto apart = pick (bytes_cmp k q) refl
+  where
+    pick : (o : Ordering) → bytes_cmp k q ≡ o → bytes_cmp q k ≡ Less
+    pick Less e = absurd (not_both (is_before k q) (ap is_lt e) upto)
+    pick Equal e = absurd (not_both (same_key k q) (ap is_eq e) apart)
+    pick Greater e = order.antisymm q k ∙ ap ordering_reverse e
+
+-- both of two comparisons tie
+pub both_tie : (a b : Ordering) → ordering_then a b ≡ Equal → (a ≡ Equal) × (b ≡ Equal)
+both_tie Less b e = absurd cc
+both_tie Equal b e = (refl, e)
+both_tie Greater b e = absurd cc

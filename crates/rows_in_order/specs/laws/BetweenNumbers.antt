@@ -1,8 +1,6 @@
 -- The rows between two numbers: as those between two keys, under a spelling that suits every number.
-use Rattle.std.proofs.Common.{◌≡◌, ℕ, ◌+◌, ◌<◌, ◌≤◌, List, [], ◌∷◌, ◌++◌, refl, sym, ap, subst, ◌∙◌, arith}
+use Rattle.std.proofs.Common.{◌≡◌, ℕ, ◌+◌, ◌<◌, ◌≤◌, List, [], ◌∷◌, ◌++◌, refl, sym, ap, subst, ◌∙◌, arith, Ordering, Less, Equal, Greater}
 use Rattle.std.specs.Ordering.{nat_cmp, ordering_then}
-use Rattle.std.specs.declared.cmp.Ordering.{Ordering}
-use Rattle.std.specs.declared.cmp.Ordering.TheVariants.{Less, Equal, Greater}
 use Rattle.rows_in_order.specs.Rows.{between}
 use Rattle.rows_in_order.specs.Numbers.{SpellsInOrder, AllBelow, NoneAbove, NumbersRise, numbers_between, NextNumber}
 use Rattle.rows_in_order.specs.laws.ByNumber.{key_before, key_upto, none_after, rises, between_is, key_next}

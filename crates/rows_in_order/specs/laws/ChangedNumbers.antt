@@ -1,6 +1,5 @@
 -- Rows of numbers with one more, and with one less.
-use Rattle.std.proofs.Common.{◌≡◌, ℕ, ◌+◌, ◌<◌, List, ◌∷◌, ◌++◌, sym, ap, subst, ◌∙◌, arith}
-use Rattle.std.specs.Prelude.{Some, None, ltb, not, ◌==◌, filter}
+use Rattle.std.proofs.Common.{◌≡◌, ℕ, ◌+◌, ◌<◌, List, ◌∷◌, ◌++◌, sym, ap, subst, ◌∙◌, arith, Some, None, ltb, not, ◌==◌, filter}
 use Rattle.keep_core.specs.Contents.{same_key, set_key}
 use Rattle.rows_in_order.specs.Rows.{is_before, table_from_rows, IsRising, with_row, without_row}
 use Rattle.rows_in_order.specs.Numbers.{SpellsInOrder, AllBelow, NumbersRise, with_number, without_number}

@@ -1,6 +1,5 @@
 -- Filters of lists.
-use Rattle.std.proofs.Common.{◌≡◌, Bool, true, false, cond, List, [], ◌∷◌, ◌++◌, refl, sym, ap, subst, ◌∙◌}
-use Rattle.std.specs.Prelude.{filter, not}
+use Rattle.std.proofs.Common.{◌≡◌, Bool, true, false, cond, List, [], ◌∷◌, ◌++◌, refl, sym, ap, subst, ◌∙◌, filter}
 use Rattle.std.specs.List.{AllByRecursion}
 
 -- all that a filter keeps pass it
@@ -36,12 +35,3 @@ filters_commute {X} p q (x ∷ xs) = pick (p x) refl (q x) refl (filters_commute
     pick true e false f rest = rest ∙ sym (second false f)
     pick false e true f rest = first false e ∙ rest
     pick false e false f rest = rest
-
--- if none passes a test, all pass the opposite
-pub filter_others : {X : Type 0} (p : X → Bool) (xs : List X) → filter p xs ≡ [] → filter (λ x. not (p x)) xs ≡ xs
-filter_others p [] none = refl
-filter_others {X} p (x ∷ xs) none = pick (p x) none (filter_others p xs)
-  where
-    pick : (t : Bool) → cond t (x ∷ filter p xs) (filter p xs) ≡ [] → (filter p xs ≡ [] → filter (λ y. not (p y)) xs ≡ xs) → cond (not t) (x ∷ filter (λ y. not (p y)) xs) (filter (λ y. not (p y)) xs) ≡ x ∷ xs
-    pick true none rest = absurd cc
-    pick false none rest = ap (λ (l : List X). x ∷ l) (rest none)

@@ -1,6 +1,5 @@
 -- Rows of which a relation holds.
-use Rattle.std.proofs.Common.{◌≡◌, ℕ, List, ◌∷◌}
-use Rattle.std.specs.Prelude.{not, filter}
+use Rattle.std.proofs.Common.{◌≡◌, ℕ, List, ◌∷◌, not, filter}
 use Rattle.std.specs.List.{AllByRecursion}
 use Rattle.keep_core.specs.Contents.{IsNextKey, same_key}
 use Rattle.rows_in_order.specs.Rows.{is_before, table_from_rows, IsRising, IsToldApart, with_row, without_row, SpellsApart, HasRow, NextRow}

@@ -1,9 +1,6 @@
 -- What stands in a table is a row's, and the next key is the next row's.
-use Rattle.std.proofs.Common.{◌≡◌, ℕ, ◌<◌, Bool, true, false, cond, List, [], ◌∷◌, ◌++◌, length, refl, sym, ap, subst, ◌∙◌}
-use Rattle.std.specs.Prelude.{Some}
+use Rattle.std.proofs.Common.{◌≡◌, ℕ, ◌<◌, Bool, true, false, cond, List, [], ◌∷◌, ◌++◌, length, refl, sym, ap, subst, ◌∙◌, Some, is_lt, Less}
 use Rattle.std.specs.List.{AllByRecursion}
-use Rattle.std.specs.Ordering.{is_lt}
-use Rattle.std.specs.declared.cmp.Ordering.TheVariants.{Less}
 use Rattle.repl_types.specs.Bytes.{bytes_cmp}
 use Rattle.keep_core.specs.Contents.{IsNextKey, same_key}
 use Rattle.rows_in_order.specs.Rows.{is_before, table_from_rows, AllAfter, NoneAfter, IsRising, IsToldApart, HasRow, NextRow}

@@ -1,18 +1,15 @@
 -- Keys and rows that begin with the same bytes.
-use Rattle.std.proofs.Common.{◌≡◌, ℕ, ◌<◌, Bool, true, false, List, [], ◌∷◌, ◌++◌, length, drop, refl, sym, ap, subst, ◌∙◌, arith}
-use Rattle.std.specs.Prelude.{filter}
+use Rattle.std.proofs.Common.{◌≡◌, ℕ, ◌<◌, Bool, true, false, List, [], ◌∷◌, ◌++◌, length, drop, refl, sym, ap, subst, ◌∙◌, arith, filter, Ordering, Less, Equal, Greater, append-nil}
 use Rattle.std.specs.Ordering.{nat_cmp, ordering_then}
 use Rattle.std.specs.Cmp.{ranked}
-use Rattle.std.specs.declared.cmp.Ordering.{Ordering}
-use Rattle.std.specs.declared.cmp.Ordering.TheVariants.{Less, Equal, Greater}
 use Rattle.std.proofs.lemmas.Bool.Decides.{Decides-eqb}
-use Rattle.std.proofs.lemmas.List.{append-nil}
 use Rattle.std.proofs.lemmas.Slice.Eq.{starts_is}
 use Rattle.repl_types.specs.Bytes.{bytes_cmp}
 use Rattle.rows_in_order.specs.Rows.{IsUpTo, NoneAfter, NextRow, begins_with, with_prefix}
 use Rattle.rows_in_order.specs.laws.Before.{not_both}
 use Rattle.repl_types.specs.laws.Lists.{all_weaker, all_filter, filter_none}
 use Rattle.rows_in_order.specs.laws.Rising.{at_seam}
+use Rattle.std.proofs.lemmas.Bool.{false_from_ne_true}
 
 -- ---- keys
 
@@ -57,11 +54,6 @@ begins_together bytes k l m first last lt less =
 
 -- ---- rows
 
--- a test that passes and fails
-off : (t : Bool) → (t ≡ true → ⊥) → t ≡ false
-off true never = absurd (never refl)
-off false never = refl
-
 module _ {A X : Type 0} (key : A → List ℕ) (bytes : List ℕ) where
   -- the next row is the next of those that begin so, if it does
   pub prefix_next : (rows : List (A × X)) (after : List ℕ) (row : A × X) → NextRow key rows after row → begins_with bytes (key row.0) ≡ true → NextRow key (with_prefix key bytes rows) after row
@@ -84,7 +76,7 @@ module _ {A X : Type 0} (key : A → List ℕ) (bytes : List ℕ) where
   pub prefix_past : (rows : List (A × X)) (after : List ℕ) (row : A × X) → NextRow key rows after row → begins_with bytes after ≡ true → begins_with bytes (key row.0) ≡ false → NoneAfter key after (with_prefix key bytes rows)
   prefix_past rows after row next here past =
       let p : A × X → Bool = λ r. begins_with bytes (key r.0) in
-      let apart : (r : A × X) → bytes_cmp (key row.0) (key r.0) ≡ Less → p r ≡ false = λ r lt. off (p r) (λ e. not_both (p row) (begins_together bytes after (key row.0) (key r.0) here e next.above lt) past) in
+      let apart : (r : A × X) → bytes_cmp (key row.0) (key r.0) ≡ Less → p r ≡ false = λ r lt. false_from_ne_true (p r) (λ e. not_both (p row) (begins_together bytes after (key row.0) (key r.0) here e next.above lt) past) in
       let none : filter p next.back ≡ [] = filter_none p next.back (all_weaker (λ r. bytes_cmp (key row.0) (key r.0) ≡ Less) (λ r. p r ≡ false) next.back apart next.later) in
       let split : with_prefix key bytes rows ≡ filter p next.front = ap (filter p) next.split ∙ at_seam key p next.front next.back row false past ∙ ap (λ (l : List (A × X)). filter p next.front ++ l) none ∙ append-nil (filter p next.front) in
       subst (NoneAfter key after) (sym split) (prefix_last next.front after next.passed)

@@ -1,6 +1,5 @@
 -- At most one of the rows whose keys rise has a key.
-use Rattle.std.proofs.Common.{◌≡◌, ◌⊎◌, ℕ, List, [], ◌∷◌, ◌++◌, sym, ap, subst, ◌∙◌, inl, inr}
-use Rattle.std.specs.declared.cmp.Ordering.TheVariants.{Less, Equal}
+use Rattle.std.proofs.Common.{◌≡◌, ◌⊎◌, ℕ, List, [], ◌∷◌, ◌++◌, sym, ap, subst, ◌∙◌, inl, inr, Less, Equal}
 use Rattle.std.proofs.lemmas.Cmp.{tied_itself}
 use Rattle.repl_types.specs.Bytes.{bytes_cmp}
 use Rattle.rows_in_order.specs.Rows.{AllAfter, IsRising, HasRow}

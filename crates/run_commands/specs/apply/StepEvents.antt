@@ -72,7 +72,7 @@ events_from zero made number id w = []
 events_from (suc left) made number id w = events_of (writes (reply_line (replies.Applied made)) ∷ []) (events_from left (made + 1) number id) (outcome number id w)
 
 -- how many steps may be made at most: five more than the point up to which the source is captured, and before that a
--- step is refused or there is nothing to do (`next_actions_come_to_rest` of `world_commits`)
+-- step is refused or there is nothing to do (`each_leaves_fewer` of `world_commits`)
 abbrev pub most_steps : SetId → World → ℕ
 most_steps id w = option_map_or (λ k. k.source.captured + 5) (known_set w id) 1
 

@@ -23,7 +23,6 @@ use reply_text::Reply;
 use set_places::{PlacedSet, find_set};
 use site_store::Sites;
 use std::alloc::Global;
-use world_commits::next_actions_come_to_rest;
 
 /// Writes the line that says how many steps were made, and says that nothing was refused. After an
 /// error a prefix of it was taken.
@@ -53,7 +52,6 @@ fn make_steps<K: Keeper, O: Sink>(
         (apply_events number id.now) (λ refused. refused) result }
     ensures no_rest { IfErr result (TellsNoRest (O.taken output.old) (O.taken output.new) source) }
 {
-    next_actions_come_to_rest();
     for steps in 0..most {
         match make_step(alloc, sites, output, number, id)? {
             Progress::Refused => return Ok(true),

@@ -11,7 +11,6 @@ use crate::load::kinds::{bad_text, has_carried_out_sets};
 use crate::parts::{RunError, error_of_fault, refuse, reply};
 use keep_core::{Keeper, Sink};
 use load_defs::{Loaded, load};
-use load_laws::a_text_that_is_read_is_whole;
 use raw_defs::read_defs;
 use repl_commands::{DefsError, RawDefs};
 use repl_types::{Fault, LimitKind, List, Refusal};
@@ -69,7 +68,6 @@ pub fn load_text<K: Keeper, O: Sink>(
     let Some(text) = text else {
         return refuse(alloc, output, &Refusal::LimitReached(LimitKind::LoadBody));
     };
-    a_text_that_is_read_is_whole();
     match read_defs(alloc, text.as_slice()) {
         Ok(raw) => load_raw(alloc, sites, output, &raw),
         Err(DefsError::Memory) => Err(RunError::Memory),

@@ -1,9 +1,8 @@
 use Rattle.std.proofs.Common.{◌≡◌, ◌∙◌, ap, subst}
+use Rattle.world_store.specs.Words.{Stands}
+use Rattle.site_store.specs.Words.{names, held, keeps_itself}
 use Rattle.run_core.specs.Runs.{Went, Stopped, is_refused}
 use Rattle.run_words.specs.declared.opening.Opening.{Opening}
-use Rattle.site_store.specs.Views.{names, held}
-use Rattle.site_store.specs.laws.Counts.{keeps_itself}
-use Rattle.world_store.specs.Stands.{Stands}
 use Rattle.run_commands.specs.parts.ExitStatus.{status_of_done}
 use Rattle.session_core.specs.Session.{run_events, Ran}
 use Rattle.session_core.specs.Inputs.{OfInput}

@@ -1,19 +1,11 @@
 -- What servers stand for after one of them was changed.
-use Rattle.std.proofs.Common.{◌≡◌, ℕ, zero, suc, Bool, true, false, cond, not, List, [], ◌∷◌, map, set, inl, inr, refl, sym, ap, subst, ◌∙◌}
-use Rattle.std.specs.Prelude.{if◌then◌else◌, Option, Some, slice_get}
+use Rattle.std.proofs.Common.{◌≡◌, ℕ, zero, suc, Bool, true, false, cond, not, List, [], ◌∷◌, map, set, inl, inr, refl, sym, ap, subst, ◌∙◌, if◌then◌else◌, Option, Some, slice_get, bytes_eq}
 use Rattle.std.specs.List.{AllZip, list_any}
-use Rattle.std.specs.Str.{bytes_eq}
 use Rattle.std.proofs.lemmas.Bool.{and_parts}
 use Rattle.std.proofs.lemmas.Option.{none-some, same_Some}
-use Rattle.keep_core.specs.Contents.{Contents}
-use Rattle.repl_model.specs.AfterActions.{with_server}
-use Rattle.lists.specs.Lists.{all_differ}
-use Rattle.repl_model.specs.Sound.{IsSound}
-use Rattle.repl_model.specs.World.{Server, World}
-use Rattle.world_store.specs.Stands.{Holds, Reveals, Stands}
-use Rattle.lists.specs.laws.Numbered.{at_place_in}
-use Rattle.lists.specs.laws.Members.{In, first_alone}
-use Rattle.repl_model.specs.laws.GrowingServers.{same_name, name_itself}
+use Rattle.world_store.specs.Words.{Holds, Reveals, Stands}
+use Rattle.site_store.specs.Words.{Contents}
+use Rattle.repl_model.specs.Words.{with_server, all_differ, IsSound, Server, World, at_place_in, In, first_alone, same_name, name_itself}
 
 -- names of servers that are alike
 abbrev same_names : Server → Server → Bool

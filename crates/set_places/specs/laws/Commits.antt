@@ -1,31 +1,11 @@
 -- One transaction of one server, from its beginning to its commit.
-use Rattle.std.proofs.Common.{◌≡◌, ◌⊎◌, inl, inr, ℕ, ◌<◌, false, List, length, get_or, refl, sym, ap, subst, ◌∙◌}
-use Rattle.std.specs.Prelude.{Option, Some, None, IsSome, slice_get}
-use Rattle.std.specs.Str.{bytes_eq}
+use Rattle.std.proofs.Common.{◌≡◌, ◌⊎◌, inl, inr, ℕ, ◌<◌, false, List, length, get_or, refl, sym, ap, subst, ◌∙◌, Option, Some, None, IsSome, slice_get, bytes_eq, set}
 use Rattle.std.proofs.lemmas.List.{length-map, get_or-set_same}
-use Rattle.std.proofs.Math.ListN.{set}
-use Rattle.repl_types.specs.declared.area.Area.{Area}
-use Rattle.repl_types.specs.declared.status.DamageCause.{DamageCause}
-use Rattle.repl_types.specs.declared.fault.Fault.{Fault}
-use Rattle.repl_types.specs.declared.fault.Fault.TheVariants as faults
-use Rattle.keep_core.specs.Contents.{Contents}
-use Rattle.keep_core.specs.Kept.{Kept}
-use Rattle.repl_model.specs.AfterActions.{with_server}
-use Rattle.repl_model.specs.Sound.{IsSound}
-use Rattle.repl_model.specs.World.{Server, World}
+use Rattle.world_store.specs.Words.{Holds, Stands}
+use Rattle.site_store.specs.Words.{Contents, Kept, NoDamage, AllClosed, names, held, work, sees, IsOpenAt, Bounds, no_access, both, Passes, Begins, Commits, AtServer, Fails, InDoubt, HoldsOrInDoubt, Rules, Shows, Damages, at_most_itself, passes_then, blames_by, took, closed_again, begun_sees, Looks, GoesOn, Stops, Breaks, blames_after, stops_as, stops_after, put_fails, write_fails_on}
 use Rattle.site_store.specs.declared.sites.Sites.{Sites}
-use Rattle.site_store.specs.Records.{NoDamage}
-use Rattle.site_store.specs.Servers.{AllClosed}
-use Rattle.site_store.specs.Views.{names, held, work, sees, IsOpenAt}
-use Rattle.site_store.specs.Calls.{Bounds, no_access, both, Passes, Begins, Commits, AtServer, Fails, InDoubt, HoldsOrInDoubt}
-use Rattle.site_store.specs.Damage.{Rules, Shows, Damages}
-use Rattle.site_store.specs.laws.Counts.{at_most_itself, passes_then}
-use Rattle.site_store.specs.laws.Damage.{blames_by}
-use Rattle.site_store.specs.laws.Transactions.{took, closed_again, begun_sees}
-use Rattle.site_store.specs.one_server.Calls.{Looks, GoesOn, Stops, Breaks}
-use Rattle.site_store.specs.one_server.laws.Faults.{blames_after, stops_as, stops_after, put_fails, write_fails_on}
-use Rattle.world_store.specs.Stands.{Holds, Stands}
-use Rattle.lists.specs.laws.Members.{In}
+use Rattle.repl_model.specs.Words.{Area, DamageCause, Fault, with_server, IsSound, Server, World, In}
+use Rattle.repl_types.specs.declared.fault.Fault.TheVariants as faults
 use Rattle.set_places.specs.Steps.{HasBecome, BlamesUnchanged, HasStepped, CommitsStep, MayCommitStep}
 use Rattle.set_places.specs.laws.Changing.{stands_with_server}
 use Rattle.set_places.specs.laws.Standing.{revealed_at_place}

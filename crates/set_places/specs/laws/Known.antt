@@ -1,13 +1,7 @@
 -- What a sound world keeps of a set that stands there as it was found.
-use Rattle.std.proofs.Common.{◌≡◌, ◌<◌, ◌≤◌, length, sym, ◌∙◌, arith}
-use Rattle.std.specs.Prelude.{not}
+use Rattle.std.proofs.Common.{◌≡◌, ◌<◌, ◌≤◌, length, sym, ◌∙◌, arith, not}
 use Rattle.std.proofs.lemmas.Option.{slice_get_within}
-use Rattle.repl_model.specs.Rules.{is_replica_set}
-use Rattle.repl_model.specs.Sound.{IsSound}
-use Rattle.repl_model.specs.SoundDefinitions.{KnownSetKeepsRules, ServerKeepsRules, SetKeepsLimits, UnknownTarget, read_only_sets, set_limit}
-use Rattle.repl_model.specs.World.{TargetSide, World, KnownSet, known_sets}
-use Rattle.repl_model.specs.laws.KnownSets.{known_stands}
-use Rattle.lists.specs.laws.Members.{In, at_one, kept_by}
+use Rattle.repl_model.specs.Words.{is_replica_set, IsSound, KnownSetKeepsRules, ServerKeepsRules, SetKeepsLimits, UnknownTarget, read_only_sets, set_limit, TargetSide, World, KnownSet, known_sets, known_stands, In, at_one, kept_by}
 use Rattle.set_places.specs.declared.placed_set.PlacedSet.{PlacedSet}
 use Rattle.set_places.specs.Places.{IsPlacedAs, IsReadOnly}
 

@@ -1,61 +1,9 @@
 -- How far the numbers of the sets of a sound world reach: they are positions of logs.
-use Rattle.std.proofs.Common.{◌≡◌, ℕ, ◌+◌, ◌*◌, ◌<◌, ◌≤◌, ◌^◌, Bool, true, false, not, ◌||◌, List, [], ◌∷◌, length, fold, refl, sym, ap, subst, arith, inl, inr, ◌⊎◌}
-use Rattle.std.specs.Prelude.{◌==◌, nat_lt, Option, Some, None, IfSome, is_some}
-use Rattle.std.specs.List.{AllByRecursion, enumerate_from, filter_map}
-use Rattle.std.proofs.lemmas.Bool.{and_parts, both_ways, eqb-true, false≢true, lt-ltb, not-true}
-use Rattle.repl_types.specs.declared.record.LogRecord.{LogRecord}
-use Rattle.repl_types.specs.declared.record.LogRecord.TheVariants as records
-use Rattle.repl_types.specs.declared.unit.Unit.{Unit as LogUnit}
-use Rattle.row_codec.specs.Spelling.{Is64}
-use Rattle.repl_definitions.specs.declared.member.Member.{Member}
-use Rattle.repl_model.specs.Rules.{is_replica, is_replica_set}
-use Rattle.repl_model.specs.Sound.{is_seq, is_seq_or_zero, is_base, GoesOn, TrailIsSound, SignalsAreSound, IsSound}
-use Rattle.repl_model.specs.SoundDefinitions.{IsFresh, SetKeepsLimits, UnknownTarget, ServerKeepsRules, KnownSetKeepsRules, MemberIsSound, read_only_sets, replica_sets, loaded_sets}
-use Rattle.repl_model.specs.SoundLogs.{log_limit, LogIsSound}
-use Rattle.repl_model.specs.SoundReplicas.{SettlesFrom, IsReplicaTrail, ReplicaMarksAreSound}
-use Rattle.repl_model.specs.Trails.{Trail, Entry, refresh, block, load, settle, point_after, base_after, replica_after, synchpoint, base_of, replica_point}
-use Rattle.repl_model.specs.Units.{unit_at, units, last_commit}
-use Rattle.repl_model.specs.World.{TargetSide, Server, World, KnownSet, known_from, known_sets}
-use Rattle.repl_model.specs.laws.KnownSets.{StandsIn, known_in, known_side, known_stands, source_in}
-use Rattle.lists.specs.laws.Members.{In, at_one, kept_by, some_passes}
-
--- ---- units
-
--- the seqs of units that records end, from a position on, lie within the records
-seqs_from : (whole : List LogRecord) (b m : ℕ) (log : List LogRecord) → b + length log ≤ m + 1 → AllByRecursion (λ u. u.head.seq ≤ m) (filter_map (unit_at whole) (enumerate_from b log))
-seqs_from whole b m [] few = tt
-seqs_from whole b m (records.Change tx change ∷ log) few = seqs_from whole (b + 1) m log (omega arith)
-seqs_from whole b m (records.Commit tx time authid origin ∷ log) few = (omega arith, seqs_from whole (b + 1) m log (omega arith))
-seqs_from whole b m (records.Abort tx ∷ log) few = seqs_from whole (b + 1) m log (omega arith)
-
--- the seqs of a log's units lie within the log
-pub seqs_within : (log : List LogRecord) → AllByRecursion (λ u. u.head.seq ≤ length log) (units log)
-unfolding units
-seqs_within log = seqs_from log 1 (length log) log (omega arith)
-
--- the seq of a unit lies within the log
-pub seq_within : (log : List LogRecord) (p : ℕ) → is_seq log p ≡ true → p ≤ length log
-seq_within log p is =
-    let u = some_passes (λ (u : LogUnit). u.head.seq == p) (units log) is in
-    let le : u.0.head.seq ≤ length log = at_one (λ (u : LogUnit). u.head.seq ≤ length log) (units log) u.0 (seqs_within log) u.1 in
-    omega (arith, le, eqb-true u.0.head.seq p u.2)
-
--- so does 0
-pub seq_or_zero_within : (log : List LogRecord) (p : ℕ) → is_seq_or_zero log p ≡ true → p ≤ length log
-seq_or_zero_within log p is = pick (p == 0) refl is
-  where
-    pick : (t : Bool) → (p == 0) ≡ t → (t || is_seq log p) ≡ true → p ≤ length log
-    pick true zero_is is = omega (arith, eqb-true p 0 zero_is)
-    pick false other is = seq_within log p is
-
--- the last seq of units is that of one of them, or the one before
-last_within : (m last : ℕ) (us : List LogUnit) → last ≤ m → AllByRecursion (λ u. u.head.seq ≤ m) us → fold (λ last u. u.head.seq) last us ≤ m
-last_within m last [] le all = le
-last_within m last (u ∷ us) le all = last_within m u.head.seq us all.0 all.1
-
--- the last commit lies within the log
-pub commit_within : (log : List LogRecord) → last_commit log ≤ length log
-commit_within log = last_within (length log) 0 (units log) (omega arith) (seqs_within log)
+use Rattle.std.proofs.Common.{◌≡◌, ℕ, ◌+◌, ◌*◌, ◌<◌, ◌≤◌, ◌^◌, Bool, true, false, not, List, [], ◌∷◌, length, fold, refl, sym, ap, subst, arith, inl, inr, ◌⊎◌, nat_lt, Option, Some, None, IfSome, is_some}
+use Rattle.std.specs.List.{AllByRecursion}
+use Rattle.std.proofs.lemmas.Bool.{and_parts, both_ways, false≢true, lt-ltb, not-true}
+use Rattle.repl_model.specs.Words.{LogRecord, Member, is_replica, is_replica_set, is_seq, is_base, GoesOn, TrailIsSound, SignalsAreSound, IsSound, IsFresh, SetKeepsLimits, UnknownTarget, ServerKeepsRules, KnownSetKeepsRules, MemberIsSound, read_only_sets, replica_sets, loaded_sets, log_limit, LogIsSound, SettlesFrom, IsReplicaTrail, ReplicaMarksAreSound, Trail, Entry, refresh, block, load, settle, point_after, base_after, replica_after, synchpoint, base_of, replica_point, TargetSide, Server, World, KnownSet, known_from, known_sets, StandsIn, known_in, known_side, known_stands, source_in, In, at_one, kept_by, some_passes, last_commit_within, is_seq_within, is_seq_or_zero_within, goes_within}
+use Rattle.world_store.specs.Words.{Is64}
 
 -- ---- trails
 
@@ -74,20 +22,6 @@ none_reached m trail none = subst (Reaches m) (sym none) (record { synch = omega
 -- what has come up to a limit has come up to a higher one
 reaches_wider : (m n : ℕ) (trail : Trail) → m ≤ n → Reaches m trail → Reaches n trail
 reaches_wider m n trail le e = record { synch = omega (arith, le, e.synch); last_base = omega (arith, le, e.last_base); last_replica = omega (arith, le, e.last_replica); entries = omega (arith, le, e.entries) }
-
--- the trail of a read-only set
-goes_within : (log : List LogRecord) (point base replica : ℕ) (trail : Trail) → point ≤ length log → base ≤ length log → replica ≤ length log → GoesOn log point base trail → (fold (λ point e. point_after e) point trail ≤ length log) × (fold base_after base trail ≤ length log) × (fold replica_after replica trail ≤ length log) × (length trail + point + base ≤ 2 * length log)
-goes_within log point base replica [] p b r goes = (p, b, r, omega arith)
-goes_within log point base replica (refresh at q ∷ trail) p b r goes =
-    let here = seq_within log at (and_parts (is_seq log at) (is_base log q) goes.2).0 in
-    let rest = goes_within log at at replica trail here here r goes.3 in
-    (rest.0, rest.1, rest.2, omega (arith, rest.3, goes.0, goes.1))
-goes_within log point base replica (block low high q ∷ trail) p b r goes =
-    let here = seq_within log high (and_parts (is_seq log high) (is_base log q) goes.3).0 in
-    let rest = goes_within log high base replica trail here b r goes.4 in
-    (rest.0, rest.1, rest.2, omega (arith, rest.3, goes.0, goes.1))
-goes_within log point base replica (load m f rows ∷ trail) p b r goes = absurd goes
-goes_within log point base replica (settle m f rejected applied ∷ trail) p b r goes = absurd goes
 
 -- the settlings of a replica set
 settles_within : (m f base : ℕ) (trail : Trail) → SettlesFrom m f trail → (length trail + m + f ≤ fold (λ point e. point_after e) m trail + fold replica_after f trail) × (fold base_after base trail ≡ base)
@@ -126,18 +60,18 @@ HasShortNumbers (settle m f rejected applied) = Is64 m × Is64 f × Is64 rejecte
 -- so has the point of base aggregates, if it is a seq of a short log
 base_short : (log : List LogRecord) (q : Option ℕ) → length log ≤ log_limit → is_base log q ≡ true → IfSome q Is64
 base_short log None short is = tt
-base_short log (Some q) short is = omega (arith, short, seq_within log q is)
+base_short log (Some q) short is = omega (arith, short, is_seq_within log q is)
 
 -- the entries of a read-only set have
 goes_short : (log : List LogRecord) (point base : ℕ) (trail : Trail) → length log ≤ log_limit → Is64 point → GoesOn log point base trail → AllByRecursion HasShortNumbers trail
 goes_short log point base [] short p goes = tt
 goes_short log point base (refresh at q ∷ trail) short p goes =
     let seqs = and_parts (is_seq log at) (is_base log q) goes.2 in
-    let here : Is64 at = omega (arith, short, seq_within log at seqs.0) in
+    let here : Is64 at = omega (arith, short, is_seq_within log at seqs.0) in
     ((here, base_short log q short seqs.1), goes_short log at at trail short here goes.3)
 goes_short log point base (block low high q ∷ trail) short p goes =
     let seqs = and_parts (is_seq log high) (is_base log q) goes.3 in
-    let here : Is64 high = omega (arith, short, seq_within log high seqs.0) in
+    let here : Is64 high = omega (arith, short, is_seq_within log high seqs.0) in
     ((omega (arith, p, goes.0), here, base_short log q short seqs.1), goes_short log high base trail short here goes.4)
 goes_short log point base (load m f rows ∷ trail) short p goes = absurd goes
 goes_short log point base (settle m f rejected applied ∷ trail) short p goes = absurd goes
@@ -204,7 +138,7 @@ module _ (w : World) (k : KnownSet) (sound : IsSound w) (known : In k (known_set
     where
       by_kind : (b : Bool) → is_replica_set k.at_target.def ≡ b → Reaches (log_limit + 1) k.at_target.trail
       by_kind true replica = elim (loaded_or_new replica (nat_lt 0 (length k.at_target.trail)) refl) [
-        | inl marks ↦ (replica_within log_limit k.at_target.trail marks.trail (omega (arith, marks.master.0, commit_within k.source.log, source_short)) (omega (arith, marks.replica.0, commit_within k.target.log, target_short)))
+        | inl marks ↦ (replica_within log_limit k.at_target.trail marks.trail (omega (arith, marks.master.0, last_commit_within k.source.log, source_short)) (omega (arith, marks.replica.0, last_commit_within k.target.log, target_short)))
         | inr new ↦ none_reached (log_limit + 1) k.at_target.trail new
       ]
       by_kind false other =
@@ -246,7 +180,7 @@ module _ (w : World) (k : KnownSet) (sound : IsSound w) (known : In k (known_set
   signals_within : (k.at_source.signal ≤ log_limit) × (k.at_target.signal ≤ log_limit)
   signals_within =
       let signals = at_one SignalsAreSound (known_sets w) k sound.signals known in
-      (omega (arith, seq_or_zero_within k.source.log k.at_source.signal signals.0, source_short), omega (arith, seq_or_zero_within k.target.log k.at_target.signal signals.1, target_short))
+      (omega (arith, is_seq_or_zero_within k.source.log k.at_source.signal signals.0, source_short), omega (arith, is_seq_or_zero_within k.target.log k.at_target.signal signals.1, target_short))
 
   -- the point that the targets have reached has eight bytes
   pub synchpoint_short : synchpoint k.at_target.trail < 2 ^ 64

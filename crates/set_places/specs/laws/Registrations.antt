@@ -1,44 +1,12 @@
 -- The rows of registrations that stand at a server, and what shows no damage of them.
-use Rattle.std.proofs.Common.{◌≡◌, ℕ, zero, suc, true, List, ◌∷◌, length, refl, sym, ap, ap₂, subst, ◌∙◌, inl, inr}
-use Rattle.std.specs.Prelude.{Option, Some, None, is_some, slice_get}
-use Rattle.std.specs.List.{filter_map}
-use Rattle.std.specs.Option.{option_map, option_and_then}
-use Rattle.std.specs.Str.{bytes_eq}
+use Rattle.std.proofs.Common.{◌≡◌, ℕ, zero, suc, true, List, ◌∷◌, refl, sym, ap, ap₂, subst, ◌∙◌, inl, inr, Option, Some, None, is_some, slice_get, filter_map, option_map, option_and_then, bytes_eq}
 use Rattle.std.proofs.lemmas.Bool.{false≢true}
 use Rattle.std.proofs.lemmas.Option.{none-some, same_Some}
-use Rattle.repl_types.specs.declared.area.Area.{Area}
+use Rattle.world_store.specs.Words.{name_cmp, IsName, short_text, one_whole, name_cmp_exact, table_from_rows, fits_each, row_of, no_row_at, numbered_tables, defined_registration, registration_rows, Holds, RowFits, registration_rows_are, name_one}
+use Rattle.site_store.specs.Words.{Contents, Table, Shows, IsUndamaged}
+use Rattle.repl_model.specs.Words.{Area, DamageCause, defined_registration_spelling, IsDefinedRegistration, DefinedRegistration, Member, SetDef, SourceSet, one_defined_registration, SourceTable, IsSound, ServerKeepsRules, has_sources, table_after, Registered, ServerTable, Server, World, source_named, server_table, entry_has_row, row_is_entry, in_numbered, numbered_place, at_place_in, In, at_one, passes_at, in_second, in_filter_map, given_in, found_in, same_name, name_itself}
 use Rattle.repl_types.specs.declared.area.Area.TheVariants as areas
-use Rattle.repl_types.specs.declared.status.DamageCause.{DamageCause}
 use Rattle.repl_types.specs.declared.status.DamageCause.TheVariants as causes
-use Rattle.keep_core.specs.Contents.{Contents, Table}
-use Rattle.row_codec.specs.Order.{name_cmp}
-use Rattle.row_codec.specs.Spelling.{IsName, short_text}
-use Rattle.row_codec.specs.laws.Ones.{one_whole}
-use Rattle.row_codec.specs.laws.Orders.{name_cmp_exact}
-use Rattle.repl_definitions.specs.Defined.{defined_registration_spelling, IsDefinedRegistration}
-use Rattle.repl_definitions.specs.declared.defined.DefinedRegistration.{DefinedRegistration}
-use Rattle.repl_definitions.specs.declared.member.Member.{Member}
-use Rattle.repl_definitions.specs.declared.set.SetDef.{SetDef}
-use Rattle.repl_definitions.specs.declared.set.SourceSet.{SourceSet}
-use Rattle.repl_definitions.specs.laws.Defined.{one_defined_registration}
-use Rattle.repl_model.specs.Selection.{SourceTable}
-use Rattle.repl_model.specs.Sound.{IsSound}
-use Rattle.repl_model.specs.SoundDefinitions.{ServerKeepsRules, has_sources}
-use Rattle.repl_model.specs.SourceAt.{table_after}
-use Rattle.repl_model.specs.World.{Registered, ServerTable, Server, World, source_named, server_table}
-use Rattle.rows_in_order.specs.Rows.{table_from_rows}
-use Rattle.rows_in_order.specs.laws.Fitting.{fits_each}
-use Rattle.rows_in_order.specs.laws.Found.{row_of}
-use Rattle.rows_in_order.specs.laws.Rising.{no_row_at}
-use Rattle.site_store.specs.Damage.{Shows, IsUndamaged}
-use Rattle.world_store.specs.DefinitionRows.{numbered_tables, defined_registration, registration_rows}
-use Rattle.world_store.specs.Stands.{Holds}
-use Rattle.repl_model.specs.laws.Entries.{entry_has_row, row_is_entry}
-use Rattle.lists.specs.laws.Numbered.{in_numbered, numbered_place, at_place_in}
-use Rattle.lists.specs.laws.Members.{In, at_one, passes_at, in_second, in_filter_map, given_in, found_in}
-use Rattle.repl_model.specs.laws.GrowingServers.{same_name, name_itself}
-use Rattle.world_store.specs.SpelledRows.{RowFits}
-use Rattle.world_store.specs.laws.DefinitionRows.{registration_rows_are, name_one}
 use Rattle.stored_defs.specs.laws.Standing.{holds_defs, holds_spelt}
 use Rattle.set_places.specs.Members.{may_be_registration, is_called_for, member_rules}
 use Rattle.set_places.specs.laws.SetRows.{found_alone, held_source_row}

@@ -1,50 +1,15 @@
 -- The rows of sets that stand at a server, by their names.
-use Rattle.std.proofs.Common.{◌≡◌, ℕ, Bool, true, false, cond, not, List, [], ◌∷◌, map, refl, sym, ap, ap₂, subst, ◌∙◌, inl, inr}
-use Rattle.std.specs.Prelude.{find, Option, Some, None, slice_get}
+use Rattle.std.proofs.Common.{◌≡◌, ℕ, Bool, true, false, cond, not, List, [], ◌∷◌, map, refl, sym, ap, ap₂, subst, ◌∙◌, inl, inr, find, Option, Some, None, slice_get}
 use Rattle.std.specs.List.{AllByRecursion, enumerate_from, list_any}
 use Rattle.std.specs.FinMap.{IsAntisymmetric}
-use Rattle.std.specs.Ordering.{is_eq, ordering_then}
-use Rattle.std.specs.declared.cmp.Ordering.{Ordering}
-use Rattle.std.specs.declared.cmp.Ordering.TheVariants.{Less, Equal, Greater}
 use Rattle.std.proofs.lemmas.Bool.{and_parts}
-use Rattle.repl_types.specs.Bytes.{bytes_cmp}
-use Rattle.repl_types.specs.declared.record.SetId.{SetId}
+use Rattle.world_store.specs.Words.{name_cmp, set_cmp, IsSet, set_spelling, One, one_whole, name_cmp_exact, table_from_rows, fits_each, row_of, no_row_at, source_set_rows, target_set_rows, Holds, RowFits, source_rows_are, target_rows_are, set_one, both_tie}
+use Rattle.site_store.specs.Words.{Contents, Table}
+use Rattle.repl_model.specs.Words.{SetId, source_set_spelling, IsSourceSet, target_set_spelling, IsTargetSet, SourceSet, TargetSet, one_source_set, one_target_set, all_differ, ServerKeepsRules, by_key, SourceSide, TargetSide, Server, World, same_set, source_side, target_side, entry_has_row, row_is_entry, in_numbered, numbered_place, at_place_in, In, at_one, first_alone, in_second, in_map, image_in, found_in, same_id, id_itself}
 use Rattle.repl_types.specs.declared.area.Area.TheVariants as areas
-use Rattle.keep_core.specs.Contents.{Contents, Table}
-use Rattle.row_codec.specs.Order.{name_cmp, set_cmp}
-use Rattle.row_codec.specs.Spelling.{IsSet, set_spelling}
-use Rattle.row_codec.specs.Takes.{One}
-use Rattle.row_codec.specs.laws.Ones.{one_whole}
-use Rattle.row_codec.specs.laws.Orders.{name_cmp_exact}
-use Rattle.repl_definitions.specs.Sets.{source_set_spelling, IsSourceSet, target_set_spelling, IsTargetSet}
-use Rattle.repl_definitions.specs.declared.set.SourceSet.{SourceSet}
-use Rattle.repl_definitions.specs.declared.set.TargetSet.{TargetSet}
-use Rattle.repl_definitions.specs.laws.Sets.{one_source_set, one_target_set}
-use Rattle.lists.specs.Lists.{all_differ}
-use Rattle.repl_model.specs.SoundDefinitions.{ServerKeepsRules}
-use Rattle.repl_model.specs.Summaries.{by_key}
-use Rattle.repl_model.specs.World.{SourceSide, TargetSide, Server, World, same_set, source_side, target_side}
-use Rattle.rows_in_order.specs.Rows.{table_from_rows}
-use Rattle.rows_in_order.specs.laws.Fitting.{fits_each}
-use Rattle.rows_in_order.specs.laws.Found.{row_of}
-use Rattle.rows_in_order.specs.laws.Rising.{same_itself, no_row_at}
-use Rattle.world_store.specs.DefinitionRows.{source_set_rows, target_set_rows}
-use Rattle.world_store.specs.Stands.{Holds}
-use Rattle.repl_model.specs.laws.Entries.{entry_has_row, row_is_entry}
-use Rattle.lists.specs.laws.Numbered.{in_numbered, numbered_place, at_place_in}
-use Rattle.lists.specs.laws.Members.{In, at_one, first_alone, in_second, in_map, image_in, found_in}
-use Rattle.repl_model.specs.laws.GrowingServers.{same_id, id_itself}
-use Rattle.world_store.specs.SpelledRows.{RowFits}
-use Rattle.world_store.specs.laws.DefinitionRows.{set_alike, source_rows_are, target_rows_are, set_one}
 use Rattle.stored_defs.specs.laws.Standing.{holds_defs}
 
 -- ---- names of sets
-
--- two orders that tie in turn
-both_tie : (a b : Ordering) → ordering_then a b ≡ Equal → (a ≡ Equal) × (b ≡ Equal)
-both_tie Equal b e = (refl, e)
-both_tie Less b e = absurd cc
-both_tie Greater b e = absurd cc
 
 -- names of sets of which neither is before the other are one
 set_cmp_exact : IsAntisymmetric set_cmp

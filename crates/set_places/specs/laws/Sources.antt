@@ -1,18 +1,9 @@
 -- What the source of a member is, which is found by its name, and that its table has a key.
-use Rattle.std.proofs.Common.{◌≡◌, ℕ, ◌<◌, ◌&&◌, List, length, refl, sym, ap}
-use Rattle.std.specs.Prelude.{nat_lt, Option, Some, None}
+use Rattle.std.proofs.Common.{◌≡◌, ℕ, ◌<◌, ◌&&◌, List, length, refl, sym, ap, nat_lt, Option, Some, None, option_map, option_and_then, bytes_eq}
 use Rattle.std.specs.List.{list_all}
-use Rattle.std.specs.Option.{option_map, option_and_then}
-use Rattle.std.specs.Str.{bytes_eq}
 use Rattle.std.proofs.lemmas.Bool.{and_parts, ltb-true}
 use Rattle.std.proofs.lemmas.Option.{none-some, same_Some}
-use Rattle.repl_model.specs.Rules.{all_places, may_be_key}
-use Rattle.lists.specs.Lists.{are_among}
-use Rattle.repl_model.specs.Selection.{SourceTable}
-use Rattle.repl_model.specs.SoundDefinitions.{KeepsTable}
-use Rattle.repl_model.specs.SourceAt.{table_after}
-use Rattle.repl_model.specs.World.{ServerTable, Registered, Server, source_named, as_source, server_table}
-use Rattle.lists.specs.laws.Members.{In, found_in}
+use Rattle.repl_model.specs.Words.{all_places, may_be_key, are_among, SourceTable, KeepsTable, table_after, ServerTable, Registered, Server, source_named, as_source, server_table, In, found_in}
 
 -- A source is made of a table of its server, and has the server's log.
 pub record IsSourceOf (server : Server) (source : SourceTable) : Type 0 where

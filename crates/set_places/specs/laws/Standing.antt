@@ -1,15 +1,11 @@
 -- What is seen of a found set's servers, if the servers stand for a world.
-use Rattle.std.proofs.Common.{◌≡◌, ℕ, zero, suc, List, [], ◌∷◌, get_or, refl, ap, subst, ◌∙◌}
-use Rattle.std.specs.Prelude.{Option, Some, None, IfSome, slice_get}
+use Rattle.std.proofs.Common.{◌≡◌, ℕ, zero, suc, List, [], ◌∷◌, get_or, refl, ap, subst, ◌∙◌, Option, Some, None, IfSome, slice_get}
 use Rattle.std.specs.List.{AllZip}
 use Rattle.std.proofs.lemmas.Option.{none-some, same_Some}
-use Rattle.keep_core.specs.Contents.{Contents}
-use Rattle.keep_core.specs.Kept.{Kept, seen_of}
-use Rattle.repl_model.specs.Sound.{IsSound}
-use Rattle.repl_model.specs.World.{Server, World, KnownSet}
+use Rattle.repl_model.specs.Words.{IsSound, Server, World, KnownSet, ServerKeepsRules, SetKeepsLimits, UnknownSource, SourceSide, SetDef, at_one, at_place_in}
+use Rattle.world_store.specs.Words.{Holds, Reveals, Stands}
+use Rattle.site_store.specs.Words.{Contents, Kept, seen_of, names, held, work, sees, IsClosedAt}
 use Rattle.site_store.specs.declared.sites.Sites.{Sites}
-use Rattle.site_store.specs.Views.{names, held, work, sees, IsClosedAt}
-use Rattle.world_store.specs.Stands.{Holds, Reveals, Stands}
 use Rattle.set_places.specs.declared.placed_set.PlacedSet.{PlacedSet}
 use Rattle.set_places.specs.Members.{ForSource, ForTarget}
 use Rattle.set_places.specs.Places.{IsPlacedAs}
@@ -58,3 +54,9 @@ module _ (set : PlacedSet) (P : World → KnownSet → Type 0) where
       by_told : (told : Option Contents) → ((w : World) (k : KnownSet) → IsSound w → IsPlacedAs w k set → Reveals w k.target told → P w k) → IfSome told (λ c. (w : World) (k : KnownSet) → IsSound w → IsPlacedAs w k set → Holds w k.target c → P w k)
       by_told None follows = tt
       by_told (Some c) follows = λ w k sound placed holds. follows w k sound placed (c, refl, holds)
+
+-- the source of a placed set has the name that the set's row says
+pub source_name : (w : World) (k : KnownSet) (set : PlacedSet) → IsSound w → IsPlacedAs w k set → set.at_source.def.source ≡ k.source.name
+source_name w k set sound placed =
+    let keeps = at_one (ServerKeepsRules w) w k.source sound.definitions.servers (at_place_in w set.source k.source placed.source) in
+    ap (λ (def : SetDef). def.source) placed.source_def ∙ (at_one (λ (s : SourceSide). (s.def.source ≡ k.source.name) × SetKeepsLimits w s.def × UnknownSource w k.source s) k.source.source_sets k.at_source keeps.sources (at_place_in k.source.source_sets set.at_source.number k.at_source placed.at_source)).0

@@ -1,14 +1,7 @@
 -- A found set stays where it is placed.
-use Rattle.std.proofs.Common.{ℕ, ◌<◌, List, length, sym, subst}
-use Rattle.std.specs.Prelude.{Option, IfSome}
-use Rattle.keep_core.specs.Contents.{Contents}
-use Rattle.keep_core.specs.Kept.{Kept}
+use Rattle.std.proofs.Common.{ℕ, ◌<◌, List, length, sym, subst, Option, IfSome}
+use Rattle.site_store.specs.Words.{Contents, Kept, Begins, AllClosed, names, work, Looks, looks_sees, sees_on}
 use Rattle.site_store.specs.declared.sites.Sites.{Sites}
-use Rattle.site_store.specs.Calls.{Begins}
-use Rattle.site_store.specs.Servers.{AllClosed}
-use Rattle.site_store.specs.Views.{names, work}
-use Rattle.site_store.specs.one_server.Calls.{Looks}
-use Rattle.site_store.specs.one_server.laws.Reads.{looks_sees, sees_on}
 use Rattle.set_places.specs.declared.placed_set.PlacedSet.{PlacedSet}
 use Rattle.set_places.specs.Places.{HasSourceRow, HasTargetRow, IsPlacedAtSource, IsPlacedAtTarget, IsPlaced}
 use Rattle.set_places.specs.laws.Commits.{begun_sees_all}

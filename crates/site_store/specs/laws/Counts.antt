@@ -1,11 +1,9 @@
 -- Laws of what calls keep and how often they read and write: proofs, and nothing to believe.
-use Rattle.std.proofs.Common.{ℕ, ◌+◌, ◌≤◌, List, Bool, true, false, cond, ◌∙◌, refl, arith}
-use Rattle.std.specs.Prelude.{◌&&◌, ◌==◌}
-use Rattle.repl_types.specs.Area.{same_area}
+use Rattle.std.proofs.Common.{ℕ, ◌≤◌, List, ◌∙◌, refl, arith}
 use Rattle.repl_types.specs.declared.area.Area.{Area}
 use Rattle.keep_core.specs.Kept.{Kept}
 use Rattle.site_store.specs.declared.sites.Sites.{Sites}
-use Rattle.site_store.specs.Calls.{NoneBack, Bounds, no_access, only, reads_of_one, both, reads_and_writes, Passes, Stays, KeepsServers}
+use Rattle.site_store.specs.Calls.{NoneBack, Bounds, no_access, both, Passes, Stays, KeepsServers}
 use Rattle.site_store.specs.Servers.{AllClosed}
 use Rattle.site_store.specs.Views.{work, reads_in}
 
@@ -17,37 +15,6 @@ pub record IsAtMost (x y : Bounds) : Type 0 where
 -- bounds are at most themselves
 pub at_most_itself : (x : Bounds) → IsAtMost x x
 at_most_itself x = record { reads = λ s a. omega arith; writes = λ s a. omega arith }
-
--- accesses of one area of one server add up
-only_more : (m n s : ℕ) (a : Area) (q : ℕ) (b : Area) → only m s a q b + only n s a q b ≤ only (m + n) s a q b
-only_more m n s a q b = pick (same_area a b && (s == q))
-  where
-    pick : (t : Bool) → cond t m 0 + cond t n 0 ≤ cond t (m + n) 0
-    pick true = omega arith
-    pick false = omega arith
-
--- bounds by a number are wider for a larger one
-only_wider : (m n s : ℕ) (a : Area) (q : ℕ) (b : Area) → m ≤ n → only m s a q b ≤ only n s a q b
-only_wider m n s a q b le = pick (same_area a b && (s == q))
-  where
-    pick : (t : Bool) → cond t m 0 ≤ cond t n 0
-    pick true = le
-    pick false = omega arith
-
--- reads of one area and writes of one area add up
-pub reads_and_writes_then : (i j m n x y s : ℕ) (a : Area) (t : ℕ) (b : Area) → i + m ≤ x → j + n ≤ y → IsAtMost (both (reads_and_writes i s a j t b) (reads_and_writes m s a n t b)) (reads_and_writes x s a y t b)
-reads_and_writes_then i j m n x y s a t b few fewer = record {
-  reads = λ q c. omega (arith, only_more i m s a q c, only_wider (i + m) x s a q c few);
-  writes = λ q c. omega (arith, only_more j n t b q c, only_wider (j + n) y t b q c fewer);
-}
-
--- one read is within reads of that area and any writes
-pub read_within : (n s : ℕ) (a : Area) (t : ℕ) (b : Area) → IsAtMost (reads_of_one 1 s a) (reads_and_writes 1 s a n t b)
-read_within n s a t b = record { reads = λ q c. omega arith; writes = λ q c. omega arith }
-
--- counts that stay don't fall
-pub none_back_itself : (counts : List ℕ) → NoneBack counts counts
-none_back_itself counts s lt = omega arith
 
 -- if no count fell, and then none, none fell
 pub none_back_then : (c0 c1 c2 : List ℕ) → NoneBack c0 c1 → NoneBack c1 c2 → NoneBack c0 c2

@@ -1,6 +1,5 @@
 -- A law of numbers as keys: a proof, and nothing to believe.
-use Rattle.std.specs.Prelude.{◌^◌}
-use Rattle.std.specs.Ordering.{nat_cmp}
+use Rattle.std.proofs.Common.{◌^◌, nat_cmp}
 use Rattle.row_codec.specs.Spelling.{b64, Is64}
 use Rattle.row_codec.specs.laws.Orders.{order64, whole_order}
 use Rattle.rows_in_order.specs.Numbers.{SpellsInOrder}

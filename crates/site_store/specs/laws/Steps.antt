@@ -1,11 +1,9 @@
 -- Laws of steps inside a transaction, one after another: proofs, and nothing to believe.
-use Rattle.std.proofs.Common.{◌≡◌, ℕ, List, refl, sym, ap, subst, ◌∙◌}
-use Rattle.std.specs.Prelude.{Option, Some, None, IfSome}
+use Rattle.std.proofs.Common.{◌≡◌, ℕ, List, refl, sym, ap, subst, ◌∙◌, Option, IfSome}
 use Rattle.repl_types.specs.declared.area.Area.{Area}
 use Rattle.repl_types.specs.declared.status.DamageCause.{DamageCause}
 use Rattle.keep_core.specs.Contents.{Contents, put_at}
 use Rattle.keep_core.specs.Kept.{Kept}
-use Rattle.rows_in_order.specs.laws.Written.{put_other_table, put_other_area}
 use Rattle.repl_types.specs.declared.fault.Fault.{Fault}
 use Rattle.site_store.specs.declared.sites.Sites.{Sites}
 use Rattle.site_store.specs.Views.{held, work, sees, IsOpenAt}
@@ -16,7 +14,7 @@ use Rattle.site_store.specs.Damage.{Rules, AddsOnlySpelt, Shows, ShownBefore, Da
 use Rattle.site_store.specs.Steps.{ChangesOne, WorksOn}
 use Rattle.site_store.specs.laws.Counts.{IsAtMost, passes_none, passes_within, passes_then}
 use Rattle.site_store.specs.laws.Transactions.{open_below, works_start, works_then, works_seen, seen_work}
-use Rattle.site_store.specs.laws.Damage.{adds_nothing, adds_put, adds_remove, adds_then, shows_at, misspelt_shows, misspelt_next_shows, fails_by, fails_within, fails_in_work}
+use Rattle.site_store.specs.laws.Damage.{adds_nothing, shows_at, misspelt_shows, misspelt_next_shows, fails_by, fails_within, fails_in_work}
 
 -- nothing changed
 pub changes_none : (rules : Rules) (a : Area) (t : ℕ) (c d : Contents) → d ≡ c → ChangesOne rules a t c d
@@ -24,30 +22,6 @@ changes_none rules a t c d same = record {
   tables = λ u ne. ap (λ (f : Contents). f a u) same;
   areas = λ b u ne. ap (λ (f : Contents). f b u) same;
   adds = subst (AddsOnlySpelt rules c) (sym same) (adds_nothing rules c);
-}
-
--- a write changes one table
-changes_set : (rules : Rules) (a : Area) (t : ℕ) (k : List ℕ) (v : Option (List ℕ)) (c d : Contents) → d ≡ put_at c a t k v → AddsOnlySpelt rules c (put_at c a t k v) → ChangesOne rules a t c d
-changes_set rules a t k v c d sets adds = record {
-  tables = λ u ne. ap (λ (f : Contents). f a u) sets ∙ put_other_table c a t u k v ne;
-  areas = λ b u ne. ap (λ (f : Contents). f b u) sets ∙ put_other_area c a b t u k v ne;
-  adds = subst (AddsOnlySpelt rules c) (sym sets) adds;
-}
-
--- a row is put
-pub changes_put : (rules : Rules) (a : Area) (t : ℕ) (k v : List ℕ) (c d : Contents) → d ≡ put_at c a t k (Some v) → rules.is_key a t k → rules.is_value a t v → ChangesOne rules a t c d
-changes_put rules a t k v c d sets is_key is_value = changes_set rules a t k (Some v) c d sets (adds_put rules c a t k v is_key is_value)
-
--- a row is removed
-pub changes_remove : (rules : Rules) (a : Area) (t : ℕ) (k : List ℕ) (c d : Contents) → d ≡ put_at c a t k None → ChangesOne rules a t c d
-changes_remove rules a t k c d sets = changes_set rules a t k None c d sets (adds_remove rules c a t k)
-
--- two changes of one table
-pub changes_then : (rules : Rules) (a : Area) (t : ℕ) (c d e : Contents) → ChangesOne rules a t c d → ChangesOne rules a t d e → ChangesOne rules a t c e
-changes_then rules a t c d e first second = record {
-  tables = λ u ne. second.tables u ne ∙ first.tables u ne;
-  areas = λ b u ne. second.areas b u ne ∙ first.areas b u ne;
-  adds = adds_then rules c d e first.adds second.adds;
 }
 
 module _ {K : Type 0} (kept : K → Kept) where

@@ -1,9 +1,6 @@
 -- Laws of transactions: proofs, and nothing to believe. Calls inside a transaction compose by `works_then`
 -- and `works_seen`.
-use Rattle.std.proofs.Common.{◌≡◌, ◌≢◌, ℕ, ◌<◌, List, length, get_or, refl, sym, ap, subst, ◌∙◌, inl, inr}
-use Rattle.std.specs.Prelude.{true, false, Option, Some, None, IsSome, is_some, IfSome}
-use Rattle.std.specs.Option.{option_map}
-use Rattle.std.proofs.Math.ListN.{set}
+use Rattle.std.proofs.Common.{◌≡◌, ◌≢◌, ℕ, ◌<◌, List, length, get_or, refl, sym, ap, subst, ◌∙◌, inl, inr, true, false, Option, Some, None, IsSome, is_some, IfSome, option_map, set}
 use Rattle.std.proofs.lemmas.Bool.{cases_eq, cases_lt}
 use Rattle.std.proofs.lemmas.List.{get_or-set_same, get_or-set_other, get_or_past, set-set, set-get_or, length-set, length-map}
 use Rattle.repl_types.specs.declared.area.Area.{Area}
@@ -83,10 +80,6 @@ works_seen w0 w1 w2 s P R lt a same step = record {
 -- what a read in a transaction says of what it sees
 pub seen_work : (h : List (Option Contents)) (w : List (Option (Option Contents))) (s : ℕ) (d : Contents) (P : Contents → Type 0) → get_or w s None ≡ Some (Some d) → IfSome (seen_of (get_or h s None) (get_or w s None)) P → P d
 seen_work h w s d P open_at seen = subst (λ (o : Option Contents). IfSome o P) (ap (λ (o : Option (Option Contents)). seen_of (get_or h s None) o) open_at) seen
-
--- what a read at a server with no open transaction says of what it holds
-pub seen_held : (h : List (Option Contents)) (w : List (Option (Option Contents))) (s : ℕ) (c : Contents) (P : Contents → Type 0) → get_or w s None ≡ None → get_or h s None ≡ Some c → IfSome (seen_of (get_or h s None) (get_or w s None)) P → P c
-seen_held h w s c P closed is seen = subst (λ (o : Option Contents). IfSome o P) (ap (λ (o : Option (Option Contents)). seen_of (get_or h s None) o) closed ∙ is) seen
 
 -- the other transactions see the same
 pub other_work : (w0 w1 : List (Option (Option Contents))) (s q : ℕ) (P : Contents → Contents → Type 0) → Works w0 w1 s P → q ≢ s → get_or w1 q None ≡ get_or w0 q None

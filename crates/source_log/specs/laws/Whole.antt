@@ -1,27 +1,13 @@
 -- The tables of a server's log, its end among them: when they stand, and that they do after a unit. Proofs, and
 -- nothing to believe.
-use Rattle.std.proofs.Common.{◌≡◌, ℕ, Bool, true, false, cond, List, [], refl, sym, ap, ◌∙◌}
-use Rattle.std.specs.Prelude.{Option, Some, None}
+use Rattle.std.proofs.Common.{◌≡◌, ℕ, Bool, true, false, cond, List, [], refl, sym, ap, ◌∙◌, Option, Some, None}
 use Rattle.std.specs.Option.{option_or}
+use Rattle.world_store.specs.Words.{first_head, single_spelling, head_spelling, Single, at_head, head_of, shown, Holds, tables, first_table}
+use Rattle.site_store.specs.Words.{Contents, Table, set_key, same_key, or_first}
+use Rattle.repl_model.specs.Words.{with_more, IsSound, ServerKeepsRules, LogIsSound, Server, World, In, at_one}
 use Rattle.repl_types.specs.declared.area.Area.TheVariants as areas
 use Rattle.repl_types.specs.declared.unit.Unit.{Unit as LogUnit}
-use Rattle.keep_core.specs.Contents.{Contents, Table, set_key, same_key}
-use Rattle.repl_records.specs.FirstStates.{first_head}
-use Rattle.repl_records.specs.RecordKeys.{single_spelling}
-use Rattle.repl_records.specs.SourceSide.{head_spelling}
-use Rattle.repl_records.specs.declared.record_keys.Single.{Single}
-use Rattle.rows_in_order.specs.laws.Rising.{at_head}
-use Rattle.repl_model.specs.Longer.{with_more}
-use Rattle.repl_model.specs.Sound.{IsSound}
-use Rattle.repl_model.specs.SoundDefinitions.{ServerKeepsRules}
-use Rattle.repl_model.specs.SoundLogs.{LogIsSound}
-use Rattle.repl_model.specs.World.{Server, World}
-use Rattle.lists.specs.laws.Members.{In, at_one}
-use Rattle.world_store.specs.LogRows.{head_of}
-use Rattle.world_store.specs.Stands.{shown, Holds}
-use Rattle.world_store.specs.Tables.{tables, first_table}
 use Rattle.stored_commits.specs.records.LongerTables.{head_table}
-use Rattle.site_store.specs.Records.{or_first}
 use Rattle.source_log.specs.Rules.{EndIs}
 use Rattle.source_log.specs.Storing.{IsKept, StoresWhole}
 use Rattle.source_log.specs.Units.{unit_records, AppendsUnit}
@@ -44,7 +30,7 @@ held_whole world server c sound member holds = record {
 -- ---- the end of the log
 
 -- values that stand at one place are equal
-same_value : {v w : List ℕ} → ◌≡◌ {A = Option (List ℕ)} (Some v) (Some w) → v ≡ w
+pub same_value : {v w : List ℕ} → ◌≡◌ {A = Option (List ℕ)} (Some v) (Some w) → v ≡ w
 same_value e = cc
 
 -- what is read of a missing end is the first one

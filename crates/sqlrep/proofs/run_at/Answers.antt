@@ -1,9 +1,8 @@
-use Rattle.std.proofs.Common.{◌≡◌, ◌≤◌, ◌∙◌, ℕ, List, sym, subst}
-use Rattle.std.specs.Prelude.{◌≢◌, IsTrue}
+use Rattle.std.proofs.Common.{◌≡◌, ◌≤◌, ◌∙◌, ℕ, List, sym, subst, ◌≢◌, IsTrue}
 use Rattle.std.proofs.lemmas.Result.{IfOk-weaker}
+use Rattle.site_store.specs.Words.{list_of, names, held}
 use Rattle.keep_sqlite.specs.AnyKeepers.{any_kept}
 use Rattle.run_words.specs.declared.opening.ServerWord.{ServerWord}
-use Rattle.site_store.specs.Views.{list_of, names, held}
 use Rattle.session_core.specs.Inputs.{OfInput}
 use Rattle.sqlrep.specs.Endings.{code_of, done_code, usage_code}
 use Rattle.sqlrep.specs.Opened.{AreOpened, all_in_memory}

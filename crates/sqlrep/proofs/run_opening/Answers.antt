@@ -1,6 +1,6 @@
 use Rattle.std.proofs.Common.{List, map, sym, subst}
+use Rattle.site_store.specs.Words.{AreServers}
 use Rattle.run_words.specs.declared.opening.ServerWord.{ServerWord}
-use Rattle.site_store.specs.Servers.{AreServers}
 use Rattle.sqlrep.proofs.Needed.{are_needed, names_needed}
 use Rattle.sqlrep.proofs.run_opening.Goals as goal
 

@@ -42,11 +42,6 @@ head_after (records.Abort tx) head = record { last = head.last + 1; commit = hea
 abbrev pub HeadGoesOn : Type 0
 HeadGoesOn = (server : Server) (r : LogRecord) → head_of (with_more (r ∷ []) server) ≡ head_after r (head_of server)
 
--- it is stored in the place of the end before
-abbrev pub HeadIsPut : Type 0
-HeadIsPut = (server : Server) (r : LogRecord)
-    → head_table (with_more (r ∷ []) server) ≡ set_key (head_table server) (single_spelling (record {})) (Some (head_spelling (head_after r (head_of server))))
-
 -- the end of a sound log has a spelling
 abbrev pub HeadFits : Type 0
 HeadFits = (server : Server) → LogIsSound server → IsHead (head_of server)

@@ -1,22 +1,12 @@
 -- What shows damage of one table shows it of all: proofs, and nothing to believe.
-use Rattle.std.proofs.Common.{◌≡◌, ℕ, ◌<◌, List, length, subst, sym, inl, inr}
-use Rattle.std.specs.Prelude.{Option, Some, None}
-use Rattle.repl_types.specs.declared.area.Area.{Area}
-use Rattle.repl_types.specs.declared.status.DamageCause.{DamageCause}
-use Rattle.repl_types.specs.declared.status.DamageCause.TheVariants as causes
-use Rattle.repl_types.specs.declared.fault.Fault.{Fault}
-use Rattle.keep_core.specs.Contents.{Contents}
-use Rattle.keep_core.specs.Kept.{Kept}
+use Rattle.std.proofs.Common.{◌≡◌, ℕ, ◌<◌, List, length, subst, sym, inl, inr, Option, Some, None}
+use Rattle.world_store.specs.Words.{Spells}
+use Rattle.site_store.specs.Words.{Contents, Kept, names, sees, Bounds, both, Stays, Fails, Rules, Shows, Damages, IsAtMost, fails_by, fails_within, fails_after, if_seen}
 use Rattle.site_store.specs.declared.sites.Sites.{Sites}
-use Rattle.site_store.specs.Views.{names, sees}
-use Rattle.site_store.specs.Calls.{Bounds, both, Stays, Fails}
-use Rattle.site_store.specs.Damage.{Rules, Shows, Damages}
-use Rattle.site_store.specs.laws.Counts.{IsAtMost}
-use Rattle.site_store.specs.laws.Damage.{fails_by, fails_within, fails_after}
+use Rattle.repl_model.specs.Words.{Area, DamageCause, Fault}
+use Rattle.repl_types.specs.declared.status.DamageCause.TheVariants as causes
 use Rattle.stored_defs.specs.Reading.{table_rules}
-use Rattle.world_store.specs.SpelledRows.{Spells}
 use Rattle.stored_defs.specs.Rules.{rules, ShowsDamage}
-use Rattle.site_store.specs.laws.Passing.{if_seen}
 
 module _ {A X : Type 0} (key_fits : A → Type 0) (key : A → List ℕ) (fits : X → Type 0) (spelling : X → List ℕ) (a : Area) (t : ℕ) (all : Rules) (keys : (bytes : List ℕ) → all.is_key a t bytes → Spells key_fits key bytes) (values : (bytes : List ℕ) → all.is_value a t bytes → Spells fits spelling bytes) where
   -- damage by the rules of one table is damage by all rules

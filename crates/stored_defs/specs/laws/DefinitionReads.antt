@@ -1,10 +1,8 @@
 -- Reads of definitions add up: proofs, and nothing to believe.
-use Rattle.std.proofs.Common.{ℕ, ◌+◌, ◌≤◌, Bool, true, false, cond, arith}
-use Rattle.std.specs.Prelude.{◌&&◌, ◌==◌}
-use Rattle.repl_types.specs.Area.{same_area}
+use Rattle.std.proofs.Common.{ℕ, ◌+◌, ◌≤◌, Bool, true, false, cond, arith, ◌&&◌, ◌==◌}
+use Rattle.site_store.specs.Words.{both, reads_of_one, IsAtMost}
+use Rattle.repl_model.specs.Words.{same_area}
 use Rattle.repl_types.specs.declared.area.Area.TheVariants as areas
-use Rattle.site_store.specs.Calls.{both, reads_of_one}
-use Rattle.site_store.specs.laws.Counts.{IsAtMost}
 use Rattle.stored_defs.specs.DefinitionReads.{in_defs}
 
 -- reads of the area Defs add up

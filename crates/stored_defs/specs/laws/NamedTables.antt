@@ -1,36 +1,10 @@
 -- The table of a name among the stored definitions of a server.
-use Rattle.std.proofs.Common.{◌≡◌, ℕ, ◌+◌, Bool, true, false, cond, List, [], ◌∷◌, length, map, refl, sym, ap, subst, ◌∙◌, arith, inl}
-use Rattle.std.specs.Prelude.{◌||◌, find, Option, Some, None, is_some, slice_get}
+use Rattle.std.proofs.Common.{◌≡◌, ℕ, ◌+◌, Bool, true, false, cond, List, [], ◌∷◌, length, map, refl, sym, ap, subst, ◌∙◌, arith, inl, ◌||◌, find, Option, Some, None, is_some, slice_get, bytes_eq}
 use Rattle.std.specs.List.{AllByRecursion, enumerate_from, list_all, list_any}
 use Rattle.std.specs.Ordering.{is_eq, eq_by_cmp}
-use Rattle.std.specs.Str.{bytes_eq}
 use Rattle.std.proofs.lemmas.Bool.{false≢true, and_parts}
-use Rattle.repl_types.specs.Bytes.{bytes_cmp}
-use Rattle.repl_types.specs.Name.{is_name}
-use Rattle.repl_types.specs.declared.table.ColumnDef.{ColumnDef}
-use Rattle.row_codec.specs.Order.{name_cmp}
-use Rattle.row_codec.specs.Spelling.{Any, IsName, short_text}
-use Rattle.row_codec.specs.laws.Ones.{one_whole}
-use Rattle.row_codec.specs.laws.Orders.{whole_order, order_name, name_cmp_exact}
-use Rattle.repl_definitions.specs.declared.defined.DefinedTable.{DefinedTable}
-use Rattle.repl_definitions.specs.Defined.{defined_table_spelling, IsDefinedTable}
-use Rattle.repl_definitions.specs.laws.Defined.{one_defined_table}
-use Rattle.lists.specs.Lists.{all_differ}
-use Rattle.repl_model.specs.SoundDefinitions.{KeepsTable, ServerKeepsRules, table_limit}
-use Rattle.repl_model.specs.World.{ServerTable, Server, World, server_table}
-use Rattle.rows_in_order.specs.Rows.{table_from_rows}
-use Rattle.rows_in_order.specs.laws.Found.{row_of}
-use Rattle.rows_in_order.specs.laws.Fitting.{fits_each}
-use Rattle.rows_in_order.specs.laws.Rising.{same_itself, same_is}
-use Rattle.repl_model.specs.laws.Entries.{row_is_entry}
-use Rattle.lists.specs.laws.Numbered.{numbered_place, at_place_in}
-use Rattle.lists.specs.laws.Members.{In, in_map, in_second, found_in, only_one, each_image}
-use Rattle.repl_model.specs.laws.GrowingServers.{same_name, name_itself}
-use Rattle.world_store.specs.DefinitionRows.{numbered_tables, table_rows}
-use Rattle.world_store.specs.SpelledRows.{RowFits}
-use Rattle.world_store.specs.laws.ByKey.{spelled_cmp, by_key_has}
-use Rattle.lists.specs.laws.Places.{alike, all_numbered}
-use Rattle.world_store.specs.laws.DefinitionRows.{table_rows_are}
+use Rattle.world_store.specs.Words.{name_cmp, Any, IsName, short_text, one_whole, whole_order, order_name, name_cmp_exact, table_from_rows, row_of, fits_each, same_itself, same_is, numbered_tables, table_rows, RowFits, spelled_cmp, by_key_has, table_rows_are}
+use Rattle.repl_model.specs.Words.{bytes_cmp, is_name, ColumnDef, DefinedTable, defined_table_spelling, IsDefinedTable, one_defined_table, all_differ, KeepsTable, ServerKeepsRules, table_limit, ServerTable, Server, World, server_table, row_is_entry, numbered_place, at_place_in, In, in_map, in_second, found_in, only_one, each_image, same_name, name_itself, alike, all_numbered}
 
 -- the entry of a table
 abbrev entry : ℕ × ServerTable → List ℕ × DefinedTable

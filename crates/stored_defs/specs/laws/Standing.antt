@@ -1,37 +1,14 @@
 -- What is seen at servers that stand for a world: proofs, and nothing to believe.
-use Rattle.std.proofs.Common.{◌≡◌, ℕ, zero, suc, ◌<◌, Bool, true, false, cond, List, [], ◌∷◌, length, map, get_or, refl, sym, ap, subst, ◌∙◌, arith}
-use Rattle.std.specs.Prelude.{Option, Some, None, IfSome}
+use Rattle.std.proofs.Common.{◌≡◌, ℕ, zero, suc, ◌<◌, Bool, true, false, cond, List, [], ◌∷◌, length, map, get_or, refl, sym, ap, subst, ◌∙◌, arith, Option, Some, None, IfSome, bytes_eq}
 use Rattle.std.specs.List.{AllByRecursion, AllZip}
-use Rattle.std.specs.Option.{option_map}
-use Rattle.std.specs.Str.{bytes_eq}
 use Rattle.std.proofs.lemmas.List.{length-map}
-use Rattle.repl_types.specs.declared.area.Area.TheVariants as areas
-use Rattle.repl_types.specs.declared.record.SetId.{SetId}
-use Rattle.repl_types.specs.laws.Lists.{all_weaker}
-use Rattle.repl_types.specs.declared.fault.Fault.{Fault}
-use Rattle.keep_core.specs.Contents.{Contents, Table}
-use Rattle.keep_core.specs.Kept.{Kept, seen_of}
-use Rattle.row_codec.specs.Spelling.{short_text, IsName, set_spelling, IsSet}
-use Rattle.repl_definitions.specs.Defined.{defined_table_spelling, IsDefinedTable, defined_registration_spelling, IsDefinedRegistration}
-use Rattle.repl_definitions.specs.Sets.{source_set_spelling, IsSourceSet, target_set_spelling, IsTargetSet}
-use Rattle.repl_definitions.specs.declared.set.TargetSet.{TargetSet}
-use Rattle.repl_model.specs.World.{empty_server, Server, World, server_named, server_in}
-use Rattle.repl_model.specs.SoundDefinitions.{ServerKeepsRules}
-use Rattle.repl_model.specs.laws.GrowingServers.{name_itself, same_name}
-use Rattle.rows_in_order.specs.Rows.{table_from_rows}
+use Rattle.world_store.specs.Words.{short_text, IsName, set_spelling, IsSet, table_from_rows, table_rows, registration_rows, source_set_rows, target_set_rows, tables, definition_table, Holds, Reveals, Stands, RowFits, AreRows, table_rows_are, registration_rows_are, source_rows_are, target_rows_are}
+use Rattle.site_store.specs.Words.{Contents, Table, Kept, seen_of, AllClosed, AreApart, HasNone, IsPlace, names, held, work, sees, Bounds, Stays, Blames, IsSpelt, IsNoDamage, rows_spelt, spelt_undamaged, no_damage}
 use Rattle.site_store.specs.declared.sites.Sites.{Sites}
-use Rattle.site_store.specs.Servers.{AllClosed, AreApart, HasNone, IsPlace}
-use Rattle.site_store.specs.Views.{names, held, work, sees}
-use Rattle.site_store.specs.Calls.{Bounds, Stays, Blames}
-use Rattle.site_store.specs.Damage.{IsSpelt, IsNoDamage}
-use Rattle.site_store.specs.laws.Damage.{rows_spelt, spelt_undamaged, no_damage}
-use Rattle.world_store.specs.DefinitionRows.{table_rows, registration_rows, source_set_rows, target_set_rows}
-use Rattle.world_store.specs.Tables.{tables, definition_table}
-use Rattle.world_store.specs.Stands.{Holds, Reveals, Stands}
+use Rattle.repl_model.specs.Words.{SetId, all_weaker, Fault, defined_table_spelling, IsDefinedTable, defined_registration_spelling, IsDefinedRegistration, source_set_spelling, IsSourceSet, target_set_spelling, IsTargetSet, TargetSet, empty_server, Server, World, server_named, server_in, ServerKeepsRules, name_itself, same_name}
+use Rattle.repl_types.specs.declared.area.Area.TheVariants as areas
 use Rattle.stored_defs.specs.Reading.{HasRecords}
-use Rattle.world_store.specs.SpelledRows.{RowFits, AreRows}
 use Rattle.stored_defs.specs.Rules.{rules, ShowsDamage}
-use Rattle.world_store.specs.laws.DefinitionRows.{table_rows_are, registration_rows_are, source_rows_are, target_rows_are}
 
 -- ---- lists
 

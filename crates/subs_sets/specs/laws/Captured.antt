@@ -1,32 +1,12 @@
 -- What stands at a server of a sound world of how far its log is captured.
-use Rattle.std.proofs.Common.{◌≡◌, ℕ, ◌+◌, ◌≤◌, List, [], ◌∷◌, length, refl, sym, ap, ◌∙◌, arith}
-use Rattle.std.specs.Prelude.{Option, Some, None, IfSome, find, slice_get}
+use Rattle.std.proofs.Common.{◌≡◌, ℕ, ◌+◌, ◌≤◌, List, [], ◌∷◌, length, refl, sym, ap, ◌∙◌, arith, Option, Some, None, IfSome, find, slice_get}
 use Rattle.std.specs.List.{AllByRecursion, enumerate_from}
 use Rattle.std.specs.Option.{option_or, option_map, option_map_or}
+use Rattle.world_store.specs.Words.{b32, b64, capture_spelling, IsCapture, registration_state_spelling, IsRegistrationState, uow_spelling, first_capture, single_spelling, RegState, Single, table_from_rows, at_head, capture_state, capture_rows, registration_state_rows, uow_rows, Holds, tables, first_table, no_first}
+use Rattle.site_store.specs.Words.{Contents, Table, or_first}
+use Rattle.repl_model.specs.Words.{LogRecord, NumbersAreSound, IsSound, ServerKeepsRules, log_limit, LogIsSound, At, positions, Registered, ServerTable, Server, World, is_open_at, restart_after, registered_of, In, at_one, found_in, is_seq_or_zero_within}
 use Rattle.repl_types.specs.declared.area.Area.TheVariants as areas
-use Rattle.repl_types.specs.declared.record.LogRecord.{LogRecord}
-use Rattle.keep_core.specs.Contents.{Contents, Table}
-use Rattle.row_codec.specs.Spelling.{b32, b64}
-use Rattle.repl_records.specs.Capture.{capture_spelling, IsCapture, registration_state_spelling, IsRegistrationState, uow_spelling}
-use Rattle.repl_records.specs.FirstStates.{first_capture}
-use Rattle.repl_records.specs.RecordKeys.{single_spelling}
-use Rattle.repl_records.specs.declared.capture.RegState.{RegState}
-use Rattle.repl_records.specs.declared.record_keys.Single.{Single}
-use Rattle.repl_model.specs.Sound.{NumbersAreSound, IsSound}
-use Rattle.repl_model.specs.SoundDefinitions.{ServerKeepsRules}
-use Rattle.repl_model.specs.SoundLogs.{log_limit, LogIsSound}
-use Rattle.repl_model.specs.Units.{At, positions}
-use Rattle.repl_model.specs.World.{Registered, ServerTable, Server, World, is_open_at, restart_after, registered_of}
-use Rattle.rows_in_order.specs.Rows.{table_from_rows}
-use Rattle.rows_in_order.specs.laws.Rising.{at_head}
-use Rattle.site_store.specs.Records.{or_first}
-use Rattle.world_store.specs.CaptureRows.{capture_state, capture_rows, registration_state_rows, uow_rows}
-use Rattle.world_store.specs.Stands.{Holds}
-use Rattle.world_store.specs.Tables.{tables, first_table}
-use Rattle.world_store.specs.laws.FirstStates.{no_first}
-use Rattle.lists.specs.laws.Members.{In, at_one, found_in}
 use Rattle.prune_control.specs.laws.Numbered.{entry_at}
-use Rattle.set_places.specs.laws.Points.{seq_or_zero_within}
 use Rattle.subs_sets.specs.laws.States.{first_or}
 
 -- the state of a registration
@@ -38,7 +18,7 @@ abbrev pub state_row : ℕ × ServerTable → Option (ℕ × RegState)
 state_row t = option_map (λ r. (t.0, state_of r)) t.1.registered
 
 -- it has the number of the table
-numbered : (n : ℕ) (t : ServerTable) → IfSome (state_row (n, t)) (λ e. e.0 ≡ n)
+pub numbered : (n : ℕ) (t : ServerTable) → IfSome (state_row (n, t)) (λ e. e.0 ≡ n)
 numbered n t = pick t.registered
   where
     pick : (o : Option Registered) → IfSome {T = ℕ × RegState} (option_map (λ r. (n, state_of r)) o) (λ e. e.0 ≡ n)
@@ -70,11 +50,11 @@ module _ (w : World) (server : Server) (sound : IsSound w) (i : In server w) whe
 
   -- it has captured up to a point within its log
   pub captured_within : server.captured ≤ log_limit
-  captured_within = omega (arith, seq_or_zero_within server.log server.captured numbers.captured, short)
+  captured_within = omega (arith, is_seq_or_zero_within server.log server.captured numbers.captured, short)
 
   -- how far it has captured has a spelling
   pub capture_fits : IsCapture (capture_state server)
-  capture_fits = (omega (arith, captured_within), omega (arith, restart_within server.log server.captured (seq_or_zero_within server.log server.captured numbers.captured), short), omega (arith, captured_within, numbers.floor))
+  capture_fits = (omega (arith, captured_within), omega (arith, restart_within server.log server.captured (is_seq_or_zero_within server.log server.captured numbers.captured), short), omega (arith, captured_within, numbers.floor))
 
   -- so have the states of its registrations
   pub registered_fits : (r : Registered) → In r (registered_of server) → IsRegistrationState (state_of r)

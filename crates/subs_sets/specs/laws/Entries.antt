@@ -1,41 +1,15 @@
 -- The entries of trails of sets of a sound world have spellings: what they count can be counted.
-use Rattle.std.proofs.Common.{◌≡◌, ℕ, ◌+◌, ◌*◌, ◌≤◌, Bool, true, false, cond, List, [], ◌∷◌, length, map, filter, fold, refl, subst, arith, length-append}
-use Rattle.std.specs.Prelude.{Option, Some, None}
+use Rattle.std.proofs.Common.{◌≡◌, ℕ, ◌+◌, ◌*◌, ◌≤◌, Bool, true, false, cond, List, [], ◌∷◌, length, map, filter, fold, refl, subst, arith, length-append, Option, Some, None, flat_map, sum_by, bytes_eq, Ordering, Less, Equal, Greater, suc-mul}
 use Rattle.std.specs.FinMap.Entries.{put, by_order}
-use Rattle.std.specs.List.{flat_map, sum_by}
 use Rattle.std.specs.Option.{option_map, option_map_or, option_and_then}
-use Rattle.std.specs.Str.{bytes_eq}
-use Rattle.std.specs.declared.cmp.Ordering.{Ordering}
-use Rattle.std.specs.declared.cmp.Ordering.TheVariants.{Less, Equal, Greater}
-use Rattle.std.proofs.Math.Nat.{suc-mul}
 use Rattle.std.proofs.lemmas.List.{length-map}
 use Rattle.std.proofs.lemmas.List.Sums.{count_by-le-length, sum_by-cons}
 use Rattle.std.proofs.lemmas.Nat.{mul-le}
 use Rattle.std.proofs.lemmas.Option.{none-some, same_Some}
-use Rattle.repl_types.specs.Value.{Values, key_cmp}
-use Rattle.repl_types.specs.declared.change_row.CdRow.{CdRow}
-use Rattle.repl_types.specs.declared.change_row.Op.{Op}
-use Rattle.row_codec.specs.Spelling.{Is64}
-use Rattle.repl_definitions.specs.declared.member.Member.{Member}
-use Rattle.repl_definitions.specs.declared.member.TargetKind.{TargetKind}
+use Rattle.world_store.specs.Words.{Is64, IsEntry, source_of, rows_refreshed, set_rows_refreshed, member_changes, set_changes, count_op, is_insert, is_update, is_delete, trail_entry, selected_few, between_few}
+use Rattle.repl_model.specs.Words.{Values, key_cmp, CdRow, Op, Member, TargetKind, SetDef, SummaryRow, base_aggregate, summary_rows, changes_between, SourceTable, selected_rows, target_row, IsSound, SetKeepsLimits, UnknownTarget, ServerKeepsRules, member_limit, log_limit, LogIsSound, table_after, time_at, by_key, group_value, groups_of, same_values, Entry, refresh, block, load, settle, Registered, ServerTable, TargetSide, Server, World, server_named, server_table, as_source, source_named, In, at_one, found_in}
 use Rattle.repl_definitions.specs.declared.member.TargetKind.TheVariants.{UserCopy, PointInTime, BaseAggregate, ChangeAggregate, Ccd, Replica}
-use Rattle.repl_definitions.specs.declared.set.SetDef.{SetDef}
-use Rattle.repl_records.specs.Trail.{IsEntry}
-use Rattle.repl_model.specs.Aggregates.{SummaryRow, base_aggregate, summary_rows}
-use Rattle.repl_model.specs.ChangeRows.{changes_between}
-use Rattle.repl_model.specs.Selection.{SourceTable, selected_rows, target_row}
-use Rattle.repl_model.specs.Sound.{IsSound}
-use Rattle.repl_model.specs.SoundDefinitions.{SetKeepsLimits, UnknownTarget, ServerKeepsRules, member_limit}
-use Rattle.repl_model.specs.SoundLogs.{log_limit, LogIsSound}
-use Rattle.repl_model.specs.SourceAt.{table_after, time_at}
-use Rattle.repl_model.specs.Summaries.{by_key, group_value, groups_of}
-use Rattle.repl_model.specs.Tables.{same_values}
-use Rattle.repl_model.specs.Trails.{Entry, refresh, block, load, settle}
-use Rattle.repl_model.specs.World.{Registered, ServerTable, TargetSide, Server, World, server_named, server_table, as_source, source_named}
-use Rattle.world_store.specs.TargetRows.{source_of, rows_refreshed, set_rows_refreshed, member_changes, set_changes, count_op, is_insert, is_update, is_delete, trail_entry}
-use Rattle.lists.specs.laws.Members.{In, at_one, found_in}
 use Rattle.set_places.specs.laws.Points.{HasShortNumbers, target_entries_short}
-use Rattle.world_store.specs.laws.FewRows.{selected_few, between_few}
 
 -- ---- groups
 

@@ -1,35 +1,15 @@
 -- The states of sets that stand at their targets in a sound world.
-use Rattle.std.proofs.Common.{◌≡◌, ℕ, ◌+◌, ◌<◌, ◌≤◌, ◌^◌, Bool, true, false, cond, List, [], ◌∷◌, length, filter, fold, refl, sym, ap, ◌∙◌, arith}
-use Rattle.std.specs.Prelude.{Option, Some, None, nat_lt, nat_le, slice_get}
+use Rattle.std.proofs.Common.{◌≡◌, ℕ, ◌+◌, ◌<◌, ◌≤◌, ◌^◌, Bool, true, false, cond, List, [], ◌∷◌, length, filter, fold, refl, sym, ap, ◌∙◌, arith, Option, Some, None, nat_lt, nat_le, slice_get, bytes_eq}
 use Rattle.std.specs.List.{AllByRecursion}
 use Rattle.std.specs.Option.{option_or, option_map_or}
-use Rattle.std.specs.Str.{bytes_eq}
 use Rattle.std.proofs.lemmas.Bool.{both_ways, lt-ltb, lt-leb, ltb-true}
 use Rattle.std.proofs.lemmas.Option.{same_Some}
-use Rattle.repl_types.specs.Sizes.{time_limit}
+use Rattle.world_store.specs.Words.{b32, state_spelling, IsState, SetState, table_from_rows, has_points, source_time, state_of, first_state_rows, set_state_rows, Holds, tables, first_table, with_first}
+use Rattle.site_store.specs.Words.{Contents, Table, or_first}
+use Rattle.repl_model.specs.Words.{time_limit, LogRecord, SetDef, is_replica_set, IsSound, ServerKeepsRules, log_limit, LogIsSound, time_at, Trail, synchpoint, base_of, replica_point, units, last_time, TargetSide, Server, World, server_named, In, at_one, found_in}
 use Rattle.repl_types.specs.declared.area.Area.TheVariants as areas
-use Rattle.repl_types.specs.declared.record.LogRecord.{LogRecord}
 use Rattle.repl_types.specs.declared.unit.Unit.{Unit as LogUnit}
-use Rattle.keep_core.specs.Contents.{Contents, Table}
-use Rattle.row_codec.specs.Spelling.{b32}
-use Rattle.repl_definitions.specs.declared.set.SetDef.{SetDef}
-use Rattle.repl_records.specs.SetState.{state_spelling, IsState}
-use Rattle.repl_records.specs.declared.set_state.SetState.{SetState}
 use Rattle.repl_records.specs.declared.set_state.SetState.TheVariants as states
-use Rattle.repl_model.specs.Rules.{is_replica_set}
-use Rattle.repl_model.specs.Sound.{IsSound}
-use Rattle.repl_model.specs.SoundDefinitions.{ServerKeepsRules}
-use Rattle.repl_model.specs.SoundLogs.{log_limit, LogIsSound}
-use Rattle.repl_model.specs.SourceAt.{time_at}
-use Rattle.repl_model.specs.Trails.{Trail, synchpoint, base_of, replica_point}
-use Rattle.repl_model.specs.Units.{units, last_time}
-use Rattle.repl_model.specs.World.{TargetSide, Server, World, server_named}
-use Rattle.rows_in_order.specs.Rows.{table_from_rows}
-use Rattle.site_store.specs.Records.{or_first}
-use Rattle.world_store.specs.TargetRows.{has_points, source_time, state_of, first_state_rows, set_state_rows}
-use Rattle.world_store.specs.Stands.{Holds}
-use Rattle.world_store.specs.Tables.{tables, first_table, with_first}
-use Rattle.lists.specs.laws.Members.{In, at_one, found_in}
 use Rattle.world_commits.specs.captures.laws.Units.{units_rise, all_after}
 use Rattle.prune_control.specs.laws.Numbered.{row_at}
 use Rattle.set_places.specs.laws.Points.{Reaches, target_numbers}

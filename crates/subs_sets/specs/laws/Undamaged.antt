@@ -1,44 +1,13 @@
 -- What a server of a sound world holds shows no damage by the rules of sets.
-use Rattle.std.proofs.Common.{◌≡◌, ℕ, zero, suc, ◌<◌, ◌≤◌, ◌^◌, Bool, false, cond, List, [], ◌∷◌, length, map, refl, sym, ap, subst, ◌∙◌, arith, inl, inr}
-use Rattle.std.specs.Prelude.{Option, Some, None, slice_get}
+use Rattle.std.proofs.Common.{◌≡◌, ℕ, zero, suc, ◌<◌, ◌≤◌, ◌^◌, Bool, false, cond, List, [], ◌∷◌, length, map, refl, sym, ap, subst, ◌∙◌, arith, inl, inr, Option, Some, None, slice_get}
 use Rattle.std.specs.Option.{option_map, option_map_or, option_or}
 use Rattle.std.proofs.lemmas.Option.{none-some, same_Some}
-use Rattle.repl_types.specs.declared.area.Area.{Area}
+use Rattle.world_store.specs.Words.{b32, b64, short_text, capture_spelling, registration_state_spelling, uow_spelling, IsUow, first_capture, single_spelling, state_spelling, entry_spelling, CaptureState, RegState, UowRow, Single, SetState, table_from_rows, HasRow, row_of, capture_state, capture_rows, registration_state_rows, uow_rows, numbered_tables, registration_rows, Holds, no_rows, trail_table, tables, with_first, has_points, source_time, state_of, first_state_rows, set_state_rows, numbered_target_sets, trail_rows, trail_entry}
+use Rattle.site_store.specs.Words.{Contents, Table, Rules, joined, IsUndamaged, or_first}
+use Rattle.repl_model.specs.Words.{Area, defined_registration_spelling, DefinedRegistration, TargetSet, is_replica_set, IsSound, ServerKeepsRules, log_limit, synchpoint, base_of, replica_point, Registered, ServerTable, TargetSide, Server, World, numbered_in, at_place_in, In, at_one, in_map, in_second, in_filter_map, given_in}
 use Rattle.repl_types.specs.declared.area.Area.TheVariants as areas
 use Rattle.repl_types.specs.declared.status.DamageCause.TheVariants as causes
-use Rattle.keep_core.specs.Contents.{Contents, Table}
-use Rattle.row_codec.specs.Spelling.{b32, b64, short_text}
-use Rattle.repl_definitions.specs.Defined.{defined_registration_spelling}
-use Rattle.repl_definitions.specs.declared.defined.DefinedRegistration.{DefinedRegistration}
-use Rattle.repl_definitions.specs.declared.set.TargetSet.{TargetSet}
-use Rattle.repl_records.specs.Capture.{capture_spelling, registration_state_spelling, uow_spelling, IsUow}
-use Rattle.repl_records.specs.FirstStates.{first_capture}
-use Rattle.repl_records.specs.RecordKeys.{single_spelling}
-use Rattle.repl_records.specs.SetState.{state_spelling}
-use Rattle.repl_records.specs.Trail.{entry_spelling}
-use Rattle.repl_records.specs.declared.capture.CaptureState.{CaptureState}
-use Rattle.repl_records.specs.declared.capture.RegState.{RegState}
-use Rattle.repl_records.specs.declared.capture.UowRow.{UowRow}
-use Rattle.repl_records.specs.declared.record_keys.Single.{Single}
-use Rattle.repl_records.specs.declared.set_state.SetState.{SetState}
 use Rattle.repl_records.specs.declared.set_state.SetState.TheVariants as states
-use Rattle.repl_model.specs.Rules.{is_replica_set}
-use Rattle.repl_model.specs.Sound.{IsSound}
-use Rattle.repl_model.specs.SoundDefinitions.{ServerKeepsRules}
-use Rattle.repl_model.specs.SoundLogs.{log_limit}
-use Rattle.repl_model.specs.Trails.{synchpoint, base_of, replica_point}
-use Rattle.repl_model.specs.World.{Registered, ServerTable, TargetSide, Server, World}
-use Rattle.rows_in_order.specs.Rows.{table_from_rows, HasRow}
-use Rattle.rows_in_order.specs.laws.Found.{row_of}
-use Rattle.site_store.specs.Damage.{Rules, joined, IsUndamaged}
-use Rattle.site_store.specs.Records.{or_first}
-use Rattle.world_store.specs.CaptureRows.{capture_state, capture_rows, registration_state_rows, uow_rows}
-use Rattle.world_store.specs.DefinitionRows.{numbered_tables, registration_rows}
-use Rattle.world_store.specs.Stands.{Holds}
-use Rattle.world_store.specs.Tables.{no_rows, trail_table, tables, with_first}
-use Rattle.world_store.specs.TargetRows.{has_points, source_time, state_of, first_state_rows, set_state_rows, numbered_target_sets, trail_rows, trail_entry}
-use Rattle.lists.specs.laws.Numbered.{numbered_in, at_place_in}
-use Rattle.lists.specs.laws.Members.{In, at_one, in_map, in_second, in_filter_map, given_in}
 use Rattle.stored_defs.specs.laws.Standing.{holds_defs}
 use Rattle.set_places.specs.laws.Registrations.{registration_row_is, members_undamaged}
 use Rattle.set_places.specs.laws.SetRows.{held_target_row}

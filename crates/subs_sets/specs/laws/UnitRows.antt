@@ -1,25 +1,13 @@
 -- The rows of the units that a server of a sound world has captured.
-use Rattle.std.proofs.Common.{◌≡◌, ℕ, ◌+◌, ◌<◌, ◌≤◌, Bool, true, false, ◌&&◌, cond, List, [], ◌∷◌, length, map, filter, refl, arith}
-use Rattle.std.specs.Prelude.{nat_lt, nat_le, find, Option, Some, None, ◌==◌}
+use Rattle.std.proofs.Common.{◌≡◌, ℕ, ◌+◌, ◌<◌, ◌≤◌, Bool, true, false, ◌&&◌, cond, List, [], ◌∷◌, length, map, filter, refl, arith, nat_lt, nat_le, find, Option, Some, None, ◌==◌}
 use Rattle.std.specs.List.{AllByRecursion, enumerate_from, filter_map}
 use Rattle.std.specs.Option.{option_map_or}
 use Rattle.std.proofs.lemmas.Bool.{and_parts, and_from, leb-true, le-leb}
-use Rattle.repl_types.specs.declared.record.LogRecord.{LogRecord}
+use Rattle.repl_model.specs.Words.{LogRecord, NumbersAreSound, IsSound, log_limit, LogIsSound, times_rise, units_between, unit_at, units, Server, World, code_in, In, at_one, at_each, in_filter, found_in, seqs_at_most}
+use Rattle.world_store.specs.Words.{IsLogRecord, Is64, IsName, IsOrigin, IsCode, IsUow, UowRow, AllAbove, NumbersRise}
 use Rattle.repl_types.specs.declared.record.LogRecord.TheVariants as records
 use Rattle.repl_types.specs.declared.unit.Unit.{Unit as LogUnit}
-use Rattle.row_codec.specs.LogRecords.{IsLogRecord}
-use Rattle.row_codec.specs.Spelling.{Is64, IsName, IsOrigin}
-use Rattle.repl_records.specs.Capture.{IsCode, IsUow}
-use Rattle.repl_records.specs.declared.capture.UowRow.{UowRow}
-use Rattle.repl_model.specs.Sound.{NumbersAreSound, IsSound}
-use Rattle.repl_model.specs.SoundLogs.{log_limit, LogIsSound, times_rise}
-use Rattle.repl_model.specs.SourceAt.{units_between}
-use Rattle.repl_model.specs.Units.{unit_at, units}
-use Rattle.repl_model.specs.World.{Server, World, code_in}
-use Rattle.rows_in_order.specs.Numbers.{AllAbove, NumbersRise}
 use Rattle.world_commits.specs.captures.laws.Units.{Rise, units_rise}
-use Rattle.lists.specs.laws.Members.{In, at_one, at_each, in_filter, found_in}
-use Rattle.set_places.specs.laws.Points.{seqs_within}
 
 -- ---- units that a filter keeps
 
@@ -109,7 +97,7 @@ module _ (w : World) (server : Server) (sound : IsSound w) (i : In server w) whe
   pub unit_fits : (u : LogUnit) → In u (units server.log) → (u.head.seq ≤ log_limit) × IsUow (unit_row server u).1
   unit_fits u among =
       let head = at_one HeadFits (units server.log) u (units_fit server.log log_sound.typed) among in
-      (omega (arith, log_sound.short, at_one (λ (v : LogUnit). v.head.seq ≤ length server.log) (units server.log) u (seqs_within server.log) among), (head.0, head.1, head.2, code_fits u.head.seq))
+      (omega (arith, log_sound.short, at_one (λ (v : LogUnit). v.head.seq ≤ length server.log) (units server.log) u (seqs_at_most server.log) among), (head.0, head.1, head.2, code_fits u.head.seq))
     where
       code_fits : (seq : ℕ) → IsCode (code_in server.shown seq)
       code_fits seq = by_found (find (λ (c : ℕ × ℕ). c.0 == seq) server.shown) refl

@@ -1,20 +1,10 @@
 -- What is known of the servers of a set between the calls of one of its steps.
-use Rattle.std.proofs.Common.{◌≡◌, ℕ, List, inl, get_or, sym, subst}
-use Rattle.std.specs.Prelude.{Option, Some, None}
+use Rattle.std.proofs.Common.{◌≡◌, ℕ, List, inl, get_or, sym, subst, Option, Some, None}
 use Rattle.std.proofs.Math.ListN.{set as set_at}
-use Rattle.repl_types.specs.declared.fault.Fault.{Fault}
-use Rattle.keep_core.specs.Contents.{Contents}
-use Rattle.keep_core.specs.Kept.{Kept}
-use Rattle.repl_model.specs.World.{World, KnownSet}
+use Rattle.world_store.specs.Words.{Reveals, Stands}
+use Rattle.site_store.specs.Words.{Contents, Kept, AllClosed, names, held, work, sees, IsUndamaged, IsNoDamage, no_damage, Looks, Breaks, looks_sees}
 use Rattle.site_store.specs.declared.sites.Sites.{Sites}
-use Rattle.site_store.specs.Servers.{AllClosed}
-use Rattle.site_store.specs.Views.{names, held, work, sees}
-use Rattle.site_store.specs.Damage.{IsUndamaged, IsNoDamage}
-use Rattle.site_store.specs.laws.Damage.{no_damage}
-use Rattle.site_store.specs.one_server.Calls.{Looks, Breaks}
-use Rattle.site_store.specs.one_server.laws.Reads.{looks_sees}
-use Rattle.world_store.specs.Stands.{Reveals, Stands}
-use Rattle.lists.specs.laws.Numbered.{at_place_in}
+use Rattle.repl_model.specs.Words.{Fault, World, KnownSet, at_place_in}
 use Rattle.subs_sets.specs.Rules.{source_rules, state_rules}
 use Rattle.subs_sets.specs.laws.Undamaged.{source_undamaged, states_undamaged}
 use Rattle.set_places.specs.declared.placed_set.PlacedSet.{PlacedSet}

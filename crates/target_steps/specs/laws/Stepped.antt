@@ -1,28 +1,13 @@
 -- What a step that was put makes of a target in a sound world.
-use Rattle.std.proofs.Common.{◌≡◌, ℕ, ◌+◌, ◌-◌, ◌*◌, ◌^◌, ◌<◌, Bool, false, true, List, [], ◌∷◌, length, refl, ap, subst, ◌∙◌, arith}
-use Rattle.std.specs.Prelude.{Option, Some}
+use Rattle.std.proofs.Common.{◌≡◌, ℕ, ◌+◌, ◌-◌, ◌*◌, ◌^◌, ◌<◌, Bool, false, true, List, [], ◌∷◌, length, refl, ap, subst, ◌∙◌, arith, Option, Some}
 use Rattle.std.specs.List.{AllByRecursion}
-use Rattle.repl_types.specs.declared.area.Area.{Area}
+use Rattle.world_store.specs.Words.{b32, b64, state_spelling, entry_spelling, SetState, TrailEntry, Holds, Reveals}
+use Rattle.site_store.specs.Words.{Contents, Table, set_key, Kept, sees}
+use Rattle.site_store.specs.declared.sites.Sites.{Sites}
+use Rattle.repl_model.specs.Words.{Area, DamageCause, Counts, Member, TargetKind, SetDef, IsSound, World, KnownSet}
 use Rattle.repl_types.specs.declared.area.Area.TheVariants as areas
-use Rattle.repl_types.specs.declared.status.DamageCause.{DamageCause}
-use Rattle.repl_types.specs.declared.fault.Counts.{Counts}
-use Rattle.keep_core.specs.Contents.{Contents, Table, set_key}
-use Rattle.keep_core.specs.Kept.{Kept}
-use Rattle.row_codec.specs.Spelling.{b32, b64}
-use Rattle.repl_definitions.specs.declared.member.Member.{Member}
-use Rattle.repl_definitions.specs.declared.member.TargetKind.{TargetKind}
-use Rattle.repl_definitions.specs.declared.set.SetDef.{SetDef}
-use Rattle.repl_records.specs.SetState.{state_spelling}
-use Rattle.repl_records.specs.Trail.{entry_spelling}
-use Rattle.repl_records.specs.declared.set_state.SetState.{SetState}
-use Rattle.repl_records.specs.declared.trail.TrailEntry.{TrailEntry}
-use Rattle.repl_model.specs.Sound.{IsSound}
-use Rattle.repl_model.specs.World.{World, KnownSet}
-use Rattle.world_store.specs.Stands.{Holds, Reveals}
 use Rattle.stored_commits.specs.actions.ActedServers.{is_of_step}
 use Rattle.stored_commits.specs.actions.StoredSteps.{is_numbered, NoneNumbered, PutsStep, HasTargets}
-use Rattle.site_store.specs.declared.sites.Sites.{Sites}
-use Rattle.site_store.specs.Views.{sees}
 use Rattle.subs_sets.specs.States.{state_in}
 use Rattle.subs_sets.specs.declared.states.ReadOnlyState.{ReadOnlyState}
 use Rattle.set_places.specs.declared.placed_set.PlacedSet.{PlacedSet}

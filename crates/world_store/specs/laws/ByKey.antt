@@ -1,15 +1,10 @@
 -- Entries in the order of their keys make rows that rise: proofs, and nothing to believe.
-use Rattle.std.proofs.Common.{◌≡◌, ℕ, ◌≤◌, ◌+◌, Bool, true, false, cond, List, [], ◌∷◌, length, refl, sym, ap, subst, ◌∙◌, arith}
-use Rattle.std.specs.Prelude.{T, ◌&&◌, ◌||◌, fold, Option, Some, None, is_some}
+use Rattle.std.proofs.Common.{◌≡◌, ℕ, ◌≤◌, ◌+◌, Bool, true, false, cond, List, [], ◌∷◌, length, refl, sym, ap, subst, ◌∙◌, arith, T, ◌&&◌, ◌||◌, fold, Option, Some, None, is_some, option_map, Ordering, Less, Equal, Greater}
 use Rattle.std.specs.List.{AllByRecursion, list_any}
-use Rattle.std.specs.Option.{option_map}
 use Rattle.std.specs.Ordering.{is_lt, is_eq, ordering_reverse, eq_by_cmp}
-use Rattle.std.specs.declared.cmp.Ordering.{Ordering}
-use Rattle.std.specs.declared.cmp.Ordering.TheVariants.{Less, Equal, Greater}
 use Rattle.std.specs.Cmp.{IsTotalOrder}
 use Rattle.std.specs.FinMap.Entries.{by_order, find, put, below_all, is_sorted, is_sorted-put, find-put}
-use Rattle.repl_types.specs.Bytes.{bytes_cmp}
-use Rattle.repl_model.specs.Summaries.{by_key}
+use Rattle.repl_model.specs.Words.{bytes_cmp, by_key}
 use Rattle.rows_in_order.specs.Rows.{table_from_rows, AllAfter, IsRising}
 use Rattle.rows_in_order.specs.laws.Before.{order}
 use Rattle.world_store.specs.SpelledRows.{RowFits}
@@ -20,10 +15,10 @@ both_pass true b e = (tt, e)
 both_pass false b e = absurd e
 
 -- a test for less
-is_before_all : (o : Ordering) → T (is_lt o) → o ≡ Less
-is_before_all Less e = refl
-is_before_all Equal e = absurd e
-is_before_all Greater e = absurd e
+pub is_less : (o : Ordering) → T (is_lt o) → o ≡ Less
+is_less Less e = refl
+is_less Equal e = absurd e
+is_less Greater e = absurd e
 
 -- sameness doesn't ask which comes first
 same_either : (o : Ordering) → is_eq (ordering_reverse o) ≡ is_eq o
@@ -51,7 +46,7 @@ module _ {K X : Type 0} (key : K → List ℕ) where
     where
       after : (rows : List (K × X)) → T (below_all (spelled_cmp key) r.0 rows) → AllAfter key (key r.0) rows
       after [] e = tt
-      after (q ∷ qs) e = let p = both_pass (is_lt (bytes_cmp (key r.0) (key q.0))) (below_all (spelled_cmp key) r.0 qs) e in (is_before_all (bytes_cmp (key r.0) (key q.0)) p.0, after qs p.1)
+      after (q ∷ qs) e = let p = both_pass (is_lt (bytes_cmp (key r.0) (key q.0))) (below_all (spelled_cmp key) r.0 qs) e in (is_less (bytes_cmp (key r.0) (key q.0)) p.0, after qs p.1)
 
   -- what stands at a key is what is found there
   table_finds : (value : X → List ℕ) (q : K) (rows : List (K × X)) → table_from_rows key value rows (key q) ≡ option_map value (find (spelled_cmp key) q rows)

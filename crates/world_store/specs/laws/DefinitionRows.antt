@@ -1,46 +1,21 @@
 -- The rows of the area Defs that a sound world calls for: proofs, and nothing to believe.
-use Rattle.std.proofs.Common.{◌≡◌, ℕ, ◌+◌, ◌<◌, ◌≤◌, ◌^◌, Bool, true, false, cond, List, [], ◌∷◌, ◌++◌, length, map, refl, sym, ap, subst, ◌∙◌, arith}
-use Rattle.std.specs.Prelude.{◌&&◌, ◌||◌, ◌==◌, not, nat_lt, Option, Some, None, is_some, IfSome, find, slice_get}
-use Rattle.std.specs.List.{AllByRecursion, enumerate_from, filter_map, list_all, list_any}
+use Rattle.std.proofs.Common.{◌≡◌, ℕ, ◌+◌, ◌<◌, ◌≤◌, ◌^◌, Bool, true, false, List, ◌∷◌, ◌++◌, length, map, refl, ap, subst, ◌∙◌, arith, ◌&&◌, ◌==◌, not, nat_lt, Option, Some, None, IfSome, slice_get, is_eq, bytes_eq, Ordering}
+use Rattle.std.specs.List.{AllByRecursion, enumerate_from, filter_map, list_all}
 use Rattle.std.specs.Option.{option_map, option_map_or}
-use Rattle.std.specs.Ordering.{eq_by_cmp, is_eq}
-use Rattle.std.specs.Str.{bytes_eq}
-use Rattle.std.specs.declared.cmp.Ordering.{Ordering}
 use Rattle.std.proofs.lemmas.List.{length-map}
 use Rattle.std.proofs.lemmas.List.FromFn.{length-enumerate_from}
-use Rattle.std.proofs.lemmas.Map.Text.{is_eq-slice_cmp}
 use Rattle.std.proofs.lemmas.Option.{slice_get_within}
 use Rattle.std.proofs.lemmas.Bool.{and_parts}
-use Rattle.repl_types.specs.Bytes.{bytes_cmp}
-use Rattle.repl_types.specs.Name.{is_name}
-use Rattle.repl_types.specs.declared.record.SetId.{SetId}
-use Rattle.repl_types.specs.declared.table.ColumnDef.{ColumnDef}
-use Rattle.repl_types.specs.declared.table.TableDef.{TableDef}
-use Rattle.repl_types.specs.declared.change_row.Registration.{Registration}
-use Rattle.repl_types.specs.laws.Lists.{all_weaker}
+use Rattle.repl_model.specs.Words.{bytes_cmp, is_name, SetId, ColumnDef, TableDef, Registration, all_weaker, IsDefinedTable, IsDefinedRegistration, IsSourceSet, IsTargetSet, SourceSet, TargetSet, DefinedTable, DefinedRegistration, all_places, may_be_key, RegistrationKeepsRules, all_differ, are_among, places_rise, by_key, KeepsTable, ServerKeepsRules, SetKeepsLimits, UnknownSource, UnknownTarget, Registered, ServerTable, SourceSide, TargetSide, Server, World, same_set, name_itself, same_name, alike, all_pass, filter_map_few, all_numbered, among_first, among_below, distinct_few, rising_few, each_image, each_given}
 use Rattle.row_codec.specs.Definitions.{IsColumn, IsTable, ArePlaces, IsRegistration}
 use Rattle.row_codec.specs.Order.{name_cmp, set_cmp}
 use Rattle.row_codec.specs.Spelling.{Is16, Is32, IsName, IsSet, short_text, set_spelling}
 use Rattle.row_codec.specs.laws.Orders.{whole_order, order_name, order_set}
-use Rattle.repl_definitions.specs.Defined.{IsDefinedTable, IsDefinedRegistration}
-use Rattle.repl_definitions.specs.Sets.{IsSourceSet, IsTargetSet, source_set_spelling}
-use Rattle.repl_definitions.specs.declared.set.SourceSet.{SourceSet}
-use Rattle.repl_definitions.specs.declared.set.TargetSet.{TargetSet}
-use Rattle.repl_definitions.specs.declared.defined.DefinedTable.{DefinedTable}
-use Rattle.repl_definitions.specs.declared.defined.DefinedRegistration.{DefinedRegistration}
-use Rattle.repl_model.specs.Rules.{all_places, may_be_key, RegistrationKeepsRules}
-use Rattle.lists.specs.Lists.{all_differ, are_among, places_rise}
-use Rattle.repl_model.specs.Summaries.{by_key}
-use Rattle.repl_model.specs.SoundDefinitions.{KeepsTable, ServerKeepsRules, SetKeepsLimits, UnknownSource, UnknownTarget}
-use Rattle.repl_model.specs.World.{Registered, ServerTable, SourceSide, TargetSide, Server, World, same_set, source_side}
-use Rattle.repl_model.specs.laws.GrowingServers.{name_itself, same_name}
-use Rattle.rows_in_order.specs.Rows.{table_from_rows}
 use Rattle.rows_in_order.specs.laws.Rising.{same_itself, same_is}
 use Rattle.world_store.specs.DefinitionRows.{numbered_tables, table_rows, defined_registration, registration_rows, source_set_rows, target_set_rows}
 use Rattle.world_store.specs.SpelledRows.{RowFits, AreRows, definition_limit}
-use Rattle.world_store.specs.laws.ByKey.{spelled_cmp, by_key_rises, by_key_fits, by_key_few, by_key_has}
-use Rattle.lists.specs.laws.Places.{alike, all_pass, filter_map_few, all_numbered, among_first, among_below, distinct_few, rising_few}
-use Rattle.lists.specs.laws.Members.{each_image, each_given}
+use Rattle.world_store.specs.laws.ByKey.{by_key_rises, by_key_fits, by_key_few}
+use Rattle.row_codec.specs.laws.Numbers.{same_prefixes}
 
 -- ---- rows by their keys
 
@@ -120,21 +95,11 @@ registration_fits t reg keeps rules =
 -- ---- names, and names of sets
 
 -- the first of two equal lists that aren't empty, and what follows
-head_is : (j k : ℕ) (x y : List ℕ) → ◌≡◌ {A = List ℕ} (j ∷ x) (k ∷ y) → j ≡ k
+pub head_is : (j k : ℕ) (x y : List ℕ) → ◌≡◌ {A = List ℕ} (j ∷ x) (k ∷ y) → j ≡ k
 head_is j k x y e = cc
 
-tail_is : (j k : ℕ) (x y : List ℕ) → ◌≡◌ {A = List ℕ} (j ∷ x) (k ∷ y) → x ≡ y
+pub tail_is : (j k : ℕ) (x y : List ℕ) → ◌≡◌ {A = List ℕ} (j ∷ x) (k ∷ y) → x ≡ y
 tail_is j k x y e = cc
-
--- beginnings of one length
-same_parts : (x y a b : List ℕ) → length x ≡ length y → x ++ a ≡ y ++ b → (x ≡ y) × (a ≡ b)
-same_parts [] [] a b e h = (refl, h)
-same_parts [] (k ∷ y) a b e h = absurd (omega arith)
-same_parts (j ∷ x) [] a b e h = absurd (omega arith)
-same_parts (j ∷ x) (k ∷ y) a b e h =
-    let rest = same_parts x y a b (omega arith) (tail_is j k (x ++ a) (y ++ b) h) in
-    let first = head_is j k (x ++ a) (y ++ b) h in
-    (λ i. first i ∷ rest.0 i, rest.1)
 
 -- names that are spelled alike are one
 pub name_one : (a b : List ℕ) → short_text a ≡ short_text b → a ≡ b
@@ -144,7 +109,7 @@ name_one a b e = tail_is (length a) (length b) a b e
 pub set_one : (a b : SetId) → set_spelling a ≡ set_spelling b → a ≡ b
 set_one a b e =
     let long = head_is (length a.qual) (length b.qual) (a.qual ++ length a.name ∷ a.name) (b.qual ++ length b.name ∷ b.name) e in
-    let parts = same_parts a.qual b.qual (length a.name ∷ a.name) (length b.name ∷ b.name) long (tail_is (length a.qual) (length b.qual) (a.qual ++ length a.name ∷ a.name) (b.qual ++ length b.name ∷ b.name) e) in
+    let parts = same_prefixes a.qual b.qual (length a.name ∷ a.name) (length b.name ∷ b.name) long (tail_is (length a.qual) (length b.qual) (a.qual ++ length a.name ∷ a.name) (b.qual ++ length b.name ∷ b.name) e) in
     let names = tail_is (length a.name) (length b.name) a.name b.name parts.1 in
     λ i. record { qual = parts.0 i; name = names i }
 
@@ -195,18 +160,6 @@ registered_fits m t lt keeps = pick t.registered keeps.2
     pick : (o : Option Registered) → IfSome o (λ r. RegistrationKeepsRules t.def r.reg) → IfSome (option_map (λ (r : Registered). registration_entry m t r) o) (RowFits IsName IsDefinedRegistration)
     pick None h = tt
     pick (Some r) h = (table_name t keeps, (small m lt, registration_fits t r.reg keeps h))
-
--- a set's entry is found among those of a source if the set stands there
-any_source : (id : SetId) (n : ℕ) (sides : List SourceSide) → list_any (λ e. eq_by_cmp (spelled_cmp set_spelling) id e.0) (map source_entry (enumerate_from n sides)) ≡ is_some (find (λ side. same_set id side.def.id) sides)
-any_source id n [] = refl
-any_source id n (s ∷ ss) =
-    ap (λ (t : Bool). t || list_any (λ (e : SetId × SourceSet). eq_by_cmp (spelled_cmp set_spelling) id e.0) (map source_entry (enumerate_from (n + 1) ss))) (set_alike id s.def.id)
-    ∙ ap (λ (t : Bool). same_set id s.def.id || t) (any_source id (n + 1) ss)
-    ∙ push (same_set id s.def.id)
-  where
-    push : (t : Bool) → (t || is_some (find (λ side. same_set id side.def.id) ss)) ≡ is_some (cond t (Some s) (find (λ side. same_set id side.def.id) ss))
-    push true = refl
-    push false = refl
 
 -- ---- the rows of a server
 

@@ -1,16 +1,12 @@
 -- The units of a log have no more changes together than the log has records: each change is of one unit at most.
-use Rattle.std.proofs.Common.{◌≡◌, ℕ, ◌+◌, ◌<◌, ◌≤◌, Bool, true, false, ◌&&◌, cond, List, [], ◌∷◌, length, filter, fold, refl, sym, ap, subst, ◌∙◌, arith, inl, inr}
-use Rattle.std.specs.Prelude.{◌==◌, nat_lt, if◌then◌else◌, Some, None}
+use Rattle.std.proofs.Common.{◌≡◌, ℕ, ◌+◌, ◌<◌, ◌≤◌, Bool, true, false, ◌&&◌, cond, List, [], ◌∷◌, length, filter, fold, refl, sym, ap, subst, ◌∙◌, arith, inl, inr, ◌==◌, nat_lt, if◌then◌else◌, Some, None}
 use Rattle.std.specs.List.{AllByRecursion, enumerate_from, filter_map, cons_option}
 use Rattle.std.proofs.lemmas.Bool.{and_parts, and_from, eqb-true, eq-eqb, lt-ltb, ltb-true}
 use Rattle.std.proofs.lemmas.List.FromFn.{length-enumerate_from}
-use Rattle.repl_types.specs.declared.record.LogRecord.{LogRecord}
+use Rattle.repl_model.specs.Words.{LogRecord, Placed, At, positions, ends, last_end, change_of, unit_at, units, In, at_one}
 use Rattle.repl_types.specs.declared.record.LogRecord.TheVariants as records
-use Rattle.repl_types.specs.declared.unit.Placed.{Placed}
 use Rattle.repl_types.specs.declared.unit.Unit.{Unit as LogUnit}
-use Rattle.repl_model.specs.Units.{At, positions, ends, last_end, change_of, unit_at, units}
 use Rattle.rows_in_order.specs.Numbers.{AllAbove, NumbersRise}
-use Rattle.lists.specs.laws.Members.{In, at_one}
 
 -- how many changes units have together
 abbrev pub total_changes : List LogUnit → ℕ

@@ -1,25 +1,9 @@
 -- What a log leaves of a source, and what a set takes of it, can be counted.
-use Rattle.std.proofs.Common.{ℕ, ◌+◌, ◌-◌, ◌*◌, ◌≤◌, Bool, true, false, cond, List, [], ◌∷◌, length, filter, sym, subst, arith, length-append}
-use Rattle.std.specs.Prelude.{◌&&◌, nat_le, nat_lt}
-use Rattle.std.specs.List.{flat_map}
+use Rattle.std.proofs.Common.{ℕ, ◌+◌, ◌-◌, ◌*◌, ◌≤◌, Bool, true, false, cond, List, [], ◌∷◌, length, filter, sym, subst, arith, length-append, ◌&&◌, nat_le, nat_lt, flat_map, bytes_eq}
 use Rattle.std.specs.FinMap.{empty, entries, insert, remove, contains_key, len, len-empty, len-entries, len-insert, len-remove}
-use Rattle.std.specs.Str.{bytes_eq}
-use Rattle.repl_types.specs.Value.{Values, key_cmp}
-use Rattle.repl_types.specs.laws.Order.{key_cmp_total}
-use Rattle.repl_types.specs.declared.change_row.CdRow.{CdRow}
-use Rattle.repl_types.specs.declared.change_row.Registration.{Registration}
-use Rattle.repl_types.specs.declared.record.Change.{Change}
+use Rattle.repl_model.specs.Words.{Values, key_cmp, key_cmp_total, CdRow, Registration, Change, LogRecord, TableDef, Placed, Member, shows_nothing, rows_of, rows_of_placed, change_rows, changes_between, SourceTable, is_selected, selected_rows, unplaced, after_units, units_up_to, units_between, source_at, Rows, key_of, table_of, effect, after_change, after_changes, units}
 use Rattle.repl_types.specs.declared.record.Change.TheVariants.{Insert, Update, Delete, Start, Stop}
-use Rattle.repl_types.specs.declared.record.LogRecord.{LogRecord}
-use Rattle.repl_types.specs.declared.table.TableDef.{TableDef}
-use Rattle.repl_types.specs.declared.unit.Placed.{Placed}
 use Rattle.repl_types.specs.declared.unit.Unit.{Unit as LogUnit}
-use Rattle.repl_definitions.specs.declared.member.Member.{Member}
-use Rattle.repl_model.specs.ChangeRows.{shows_nothing, rows_of, rows_of_placed, change_rows, changes_between}
-use Rattle.repl_model.specs.Selection.{SourceTable, is_selected, selected_rows}
-use Rattle.repl_model.specs.SourceAt.{unplaced, after_units, units_up_to, units_between, source_at}
-use Rattle.repl_model.specs.Tables.{Rows, key_of, table_of, effect, after_change, after_changes}
-use Rattle.repl_model.specs.Units.{units}
 use Rattle.world_store.specs.laws.FewChanges.{total_changes, changes_few}
 
 -- ---- lists
@@ -45,12 +29,12 @@ kept_changes p (u ∷ us) = pick (p u) (kept_changes p us)
 -- ---- rows of a source
 
 -- one more, or not
-at_most_more : (b : Bool) (n : ℕ) → cond b n (n + 1) ≤ n + 1
+pub at_most_more : (b : Bool) (n : ℕ) → cond b n (n + 1) ≤ n + 1
 at_most_more true n = omega arith
 at_most_more false n = omega arith
 
 -- one less, or not
-no_more : (b : Bool) (n : ℕ) → cond b (n - 1) n ≤ n
+pub no_more : (b : Bool) (n : ℕ) → cond b (n - 1) n ≤ n
 no_more true n = omega arith
 no_more false n = omega arith
 

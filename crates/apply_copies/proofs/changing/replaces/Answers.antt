@@ -1,7 +1,6 @@
 use Rattle.std.proofs.Common.{sym, ◌∙◌}
-use Rattle.repl_types.specs.Value.{key_cmp}
-use Rattle.repl_types.specs.laws.Order.{exact_key}
-use Rattle.rows_in_order.specs.laws.Before.{is_equal}
+use Rattle.world_store.specs.Words.{is_equal}
+use Rattle.repl_model.specs.Words.{key_cmp, exact_key}
 use Rattle.apply_copies.proofs.changing.replaces.Goals as goal
 
 pub returns-then-same_values-clause-same : goal.returns-then-same_values-clause-same

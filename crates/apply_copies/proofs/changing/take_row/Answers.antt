@@ -1,8 +1,7 @@
 use Rattle.std.specs.Prelude.{None}
+use Rattle.world_store.specs.Words.{key_spelling}
+use Rattle.site_store.specs.Words.{Sets, goes_as, goes_put}
 use Rattle.repl_types.specs.declared.area.Area.TheVariants as areas
-use Rattle.row_codec.specs.Spelling.{key_spelling}
-use Rattle.site_store.specs.Works.{Sets}
-use Rattle.site_store.specs.one_server.laws.Steps.{goes_as, goes_put}
 use Rattle.apply_copies.specs.Changing.{source_as, TakesRow}
 use Rattle.apply_copies.specs.Copying.{LoadsRow}
 use Rattle.apply_copies.proofs.TakenRows.{takes_insert, takes_delete}

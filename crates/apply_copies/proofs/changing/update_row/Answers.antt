@@ -1,6 +1,5 @@
 use Rattle.std.proofs.lemmas.Result.{err_from_is_err_and}
-use Rattle.site_store.specs.one_server.laws.Faults.{no_memory, write_fails_on}
-use Rattle.site_store.specs.one_server.laws.Steps.{goes_then}
+use Rattle.site_store.specs.Words.{no_memory, write_fails_on, goes_then}
 use Rattle.apply_copies.specs.Changing.{source_as, RemovesBefore, TakesRow}
 use Rattle.apply_copies.specs.Copying.{LoadsRow}
 use Rattle.apply_copies.proofs.TakenRows.{takes_update}

@@ -1,9 +1,7 @@
 use Rattle.std.proofs.Common.{Some, None, ◌<◌, ℕ, List, length, sym, subst, arith}
 use Rattle.std.proofs.lemmas.Result.{err_from_is_err_and}
-use Rattle.row_codec.specs.Spelling.{key_spelling}
-use Rattle.site_store.specs.Records.{after_key}
-use Rattle.site_store.specs.one_server.laws.Damage.{breaks_on}
-use Rattle.site_store.specs.one_server.laws.Steps.{goes_none, goes_then, goes_open}
+use Rattle.world_store.specs.Words.{key_spelling}
+use Rattle.site_store.specs.Words.{after_key, breaks_on, goes_none, goes_then, goes_open}
 use Rattle.apply_copies.specs.Clearing.{ClearsNext, Clears}
 use Rattle.apply_copies.specs.Rules.{target_rules}
 use Rattle.apply_copies.proofs.KeyRanks.{rank_rises, rank_small}

@@ -1,8 +1,7 @@
 use Rattle.std.specs.Prelude.{◌-◌, IfSome}
-use Rattle.repl_types.specs.Sizes.{key_limit}
-use Rattle.row_codec.specs.Spelling.{key_spelling}
-use Rattle.site_store.specs.Records.{after_key}
-use Rattle.site_store.specs.one_server.Calls.{GoesOn}
+use Rattle.world_store.specs.Words.{key_spelling}
+use Rattle.site_store.specs.Words.{after_key, GoesOn}
+use Rattle.repl_model.specs.Words.{key_limit}
 use Rattle.set_places.specs.Reading.{ReadsOnly}
 use Rattle.apply_copies.specs.Keys.{IsStoredKey}
 use Rattle.apply_copies.specs.Rules.{is_of_load}

@@ -1,9 +1,7 @@
 use Rattle.std.proofs.Common.{Some, None, ◌≢◌, ◌<◌, ℕ, List, length, sym, subst, arith}
 use Rattle.std.proofs.lemmas.Result.{err_from_is_err_and}
-use Rattle.row_codec.specs.Spelling.{key_spelling}
-use Rattle.site_store.specs.Records.{after_key}
-use Rattle.site_store.specs.Views.{work, sees}
-use Rattle.site_store.specs.one_server.laws.Steps.{goes_none, goes_then, goes_open}
+use Rattle.world_store.specs.Words.{key_spelling}
+use Rattle.site_store.specs.Words.{after_key, work, sees, goes_none, goes_then, goes_open}
 use Rattle.apply_copies.specs.Copying.{LoadsNext, LoadsAll}
 use Rattle.apply_copies.specs.Rules.{source_rules}
 use Rattle.apply_copies.proofs.CopiedRows.{HasLoaded, loaded_none, loaded_next, loaded_all}

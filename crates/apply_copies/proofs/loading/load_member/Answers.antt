@@ -1,12 +1,7 @@
 use Rattle.std.proofs.Common.{◌≡◌, ◌≢◌, ◌<◌, List, inr, length, subst, ◌∙◌}
 use Rattle.std.proofs.lemmas.Result.{err_from_is_err_and}
-use Rattle.repl_types.specs.Sizes.{row_limit}
-use Rattle.repl_definitions.specs.declared.member.TargetColumn.{TargetColumn}
-use Rattle.repl_definitions.specs.laws.Sets.{again_source_set}
-use Rattle.site_store.specs.Views.{work, sees}
-use Rattle.site_store.specs.one_server.laws.Damage.{breaks_after}
-use Rattle.site_store.specs.one_server.laws.Reads.{looks_sees}
-use Rattle.site_store.specs.one_server.laws.Steps.{goes_then, looks_open}
+use Rattle.site_store.specs.Words.{work, sees, breaks_after, looks_sees, goes_then, looks_open}
+use Rattle.repl_model.specs.Words.{row_limit, TargetColumn, again_source_set}
 use Rattle.apply_copies.specs.Clearing.{Clears}
 use Rattle.apply_copies.specs.Copying.{LoadsAll}
 use Rattle.apply_copies.specs.Loading.{target_number, LoadsCopy}
@@ -76,4 +71,4 @@ returns-clause-ok g c =
     let saw : sees kept s2 set.source ≡ sees kept s0 set.source = sees_elsewhere kept s1 s2 set.target set.source (Clears number) ne clears ∙ looks_sees kept s0 s1 looks set.source in
     let at = own_at set.at_source.def.members c.as_slice.result.now place own c.as_slice.ensures c.requires.member c.index-as_slice-member.is in
     let open_at = looks_open kept s0 s1 set.target c.requires.open looks in
-    looked_then kept s0 s1 s3 set.target (LoadsCopy kept s0 set place rows) (LoadsCopy kept s0 set place rows) c.requires.open looks (goes_then kept s1 s2 s3 set.target (Clears number) (LoadsAll (sees kept s0 set.source) reg.number number own rows) (LoadsCopy kept s0 set place rows) open_at clears (rw saw at c.in_ok-rows.ensures.ok) (λ d e f cleared loaded. loads_copy kept s0 set place own reg c.laws_of_sources.ensures.keys c.laws_of_sources.ensures.stand at c.in_ok-reg.ensures.registration number rows d e f c.target_number-number.ensures cleared loaded)) (λ d e loaded. loaded)
+    looked_then kept s0 s1 s3 set.target (LoadsCopy kept s0 set place rows) (LoadsCopy kept s0 set place rows) c.requires.open looks (goes_then kept s1 s2 s3 set.target (Clears number) (LoadsAll (sees kept s0 set.source) reg.number number own rows) (LoadsCopy kept s0 set place rows) open_at clears (rw saw at c.in_ok-rows.ensures.ok) (λ d e f cleared loaded. loads_copy kept s0 set place own reg at c.in_ok-reg.ensures.registration number rows d e f c.target_number-number.ensures cleared loaded)) (λ d e loaded. loaded)

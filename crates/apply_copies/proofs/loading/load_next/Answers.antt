@@ -1,13 +1,8 @@
-use Rattle.std.proofs.Common.{None, refl}
-use Rattle.std.specs.Prelude.{Some}
+use Rattle.std.proofs.Common.{None, refl, Some}
 use Rattle.std.proofs.lemmas.Result.{err_from_is_err_and}
+use Rattle.world_store.specs.Words.{IsKey, key_spelling, source_row_spelling, IsSourceRow}
+use Rattle.site_store.specs.Words.{reads_of_one, after_key, sees, next_breaks, write_breaks_after}
 use Rattle.repl_types.specs.declared.area.Area.TheVariants as areas
-use Rattle.row_codec.specs.Spelling.{IsKey, key_spelling}
-use Rattle.repl_records.specs.SourceSide.{source_row_spelling, IsSourceRow}
-use Rattle.site_store.specs.Calls.{reads_of_one}
-use Rattle.site_store.specs.Records.{after_key}
-use Rattle.site_store.specs.Views.{sees}
-use Rattle.site_store.specs.one_server.laws.Damage.{next_breaks, write_breaks_after}
 use Rattle.apply_copies.specs.Copying.{LoadsNext, LoadsRow}
 use Rattle.apply_copies.specs.Rules.{source_rules}
 use Rattle.apply_copies.proofs.Elsewhere.{goes_looked, looked_then}

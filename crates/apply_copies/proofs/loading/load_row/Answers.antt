@@ -1,15 +1,9 @@
-use Rattle.std.proofs.Common.{◌≤◌, length, sym, subst, arith}
-use Rattle.std.specs.Prelude.{Some}
+use Rattle.std.proofs.Common.{◌≤◌, length, sym, subst, arith, Some}
 use Rattle.std.proofs.lemmas.Result.{err_from_is_err_and}
-use Rattle.repl_types.specs.Sizes.{row_limit}
-use Rattle.repl_types.specs.Value.{Values}
+use Rattle.world_store.specs.Words.{IsRow, key_spelling, row_spelling, copy_storable}
+use Rattle.site_store.specs.Words.{writes_of_one, Sets, no_memory, put_fails, goes_none, goes_as, goes_put}
+use Rattle.repl_model.specs.Words.{row_limit, Values, target_row}
 use Rattle.repl_types.specs.declared.area.Area.TheVariants as areas
-use Rattle.row_codec.specs.Spelling.{IsRow, key_spelling, row_spelling}
-use Rattle.repl_model.specs.Selection.{target_row}
-use Rattle.site_store.specs.Calls.{writes_of_one}
-use Rattle.site_store.specs.Works.{Sets}
-use Rattle.site_store.specs.one_server.laws.Faults.{no_memory, put_fails}
-use Rattle.site_store.specs.one_server.laws.Steps.{goes_none, goes_as, goes_put}
 use Rattle.apply_copies.specs.Copying.{LoadsRow}
 use Rattle.apply_copies.specs.laws.Values.{target_row_fits, target_row_short}
 use Rattle.apply_copies.proofs.CopiedRows.{loads_nothing, loads_one}
@@ -27,7 +21,7 @@ pub put-requires-clause-value : goal.put-requires-clause-value
 put-requires-clause-value g c =
     let fits : IsRow c.in_ok-target_row.field-0 = subst IsRow (sym c.in_ok-target_row.ensures) (target_row_fits c.args.row.now c.requires.row.1 c.args.member.now c.requires.member.fits) in
     let short : length (target_row c.args.member.now c.args.row.now) ≤ row_limit = omega (arith, target_row_short c.args.row.now c.requires.row.1 c.args.member.now, c.requires.member.narrow) in
-    c.laws_of_copies.ensures (record { row = c.in_ok-target_row.field-0 }) fits (subst (λ (r : Values). length r ≤ row_limit) (sym c.in_ok-target_row.ensures) short)
+    copy_storable (record { row = c.in_ok-target_row.field-0 }) fits (subst (λ (r : Values). length r ≤ row_limit) (sym c.in_ok-target_row.ensures) short)
 
 pub returns-in_err-put-clause-fault : goal.returns-in_err-put-clause-fault
 returns-in_err-put-clause-fault g c =

@@ -1,14 +1,8 @@
-use Rattle.std.proofs.Common.{◌≡◌, ℕ, ◌+◌, ◌<◌, length, List, [], ◌∷◌, ◌++◌, take, get_or, append-nil, refl, sym, ap, ◌∙◌}
-use Rattle.std.specs.Prelude.{Option, Some, None}
+use Rattle.std.proofs.Common.{◌≡◌, ℕ, ◌+◌, ◌<◌, length, List, [], ◌∷◌, ◌++◌, take, get_or, append-nil, refl, sym, ap, ◌∙◌, Option, Some, None}
 use Rattle.std.specs.List.{filter_map, cons_option}
 use Rattle.std.proofs.lemmas.List.Elements.{filter_map-append}
 use Rattle.std.proofs.lemmas.List.{take_more}
-use Rattle.repl_definitions.specs.declared.member.TargetColumn.{TargetColumn}
-use Rattle.repl_model.specs.Selection.{plain_value}
-use Rattle.repl_types.specs.Value.{Values}
-use Rattle.repl_types.specs.declared.value.Value.{Value}
-use Rattle.repl_definitions.specs.declared.expr.Expr.{Expr}
-use Rattle.repl_definitions.specs.declared.member.ColumnFrom.{ColumnFrom}
+use Rattle.repl_model.specs.Words.{TargetColumn, plain_value, Values, Value, Expr, ColumnFrom}
 use Rattle.repl_definitions.specs.declared.member.ColumnFrom.TheVariants.{Plain, Count, CountOf, Sum, Min, Max}
 use Rattle.apply_copies.proofs.rows.target_row.Goals as goal
 use Rattle.apply_copies.proofs.rows.target_row.Goals.{in-Plain+in_ok-eval+in_ok-push, in_default}

@@ -1,6 +1,5 @@
-use Rattle.std.specs.Prelude.{◌≡◌, take}
-use Rattle.std.specs.List.{filter_map}
-use Rattle.repl_model.specs.Selection.{plain_value}
+use Rattle.std.proofs.Common.{◌≡◌, take, filter_map}
+use Rattle.repl_model.specs.Words.{plain_value}
 use Rattle.apply_copies.proofs.rows.target_row.Given as goal
 
 abbrev pub invariant-loop-column : goal.invariant-loop-column

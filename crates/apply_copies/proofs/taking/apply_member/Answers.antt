@@ -1,18 +1,7 @@
-use Rattle.std.proofs.Common.{◌≡◌, ◌≤◌, ◌<◌, List, inr, length, subst, sym, ◌∙◌}
-use Rattle.std.specs.Prelude.{IfSome, Option}
+use Rattle.std.proofs.Common.{◌≡◌, ◌≤◌, ◌<◌, List, inr, length, subst, sym, ◌∙◌, IfSome, Option}
 use Rattle.std.proofs.lemmas.Result.{err_from_is_err_and}
-use Rattle.repl_types.specs.Sizes.{row_limit}
-use Rattle.keep_core.specs.Contents.{Contents}
-use Rattle.repl_definitions.specs.Members.{IsMember}
-use Rattle.repl_definitions.specs.declared.member.TargetColumn.{TargetColumn}
-use Rattle.repl_definitions.specs.declared.defined.DefinedRegistration.{DefinedRegistration}
-use Rattle.repl_definitions.specs.laws.Sets.{again_source_set}
-use Rattle.site_store.specs.Views.{sees}
-use Rattle.site_store.specs.one_server.laws.Damage.{breaks_after}
-use Rattle.site_store.specs.one_server.laws.Reads.{looks_sees}
-use Rattle.site_store.specs.one_server.laws.Steps.{looks_open}
-use Rattle.lists.specs.laws.Numbered.{at_place_in}
-use Rattle.lists.specs.laws.Members.{at_one}
+use Rattle.site_store.specs.Words.{Contents, sees, breaks_after, looks_sees, looks_open}
+use Rattle.repl_model.specs.Words.{row_limit, IsMember, TargetColumn, DefinedRegistration, again_source_set, at_place_in, at_one}
 use Rattle.set_places.specs.Members.{ForSource, IsRegistrationOf}
 use Rattle.apply_copies.specs.ChangeRules.{IsRegisteredIn, change_source_rules}
 use Rattle.apply_copies.specs.Changing.{source_as, TakesAll}
@@ -94,4 +83,4 @@ returns-clause-ok g c =
     let stands = subst (λ (o : Option Contents). IfSome o (IsRegisteredIn source.reg source.table)) saw1 c.in_ok-source.ensures.source in
     let T = TakesAll saw0 source.reg.number number (source_as source) own c.args.from c.args.upto counts in
     let R = TakesChanges kept s0 set place c.args.from c.args.upto counts in
-    looked_then kept s0 s1 s3 set.target R R c.requires.open first (looked_then kept s1 s2 s3 set.target T R (looks_open kept s0 s1 set.target c.requires.open first) second (rw saw2 at c.in_ok-counts.ensures.ok) (λ d e taken. takes_changes kept s0 set place c.args.from c.args.upto own source c.laws_of_changes.ensures at registered stands number counts d e c.target_number-number.ensures taken)) (λ d e taken. taken)
+    looked_then kept s0 s1 s3 set.target R R c.requires.open first (looked_then kept s1 s2 s3 set.target T R (looks_open kept s0 s1 set.target c.requires.open first) second (rw saw2 at c.in_ok-counts.ensures.ok) (λ d e taken. takes_changes kept s0 set place c.args.from c.args.upto own source at registered stands number counts d e c.target_number-number.ensures taken)) (λ d e taken. taken)

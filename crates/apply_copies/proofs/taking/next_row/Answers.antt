@@ -1,9 +1,7 @@
 use Rattle.std.proofs.lemmas.Result.{err_from_is_err_and}
+use Rattle.world_store.specs.Words.{IsChangeRow, change_row_spelling, IsChangeKey, change_key_spelling}
+use Rattle.site_store.specs.Words.{reads_of_one, next_breaks}
 use Rattle.repl_types.specs.declared.area.Area.TheVariants as areas
-use Rattle.repl_records.specs.Capture.{IsChangeRow, change_row_spelling}
-use Rattle.repl_records.specs.RecordKeys.{IsChangeKey, change_key_spelling}
-use Rattle.site_store.specs.Calls.{reads_of_one}
-use Rattle.site_store.specs.one_server.laws.Damage.{next_breaks}
 use Rattle.apply_copies.specs.ChangeRules.{change_source_rules}
 use Rattle.apply_copies.proofs.taking.next_row.Goals as goal
 

@@ -1,12 +1,9 @@
 use Rattle.std.proofs.Common.{inr, refl}
 use Rattle.std.proofs.lemmas.Result.{err_from_is_err_and}
+use Rattle.world_store.specs.Words.{short_text}
+use Rattle.site_store.specs.Words.{reads_of_one, sees, needed_breaks, if_seen}
+use Rattle.repl_model.specs.Words.{defined_table_spelling, IsDefinedTable}
 use Rattle.repl_types.specs.declared.area.Area.TheVariants as areas
-use Rattle.row_codec.specs.Spelling.{short_text}
-use Rattle.repl_definitions.specs.Defined.{defined_table_spelling, IsDefinedTable}
-use Rattle.site_store.specs.Calls.{reads_of_one}
-use Rattle.site_store.specs.Views.{sees}
-use Rattle.site_store.specs.one_server.laws.Damage.{needed_breaks}
-use Rattle.site_store.specs.laws.Passing.{if_seen}
 use Rattle.set_places.specs.Members.{HasRegistration}
 use Rattle.apply_copies.specs.ChangeRules.{change_source_rules}
 use Rattle.apply_copies.proofs.taking.read_source.Goals as goal

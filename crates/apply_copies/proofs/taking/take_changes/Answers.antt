@@ -1,9 +1,7 @@
 use Rattle.std.proofs.Common.{Some, None, ◌≢◌, [], refl, sym, subst, arith}
 use Rattle.std.proofs.lemmas.Result.{err_from_is_err_and}
-use Rattle.repl_records.specs.RecordKeys.{IsChangeKey}
-use Rattle.repl_records.specs.declared.record_keys.CdKey.{CdKey}
-use Rattle.site_store.specs.Views.{work, sees}
-use Rattle.site_store.specs.one_server.laws.Steps.{goes_none, goes_then}
+use Rattle.world_store.specs.Words.{IsChangeKey, CdKey}
+use Rattle.site_store.specs.Words.{work, sees, goes_none, goes_then}
 use Rattle.apply_copies.specs.ChangeRules.{change_source_rules}
 use Rattle.apply_copies.specs.Changing.{source_as, TakesNext, TakesAll}
 use Rattle.target_steps.specs.Taking.{counts_of}

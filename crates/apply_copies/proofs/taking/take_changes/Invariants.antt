@@ -1,7 +1,6 @@
 use Rattle.std.specs.Prelude.{◌-◌, ◌^◌}
-use Rattle.repl_records.specs.RecordKeys.{IsChangeKey}
-use Rattle.site_store.specs.Views.{sees}
-use Rattle.site_store.specs.one_server.Calls.{GoesOn}
+use Rattle.world_store.specs.Words.{IsChangeKey}
+use Rattle.site_store.specs.Words.{sees, GoesOn}
 use Rattle.set_places.specs.Reading.{ReadsOnly}
 use Rattle.target_steps.specs.Taking.{ReadsCounted}
 use Rattle.apply_copies.specs.Changing.{source_as}

@@ -1,23 +1,16 @@
 use Rattle.std.proofs.Common.{◌≡◌, Some, None, inr, refl, sym, ap, subst, ◌∙◌}
 use Rattle.std.proofs.lemmas.Result.{err_from_is_err_and}
-use Rattle.repl_types.specs.Value.{Values}
+use Rattle.world_store.specs.Words.{IsKey, IsRow, key_spelling, change_row_spelling, change_key_spelling}
+use Rattle.site_store.specs.Words.{reads_of_one, sees, unfit_breaks, write_breaks_after, if_seen}
+use Rattle.repl_model.specs.Words.{Values, IsKeySize, imaged_row, key_of}
 use Rattle.repl_types.specs.declared.area.Area.TheVariants as areas
-use Rattle.repl_types.specs.Sizes.{IsKeySize}
-use Rattle.row_codec.specs.Spelling.{IsKey, IsRow, key_spelling}
-use Rattle.repl_records.specs.Capture.{change_row_spelling}
-use Rattle.repl_records.specs.RecordKeys.{change_key_spelling}
-use Rattle.repl_model.specs.Selection.{imaged_row}
-use Rattle.repl_model.specs.Tables.{key_of}
-use Rattle.site_store.specs.Calls.{reads_of_one}
-use Rattle.site_store.specs.Views.{sees}
-use Rattle.site_store.specs.one_server.laws.Damage.{unfit_breaks, write_breaks_after}
-use Rattle.site_store.specs.laws.Passing.{if_seen}
 use Rattle.stored_commits.specs.units.StoredChanges.{stored_change}
 use Rattle.stored_commits.specs.copies.ChangedCopies.{key_after}
 use Rattle.apply_copies.specs.ChangeRules.{IsRegisteredIn, change_source_rules}
 use Rattle.apply_copies.specs.Changing.{source_as, NextIs, TakesRow, TakesNext}
 use Rattle.apply_copies.proofs.Elsewhere.{goes_looked, looked_then}
 use Rattle.apply_copies.proofs.ImagedRows.{imaged_fits, has_size, has_no_size}
+use Rattle.stored_commits.specs.records.laws.StandingRows.{key_fits}
 use Rattle.apply_copies.proofs.taking.take_next.Goals as goal
 
 pub returns-in_default-clause-ok : goal.returns-in_default-clause-ok
@@ -54,7 +47,7 @@ take_row-requires-clause-key g c =
     let row = imaged_fits (source_as source) c.in-Some.change c.requires.table.1.1.0 from.fits.1.0 in
     let own = c.in_ok-key.ensures ∙ ap (key_of source.table.def) c.in_ok-row.ensures in
     record {
-      fits = subst IsKey (sym own) (c.laws_of_sources.ensures.keys source.table.def (imaged_row (source_as source) c.in-Some.change) row);
+      fits = subst IsKey (sym own) (key_fits source.table.def (imaged_row (source_as source) c.in-Some.change) row);
       size = has_size (key_spelling c.in_ok-key.key) (sym c.in_ok-is_storable.ensures ∙ c.if-not-branch.false);
     }
 

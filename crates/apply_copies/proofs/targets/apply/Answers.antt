@@ -1,6 +1,6 @@
 use Rattle.std.proofs.Common.{inl, inr}
 use Rattle.std.proofs.lemmas.Result.{err_from_is_err_and}
-use Rattle.site_store.specs.one_server.laws.Steps.{goes_as}
+use Rattle.site_store.specs.Words.{goes_as}
 use Rattle.target_steps.specs.declared.step.Step.TheVariants.{Block}
 use Rattle.target_steps.specs.Taking.{TakesMember}
 use Rattle.apply_copies.specs.ChangeRules.{change_source_rules}
@@ -9,6 +9,7 @@ use Rattle.apply_copies.specs.Taking.{TakesChanges}
 use Rattle.apply_copies.specs.Copies.{is_user_copy, ShowsCopyDamage}
 use Rattle.apply_copies.proofs.CopySteps.{takes_member}
 use Rattle.apply_copies.proofs.StepFaults.{shown_at_ends, no_damage}
+use Rattle.apply_copies.specs.laws.ChangesUndamaged.{changes_undamaged}
 use Rattle.apply_copies.proofs.targets.apply.Goals as goal
 
 pub returns-clause-ok : goal.returns-clause-ok
@@ -36,4 +37,4 @@ returns-in_err-counts-clause-undamaged g c =
     let set = c.args.set.now in
     let e = c.in_err-counts.field-0.0 in
     let p = err_from_is_err_and c.from_residual.result c.from_residual.ensures.1 in
-    rw (p.1, p.2) (no_damage g.K.Keeper.kept change_source_rules (λ a cause saw h. inl (inr h)) c.args.sites.now set c.args.member (Block c.args.from c.args.upto) c.apply_rows.new.sites e c.changes_are_undamaged.ensures c.copies_are_undamaged.ensures.target c.requires.source c.requires.member c.in_err-counts.ensures.fault)
+    rw (p.1, p.2) (no_damage g.K.Keeper.kept change_source_rules (λ a cause saw h. inl (inr h)) c.args.sites.now set c.args.member (Block c.args.from c.args.upto) c.apply_rows.new.sites e changes_undamaged c.requires.source c.requires.member c.in_err-counts.ensures.fault)

@@ -1,6 +1,6 @@
 use Rattle.std.proofs.Common.{inl}
 use Rattle.std.proofs.lemmas.Result.{err_from_is_err_and}
-use Rattle.site_store.specs.one_server.laws.Steps.{goes_as}
+use Rattle.site_store.specs.Words.{goes_as}
 use Rattle.target_steps.specs.declared.step.Step.TheVariants.{Refresh}
 use Rattle.target_steps.specs.Taking.{TakesMember}
 use Rattle.apply_copies.specs.Loading.{target_number, LoadsCopy}
@@ -8,6 +8,7 @@ use Rattle.apply_copies.specs.Rules.{source_rules}
 use Rattle.apply_copies.specs.Copies.{is_user_copy, ShowsCopyDamage}
 use Rattle.apply_copies.proofs.CopySteps.{loads_member}
 use Rattle.apply_copies.proofs.StepFaults.{shown_at_ends, no_damage}
+use Rattle.apply_copies.specs.laws.Undamaged.{copies_undamaged}
 use Rattle.apply_copies.proofs.targets.load.Goals as goal
 
 pub returns-clause-ok : goal.returns-clause-ok
@@ -18,9 +19,8 @@ returns-clause-ok g c =
     let set = c.args.set.now in
     let place = c.args.member in
     let counts = c.in_ok-counts.counts in
-    let laws = c.a_change_is_stored.ensures in
     goes_as kept s0 s1 set.target (LoadsCopy kept s0 set place counts.rows) (TakesMember kept is_user_copy s0 set place (Refresh c.args.point) ShowsCopyDamage counts) c.requires.open c.in_ok-counts.ensures.ok
-    (λ a b load. loads_member kept s0 set place counts a b c.requires.member c.args.point laws.keys laws.typed laws.stand c.in_ok-counts.ensures.counts load)
+    (λ a b load. loads_member kept s0 set place counts a b c.requires.member c.args.point c.in_ok-counts.ensures.counts load)
 
 pub returns-in_err-counts-clause-fault : goal.returns-in_err-counts-clause-fault
 returns-in_err-counts-clause-fault g c =
@@ -34,4 +34,4 @@ returns-in_err-counts-clause-undamaged g c =
     let set = c.args.set.now in
     let e = c.in_err-counts.field-0.0 in
     let p = err_from_is_err_and c.from_residual.result c.from_residual.ensures.1 in
-    rw (p.1, p.2) (no_damage g.K.Keeper.kept source_rules (λ a cause saw h. inl (inl h)) c.args.sites.now set c.args.member (Refresh c.args.point) c.load_rows.new.sites e c.copies_are_undamaged.ensures.source c.copies_are_undamaged.ensures.target c.requires.source c.requires.member c.in_err-counts.ensures.fault)
+    rw (p.1, p.2) (no_damage g.K.Keeper.kept source_rules (λ a cause saw h. inl (inl h)) c.args.sites.now set c.args.member (Refresh c.args.point) c.load_rows.new.sites e copies_undamaged c.requires.source c.requires.member c.in_err-counts.ensures.fault)

@@ -1,13 +1,7 @@
-use Rattle.std.proofs.Common.{◌≡◌, ◌∙◌, List, [], refl, sym, subst}
-use Rattle.std.specs.Prelude.{Option}
-use Rattle.std.proofs.lemmas.List.{append-nil}
+use Rattle.std.proofs.Common.{◌≡◌, ◌∙◌, List, [], refl, sym, subst, Option, append-nil}
 use Rattle.std.proofs.lemmas.Result.{err_from_is_err_and, on_ok_weaker, IfErr-weaker}
-use Rattle.keep_core.specs.Contents.{Contents}
-use Rattle.site_store.specs.Damage.{Damages}
-use Rattle.site_store.specs.Views.{names, sees}
-use Rattle.site_store.specs.laws.Counts.{keeps_then}
-use Rattle.world_store.specs.Stands.{Stands}
-use Rattle.site_store.specs.one_server.laws.Reads.{looks_none}
+use Rattle.world_store.specs.Words.{Stands}
+use Rattle.site_store.specs.Words.{Contents, Damages, names, sees, keeps_then, looks_none}
 use Rattle.set_places.specs.laws.Staying.{placed_before}
 use Rattle.subs_sets.specs.Rules.{source_rules}
 use Rattle.target_steps.specs.laws.AtServers.{captured_undamaged}

@@ -1,7 +1,6 @@
-use Rattle.std.proofs.Common.{◌≡◌, ◌∙◌, ◌≤◌, [], ◌∷◌, ◌++◌, inr, refl, sym, arith}
-use Rattle.std.proofs.lemmas.List.{append-nil}
+use Rattle.std.proofs.Common.{◌≡◌, ◌∙◌, ◌≤◌, [], ◌∷◌, ◌++◌, inr, refl, sym, arith, append-nil}
 use Rattle.std.proofs.lemmas.Result.{err_from_is_err_and}
-use Rattle.site_store.specs.laws.Counts.{keeps_itself, keeps_then}
+use Rattle.site_store.specs.Words.{keeps_itself, keeps_then}
 use Rattle.apply_cycle.proofs.CycleSteps.{added_one, counted_one, counted_all, unread, some_made, none_made, stands_there, become_since, broken_since, goes_first, takes_there, same_set, goes_on, goes_never}
 use Rattle.apply_cycle.proofs.cycles.make_steps.Goals as goal
 
@@ -100,7 +99,7 @@ loop-count-preserved g c =
               let goes = inv.adds.2.1 w stands each in
               let one = some_made kept s1 s2 id goes.v c.in_ok-stepped.stepped step (sym c.in-Some.ensures)
               (c.in_ok-stepped.ensures.ok goes.v (stands_there kept s0 s1 s2 inv.servers.names goes.v goes.become) (takes_there kept takes s0 id c.args.most w s1 answers c.loop-count.count goes)) in
-              goes_on kept takes s0 id c.args.most w s1 answers c.loop-count.count goes c.next_actions_come_to_rest.ensures one.0 step one.1 (same_set kept takes s0 id c.args.most w s1 answers c.loop-count.count goes one.0 step one.1) s2 inv.servers.names one.2,
+              goes_on kept takes s0 id c.args.most w s1 answers c.loop-count.count goes one.0 step one.1 (same_set kept takes s0 id c.args.most w s1 answers c.loop-count.count goes one.0 step one.1) s2 inv.servers.names one.2,
         ),
       );
       servers = keeps_then kept s0 s1 s2 inv.servers c.next_step.ensures.servers;

@@ -1,5 +1,5 @@
 use Rattle.std.proofs.Common.{◌≡◌, length}
-use Rattle.site_store.specs.Calls.{KeepsServers}
+use Rattle.site_store.specs.Words.{KeepsServers}
 use Rattle.apply_cycle.specs.Cycling.{ForCycle, Adds}
 use Rattle.apply_cycle.proofs.CycleSteps.{Goes}
 use Rattle.apply_cycle.proofs.cycles.make_steps.Given as goal

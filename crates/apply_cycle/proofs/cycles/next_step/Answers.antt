@@ -1,9 +1,7 @@
 use Rattle.std.proofs.Common.{ℕ, sym, subst}
 use Rattle.std.proofs.lemmas.Result.{err_from_is_err_and}
-use Rattle.repl_definitions.specs.declared.set.SetDef.{SetDef}
-use Rattle.repl_types.specs.declared.area.Area.{Area}
-use Rattle.repl_types.specs.declared.status.DamageCause.{DamageCause}
-use Rattle.site_store.specs.Calls.{IsRead}
+use Rattle.site_store.specs.Words.{IsRead}
+use Rattle.repl_model.specs.Words.{SetDef, Area, DamageCause}
 use Rattle.target_steps.specs.Steps.{TakesEach}
 use Rattle.set_places.specs.laws.Known.{same_def}
 use Rattle.apply_cycle.specs.Stepping.{ShowsDamage}

@@ -1,10 +1,8 @@
 use Rattle.std.proofs.Common.{◌≡◌, sym, ap}
 use Rattle.std.proofs.lemmas.Result.{err_from_is_err_and}
-use Rattle.repl_model.specs.AfterActions.{after_action}
-use Rattle.repl_model.specs.NextActions.{reports}
-use Rattle.repl_model.specs.Trails.{synchpoint}
+use Rattle.site_store.specs.Words.{looks_none}
+use Rattle.repl_model.specs.Words.{after_action, reports, synchpoint}
 use Rattle.repl_types.specs.declared.fault.Stepped.TheVariants as steps
-use Rattle.site_store.specs.one_server.laws.Reads.{looks_none}
 use Rattle.subs_sets.specs.declared.states.ReadOnlyState.{ReadOnlyState}
 use Rattle.target_steps.specs.laws.AtServers.{unchanged, target_after, state_undamaged}
 use Rattle.apply_cycle.proofs.StepCases.{makes, fails, stands_on, become_back, may_back, noted_blamed}

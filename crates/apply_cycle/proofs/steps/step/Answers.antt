@@ -1,7 +1,6 @@
 use Rattle.std.proofs.Common.{◌≡◌, ◌∙◌, sym, ap}
 use Rattle.std.proofs.lemmas.Result.{err_from_is_err_and}
-use Rattle.repl_model.specs.AfterActions.{after_action}
-use Rattle.repl_model.specs.NextActions.{signals, refreshes, blocks, reports, next_action}
+use Rattle.repl_model.specs.Words.{after_action, signals, refreshes, blocks, reports, next_action}
 use Rattle.subs_sets.specs.Actions.{action_of}
 use Rattle.apply_cycle.proofs.StepCases.{makes, stands_on, become_back, refresh_blamed, block_blamed, report_blamed, reads_before, reads_then, reads_if_block, reads_unless_block, not_idle, refresh_acted, block_acted}
 use Rattle.apply_cycle.proofs.steps.step.Goals as goal

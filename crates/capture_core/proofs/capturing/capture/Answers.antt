@@ -1,5 +1,4 @@
-use Rattle.site_store.specs.Calls.{no_access}
-use Rattle.site_store.specs.laws.Counts.{keeps_passed, passes_keeps}
+use Rattle.site_store.specs.Words.{no_access, keeps_passed, passes_keeps}
 use Rattle.capture_core.specs.Ending.{HeldDamage}
 use Rattle.capture_core.specs.Rules.{ShowsDamage}
 use Rattle.capture_core.proofs.Elsewhere.{elsewhere_on}

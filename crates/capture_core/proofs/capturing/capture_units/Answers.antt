@@ -1,5 +1,4 @@
-use Rattle.std.proofs.Common.{◌≡◌, ℕ, ◌+◌, ◌-◌, ◌<◌, true, sym, ◌∙◌, arith}
-use Rattle.std.specs.Prelude.{min}
+use Rattle.std.proofs.Common.{◌≡◌, ℕ, ◌+◌, ◌-◌, ◌<◌, true, sym, ◌∙◌, arith, min}
 use Rattle.std.proofs.lemmas.Result.{err_from_is_err_and}
 use Rattle.repl_types.specs.declared.area.Area.TheVariants as areas
 use Rattle.cd_tables.specs.Reading.{ReadsNoLog}
@@ -26,7 +25,7 @@ returns-in_err-progress-clause-fault g c =
     let n = c.args.server in
     let every = c.args.every in
     let most = c.args.most in
-    let call : IsCalled kept s0 n every most = record { laws = c.laws_of_worlds.ensures; closed = c.requires.closed; lt = c.requires.server; some = c.requires.every; small = omega arith } in
+    let call : IsCalled kept s0 n every most = record { closed = c.requires.closed; lt = c.requires.server; some = c.requires.every; small = omega arith } in
     let e = err_from_is_err_and c.from_residual.result c.from_residual.ensures.1 in
     rw (e.1, e.2) (begin_fails kept s0 n every most call c.begin_capture.new.sites c.in_err-progress.field-0.0 c.in_err-progress.ensures.fault)
 
@@ -37,7 +36,7 @@ units-init g c =
     let n = c.args.server in
     let every = c.args.every in
     let most = c.args.most in
-    let call : IsCalled kept s0 n every most = record { laws = c.laws_of_worlds.ensures; closed = c.requires.closed; lt = c.requires.server; some = c.requires.every; small = omega arith } in
+    let call : IsCalled kept s0 n every most = record { closed = c.requires.closed; lt = c.requires.server; some = c.requires.every; small = omega arith } in
     let begins = c.in_ok-progress.ensures.start in
     record {
       way = starts kept s0 n every most call c.begin_capture.new.sites c.in_ok-progress.progress c.in_ok-progress.ensures.ok begins c.in_ok-progress.ensures.typed;
@@ -54,7 +53,7 @@ returns-in_err-take_unit-clause-fault g c =
     let n = c.args.server in
     let every = c.args.every in
     let most = c.args.most in
-    let call : IsCalled kept s0 n every most = record { laws = c.laws_of_worlds.ensures; closed = c.requires.closed; lt = c.requires.server; some = c.requires.every; small = omega arith } in
+    let call : IsCalled kept s0 n every most = record { closed = c.requires.closed; lt = c.requires.server; some = c.requires.every; small = omega arith } in
     let e = err_from_is_err_and c.from_residual-in_err-take_unit.result c.from_residual-in_err-take_unit.ensures.1 in
     rw (e.1, e.2) (read_fails kept s0 n every most call c.units.sites c.units.progress c.units.invariant.way c.take_unit.new.sites c.in_err-take_unit.field-0.0 c.in_err-take_unit.ensures.fault)
 
@@ -65,7 +64,7 @@ returns-then-not-branch-clause-ok g c =
     let n = c.args.server in
     let every = c.args.every in
     let most = c.args.most in
-    let call : IsCalled kept s0 n every most = record { laws = c.laws_of_worlds.ensures; closed = c.requires.closed; lt = c.requires.server; some = c.requires.every; small = omega arith } in
+    let call : IsCalled kept s0 n every most = record { closed = c.requires.closed; lt = c.requires.server; some = c.requires.every; small = omega arith } in
     let s1 = c.units.sites in
     let s2 = c.take_unit.new.sites in
     let p = c.units.progress in
@@ -82,7 +81,7 @@ returns-then-not-branch-clause-fault g c =
     let n = c.args.server in
     let every = c.args.every in
     let most = c.args.most in
-    let call : IsCalled kept s0 n every most = record { laws = c.laws_of_worlds.ensures; closed = c.requires.closed; lt = c.requires.server; some = c.requires.every; small = omega arith } in
+    let call : IsCalled kept s0 n every most = record { closed = c.requires.closed; lt = c.requires.server; some = c.requires.every; small = omega arith } in
     let s1 = c.units.sites in
     let s2 = c.take_unit.new.sites in
     let p = c.units.progress in
@@ -99,7 +98,7 @@ returns-in_err-commit_units-clause-fault g c =
     let n = c.args.server in
     let every = c.args.every in
     let most = c.args.most in
-    let call : IsCalled kept s0 n every most = record { laws = c.laws_of_worlds.ensures; closed = c.requires.closed; lt = c.requires.server; some = c.requires.every; small = omega arith } in
+    let call : IsCalled kept s0 n every most = record { closed = c.requires.closed; lt = c.requires.server; some = c.requires.every; small = omega arith } in
     let s1 = c.units.sites in
     let s2 = c.take_unit.new.sites in
     let p = c.units.progress in
@@ -116,7 +115,7 @@ returns-in_err-begin-clause-fault g c =
     let n = c.args.server in
     let every = c.args.every in
     let most = c.args.most in
-    let call : IsCalled kept s0 n every most = record { laws = c.laws_of_worlds.ensures; closed = c.requires.closed; lt = c.requires.server; some = c.requires.every; small = omega arith } in
+    let call : IsCalled kept s0 n every most = record { closed = c.requires.closed; lt = c.requires.server; some = c.requires.every; small = omega arith } in
     let s1 = c.units.sites in
     let s2 = c.take_unit.new.sites in
     let p = c.units.progress in
@@ -134,7 +133,7 @@ units-preserved-then-progress-every g c =
     let n = c.args.server in
     let every = c.args.every in
     let most = c.args.most in
-    let call : IsCalled kept s0 n every most = record { laws = c.laws_of_worlds.ensures; closed = c.requires.closed; lt = c.requires.server; some = c.requires.every; small = omega arith } in
+    let call : IsCalled kept s0 n every most = record { closed = c.requires.closed; lt = c.requires.server; some = c.requires.every; small = omega arith } in
     let s1 = c.units.sites in
     let s2 = c.take_unit.new.sites in
     let p = c.units.progress in
@@ -158,7 +157,7 @@ units-preserved g c =
     let n = c.args.server in
     let every = c.args.every in
     let most = c.args.most in
-    let call : IsCalled kept s0 n every most = record { laws = c.laws_of_worlds.ensures; closed = c.requires.closed; lt = c.requires.server; some = c.requires.every; small = omega arith } in
+    let call : IsCalled kept s0 n every most = record { closed = c.requires.closed; lt = c.requires.server; some = c.requires.every; small = omega arith } in
     let s1 = c.units.sites in
     let s2 = c.take_unit.new.sites in
     let p = c.units.progress in
@@ -174,7 +173,7 @@ returns-clause-ok g c =
     let n = c.args.server in
     let every = c.args.every in
     let most = c.args.most in
-    let call : IsCalled kept s0 n every most = record { laws = c.laws_of_worlds.ensures; closed = c.requires.closed; lt = c.requires.server; some = c.requires.every; small = omega arith } in
+    let call : IsCalled kept s0 n every most = record { closed = c.requires.closed; lt = c.requires.server; some = c.requires.every; small = omega arith } in
     let s1 = c.units.sites in
     let p = c.units.progress in
     let way = c.units.invariant.way in
@@ -188,7 +187,7 @@ returns-clause-fault g c =
     let n = c.args.server in
     let every = c.args.every in
     let most = c.args.most in
-    let call : IsCalled kept s0 n every most = record { laws = c.laws_of_worlds.ensures; closed = c.requires.closed; lt = c.requires.server; some = c.requires.every; small = omega arith } in
+    let call : IsCalled kept s0 n every most = record { closed = c.requires.closed; lt = c.requires.server; some = c.requires.every; small = omega arith } in
     let s1 = c.units.sites in
     let p = c.units.progress in
     let way = c.units.invariant.way in
@@ -202,7 +201,7 @@ returns-in_err-take_unit-clause-reads g c =
     let n = c.args.server in
     let every = c.args.every in
     let most = c.args.most in
-    let call : IsCalled kept s0 n every most = record { laws = c.laws_of_worlds.ensures; closed = c.requires.closed; lt = c.requires.server; some = c.requires.every; small = omega arith } in
+    let call : IsCalled kept s0 n every most = record { closed = c.requires.closed; lt = c.requires.server; some = c.requires.every; small = omega arith } in
     let s1 = c.units.sites in
     let s2 = c.take_unit.new.sites in
     let first = c.in_ok-progress.progress in
@@ -215,7 +214,7 @@ returns-then-not-branch-clause-reads g c =
     let n = c.args.server in
     let every = c.args.every in
     let most = c.args.most in
-    let call : IsCalled kept s0 n every most = record { laws = c.laws_of_worlds.ensures; closed = c.requires.closed; lt = c.requires.server; some = c.requires.every; small = omega arith } in
+    let call : IsCalled kept s0 n every most = record { closed = c.requires.closed; lt = c.requires.server; some = c.requires.every; small = omega arith } in
     let s1 = c.units.sites in
     let s2 = c.take_unit.new.sites in
     let first = c.in_ok-progress.progress in
@@ -228,7 +227,7 @@ returns-in_err-commit_units-clause-reads g c =
     let n = c.args.server in
     let every = c.args.every in
     let most = c.args.most in
-    let call : IsCalled kept s0 n every most = record { laws = c.laws_of_worlds.ensures; closed = c.requires.closed; lt = c.requires.server; some = c.requires.every; small = omega arith } in
+    let call : IsCalled kept s0 n every most = record { closed = c.requires.closed; lt = c.requires.server; some = c.requires.every; small = omega arith } in
     let s1 = c.units.sites in
     let s2 = c.take_unit.new.sites in
     let first = c.in_ok-progress.progress in
@@ -241,7 +240,7 @@ returns-in_err-begin-clause-reads g c =
     let n = c.args.server in
     let every = c.args.every in
     let most = c.args.most in
-    let call : IsCalled kept s0 n every most = record { laws = c.laws_of_worlds.ensures; closed = c.requires.closed; lt = c.requires.server; some = c.requires.every; small = omega arith } in
+    let call : IsCalled kept s0 n every most = record { closed = c.requires.closed; lt = c.requires.server; some = c.requires.every; small = omega arith } in
     let s1 = c.units.sites in
     let s2 = c.take_unit.new.sites in
     let first = c.in_ok-progress.progress in
@@ -254,7 +253,7 @@ returns-clause-reads g c =
     let n = c.args.server in
     let every = c.args.every in
     let most = c.args.most in
-    let call : IsCalled kept s0 n every most = record { laws = c.laws_of_worlds.ensures; closed = c.requires.closed; lt = c.requires.server; some = c.requires.every; small = omega arith } in
+    let call : IsCalled kept s0 n every most = record { closed = c.requires.closed; lt = c.requires.server; some = c.requires.every; small = omega arith } in
     let s1 = c.units.sites in
     let first = c.in_ok-progress.progress in
     further_on kept s0 s1 c.end_capture-2.new.sites n (reads_to_end kept s0 n every most call c.begin_capture.new.sites s1 s1 first c.units.progress c.in_ok-progress.ensures.ok c.in_ok-progress.ensures.start c.units.invariant.way c.units.invariant.each (none_further kept s1 n c.units.progress)) c.end_capture-2.ensures.reads

@@ -1,5 +1,5 @@
 use Rattle.std.proofs.Common.{◌≡◌, ◌-◌, ◌<◌}
-use Rattle.site_store.specs.Views.{held}
+use Rattle.site_store.specs.Words.{held}
 use Rattle.capture_core.specs.Capturing.{HoldsElsewhere}
 use Rattle.capture_core.specs.LogReads.{ReadsEachOnce}
 use Rattle.capture_core.proofs.UnderWay.{IsUnderWay}

@@ -1,12 +1,8 @@
 use Rattle.std.proofs.Common.{◌≡◌, sym, subst, ◌∙◌}
 use Rattle.std.proofs.lemmas.Result.{err_from_is_err_and}
+use Rattle.world_store.specs.Words.{single_spelling, IsCapture, capture_spelling, CaptureState}
+use Rattle.site_store.specs.Words.{no_access, reads_of_one, both, at_most_itself, passes_then, get_breaks}
 use Rattle.repl_types.specs.declared.area.Area.TheVariants as areas
-use Rattle.repl_records.specs.RecordKeys.{single_spelling}
-use Rattle.repl_records.specs.Capture.{IsCapture, capture_spelling}
-use Rattle.repl_records.specs.declared.capture.CaptureState.{CaptureState}
-use Rattle.site_store.specs.Calls.{no_access, reads_of_one, both}
-use Rattle.site_store.specs.laws.Counts.{at_most_itself, passes_then}
-use Rattle.site_store.specs.one_server.laws.Damage.{get_breaks}
 use Rattle.capture_core.specs.Committing.{Opens, ReadsState, StateIn}
 use Rattle.capture_core.specs.Rules.{rules}
 use Rattle.capture_core.proofs.Calls.{breaks_begun}

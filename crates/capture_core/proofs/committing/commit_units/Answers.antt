@@ -1,12 +1,8 @@
 use Rattle.std.proofs.Common.{Some, ◌∙◌, inl, inr}
 use Rattle.std.proofs.lemmas.Result.{err_from_is_err_and}
+use Rattle.world_store.specs.Words.{single_spelling, capture_spelling}
+use Rattle.site_store.specs.Words.{no_access, both, at_most_itself, passes_then, blames_after, goes_put}
 use Rattle.repl_types.specs.declared.area.Area.TheVariants as areas
-use Rattle.repl_records.specs.RecordKeys.{single_spelling}
-use Rattle.repl_records.specs.Capture.{capture_spelling}
-use Rattle.site_store.specs.Calls.{no_access, both}
-use Rattle.site_store.specs.laws.Counts.{at_most_itself, passes_then}
-use Rattle.site_store.specs.one_server.laws.Faults.{blames_after}
-use Rattle.site_store.specs.one_server.laws.Steps.{goes_put}
 use Rattle.capture_core.proofs.committing.commit_units.Goals as goal
 
 pub returns-in_err-commit-clause-fault : goal.returns-in_err-commit-clause-fault

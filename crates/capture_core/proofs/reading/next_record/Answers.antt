@@ -1,10 +1,8 @@
 use Rattle.std.proofs.Common.{arith}
 use Rattle.std.proofs.lemmas.Result.{err_from_is_err_and}
+use Rattle.world_store.specs.Words.{IsLogRecord, log_spelling, Is64, b64}
+use Rattle.site_store.specs.Words.{reads_of_one, next_breaks}
 use Rattle.repl_types.specs.declared.area.Area.TheVariants as areas
-use Rattle.row_codec.specs.LogRecords.{IsLogRecord, log_spelling}
-use Rattle.row_codec.specs.Spelling.{Is64, b64}
-use Rattle.site_store.specs.Calls.{reads_of_one}
-use Rattle.site_store.specs.one_server.laws.Damage.{next_breaks}
 use Rattle.capture_core.specs.Rules.{rules}
 use Rattle.capture_core.proofs.Positions.{logged_after}
 use Rattle.capture_core.proofs.reading.next_record.Goals as goal

@@ -1,6 +1,5 @@
 use Rattle.std.proofs.lemmas.Result.{err_from_is_err_and}
-use Rattle.site_store.specs.Damage.{ShownBefore}
-use Rattle.site_store.specs.one_server.laws.Steps.{goes_as, goes_both}
+use Rattle.site_store.specs.Words.{ShownBefore, goes_as, goes_both}
 use Rattle.cd_tables.specs.Appending.{CapturesUnit}
 use Rattle.cd_tables.specs.Rules.{rules as unit_rules}
 use Rattle.capture_core.specs.Reading.{TakesCommit}

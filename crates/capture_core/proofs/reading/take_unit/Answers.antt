@@ -1,8 +1,6 @@
-use Rattle.std.proofs.Common.{refl, ◌∙◌, arith}
-use Rattle.std.specs.Prelude.{Some, None}
+use Rattle.std.proofs.Common.{refl, ◌∙◌, arith, Some, None}
 use Rattle.std.proofs.lemmas.Result.{err_from_is_err_and}
-use Rattle.site_store.specs.one_server.laws.Damage.{breaks_on}
-use Rattle.site_store.specs.one_server.laws.Steps.{goes_none, goes_as, goes_then}
+use Rattle.site_store.specs.Words.{breaks_on, goes_none, goes_as, goes_then}
 use Rattle.capture_core.specs.Reading.{IsNextRecord, ReadsOn, ReadsAll, ReadsUnit, TakesNone, TakesOne}
 use Rattle.capture_core.specs.Rules.{rules}
 use Rattle.capture_core.proofs.Calls.{goes_read, same_shown}
@@ -30,7 +28,7 @@ returns-in_default-clause-ok g c =
     let p = c.args.progress.now in
     let q = c.loop-pos.progress in
     let saw = goes_read kept s0 c.loop-pos.sites c.next_record.new.sites c.args.server (ReadsOn p q) (IsNextRecord q.read None) c.requires.open c.loop-pos.invariant.goes c.in_ok-pos.ensures.ok (rw c.in_default.is at c.in_ok-pos.ensures.next) in
-    goes_as kept s0 c.next_record.new.sites c.args.server (λ d e. ReadsOn p q d e × IsNextRecord q.read None e) (ReadsAll p q) c.requires.open saw (λ d e on. reads_all c.laws_of_logs.ensures.none p q d e on.0 on.1)
+    goes_as kept s0 c.next_record.new.sites c.args.server (λ d e. ReadsOn p q d e × IsNextRecord q.read None e) (ReadsAll p q) c.requires.open saw (λ d e on. reads_all p q d e on.0 on.1)
 
 pub returns-in_err-take_record-clause-fault : goal.returns-in_err-take_record-clause-fault
 returns-in_err-take_record-clause-fault g c =

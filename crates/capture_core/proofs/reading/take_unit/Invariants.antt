@@ -1,5 +1,5 @@
 use Rattle.std.proofs.Common.{◌-◌, ◌^◌, false}
-use Rattle.site_store.specs.one_server.Calls.{GoesOn}
+use Rattle.site_store.specs.Words.{GoesOn}
 use Rattle.capture_core.specs.LogReads.{ReadsEachOnce}
 use Rattle.capture_core.specs.Reading.{KeepsTyped, Counts, ReadsOn}
 use Rattle.capture_core.proofs.reading.take_unit.Given as goal

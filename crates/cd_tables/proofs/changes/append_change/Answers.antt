@@ -1,10 +1,7 @@
-use Rattle.std.proofs.Common.{◌<◌, ℕ, List, None, length, sym, subst}
-use Rattle.std.specs.Prelude.{Option, Some, IfSome}
+use Rattle.std.proofs.Common.{◌<◌, ℕ, List, None, length, sym, subst, Option, Some, IfSome}
 use Rattle.std.proofs.lemmas.Result.{err_from_is_err_and}
-use Rattle.keep_core.specs.Contents.{Contents}
+use Rattle.site_store.specs.Words.{Contents, breaks_after, goes_saw, saw_then, looks_open}
 use Rattle.stored_commits.specs.units.StoredChanges.{with_change}
-use Rattle.site_store.specs.one_server.laws.Damage.{breaks_after}
-use Rattle.site_store.specs.one_server.laws.Steps.{goes_saw, saw_then, looks_open}
 use Rattle.cd_tables.specs.Appending.{Becomes}
 use Rattle.cd_tables.specs.Known.{IsStated, IsStatedOf, IsFoundAt, IsKnown, AppendsKnowing}
 use Rattle.cd_tables.specs.Rules.{rules, IsRegistrationOf}

@@ -1,5 +1,5 @@
+use Rattle.site_store.specs.Words.{goes_as}
 use Rattle.stored_commits.specs.units.StoredChanges.{with_rows_of, started, stopped, with_change}
-use Rattle.site_store.specs.one_server.laws.Steps.{goes_as}
 use Rattle.cd_tables.specs.Appending.{Becomes}
 use Rattle.cd_tables.proofs.Carried.{carries_start, carries_stop, carries_rows}
 use Rattle.cd_tables.proofs.changes.carry_out.Goals as goal

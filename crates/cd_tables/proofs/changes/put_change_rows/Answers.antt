@@ -2,19 +2,12 @@ use Rattle.std.proofs.Common.{◌≡◌, ◌<◌, ◌++◌, ◌∷◌, ℕ, List
 use Rattle.std.proofs.lemmas.Iterator.Adapters.{YieldsList-from_vec}
 use Rattle.std.proofs.lemmas.Iterator.Consumers.{YieldsList-turn, YieldsList-end}
 use Rattle.std.proofs.lemmas.Result.{err_from_is_err_and}
+use Rattle.world_store.specs.Words.{IsStorable, HasChangeRowSpelling, change_row_spelling, change_key_spelling, ChangeRow, CdKey}
+use Rattle.site_store.specs.Words.{writes_of_one, Sets, put_fails, write_fails_on, goes_none, goes_as, goes_put, goes_then, goes_open}
+use Rattle.repl_model.specs.Words.{CdRow}
 use Rattle.repl_types.specs.declared.area.Area.TheVariants as areas
-use Rattle.repl_types.specs.declared.change_row.CdRow.{CdRow}
-use Rattle.row_codec.specs.Storable.{IsStorable}
-use Rattle.repl_records.specs.Capture.{HasChangeRowSpelling, change_row_spelling}
-use Rattle.repl_records.specs.RecordKeys.{change_key_spelling}
-use Rattle.repl_records.specs.declared.capture.ChangeRow.{ChangeRow}
-use Rattle.repl_records.specs.declared.record_keys.CdKey.{CdKey}
-use Rattle.site_store.specs.Calls.{writes_of_one}
-use Rattle.site_store.specs.Works.{Sets}
 use Rattle.stored_defs.specs.laws.Standing.{all_at_place}
 use Rattle.stored_commits.specs.units.StoredChanges.{with_change_rows}
-use Rattle.site_store.specs.one_server.laws.Faults.{put_fails, write_fails_on}
-use Rattle.site_store.specs.one_server.laws.Steps.{goes_none, goes_as, goes_put, goes_then, goes_open}
 use Rattle.cd_tables.specs.Appending.{CanBeStored, Becomes}
 use Rattle.cd_tables.proofs.PutRows.{rows_next}
 use Rattle.cd_tables.proofs.Shown.{becomes_itself}

@@ -1,5 +1,5 @@
+use Rattle.site_store.specs.Words.{GoesOn}
 use Rattle.stored_commits.specs.units.StoredChanges.{with_change_rows}
-use Rattle.site_store.specs.one_server.Calls.{GoesOn}
 use Rattle.cd_tables.specs.Appending.{Becomes}
 use Rattle.cd_tables.specs.Reading.{ReadsNoLog}
 use Rattle.cd_tables.proofs.changes.put_change_rows.Given as goal

@@ -1,8 +1,7 @@
 use Rattle.std.proofs.Common.{sym, ◌∙◌}
 use Rattle.std.proofs.lemmas.Result.{err_from_is_err_and}
+use Rattle.site_store.specs.Words.{no_memory, goes_none, goes_as}
 use Rattle.stored_commits.specs.units.StoredChanges.{with_change_rows, with_rows_of}
-use Rattle.site_store.specs.one_server.laws.Faults.{no_memory}
-use Rattle.site_store.specs.one_server.laws.Steps.{goes_none, goes_as}
 use Rattle.cd_tables.specs.Appending.{Becomes}
 use Rattle.cd_tables.proofs.PutRows.{captures_nothing, captures_rows}
 use Rattle.cd_tables.proofs.changes.put_rows_of.Goals as goal

@@ -1,8 +1,6 @@
 use Rattle.std.proofs.Common.{◌++◌, List, sym, ap, subst, ◌∙◌}
 use Rattle.std.specs.List.{AllByRecursion}
-use Rattle.repl_types.specs.declared.change_row.CdRow.{CdRow}
-use Rattle.repl_model.specs.ChangeRows.{rows_of_placed}
-use Rattle.repl_model.specs.Tables.{table_of}
+use Rattle.repl_model.specs.Words.{CdRow, rows_of_placed, table_of}
 use Rattle.cd_tables.specs.Appending.{CanBeStored}
 use Rattle.cd_tables.proofs.CapturedRows.{placed_storable}
 use Rattle.cd_tables.proofs.changes.rows_of.Goals as goal
@@ -12,4 +10,4 @@ returns-clause-storable c =
     let placed = c.args.placed.now in
     let reg = c.args.reg.now in
     let rows = rows_of_placed reg.registration c.args.seq placed in
-    subst (AllByRecursion CanBeStored) (sym (c.in_ok-change_rows_of_change.ensures ∙ ap (λ (l : List CdRow). l ++ rows) c.new-rows.ensures)) (placed_storable c.laws_of_rows.ensures (table_of placed.change) reg c.args.seq placed c.requires.of c.requires.typed)
+    subst (AllByRecursion CanBeStored) (sym (c.in_ok-change_rows_of_change.ensures ∙ ap (λ (l : List CdRow). l ++ rows) c.new-rows.ensures)) (placed_storable (table_of placed.change) reg c.args.seq placed c.requires.of c.requires.typed)

@@ -1,10 +1,8 @@
 use Rattle.std.proofs.Common.{true, Some}
+use Rattle.world_store.specs.Words.{b32, registration_state_spelling}
+use Rattle.site_store.specs.Words.{Sets, goes_none, goes_as, goes_put}
 use Rattle.repl_types.specs.declared.area.Area.TheVariants as areas
-use Rattle.row_codec.specs.Spelling.{b32}
-use Rattle.repl_records.specs.Capture.{registration_state_spelling}
-use Rattle.site_store.specs.Works.{Sets}
 use Rattle.stored_commits.specs.units.StoredChanges.{started}
-use Rattle.site_store.specs.one_server.laws.Steps.{goes_none, goes_as, goes_put}
 use Rattle.cd_tables.specs.Appending.{Becomes}
 use Rattle.cd_tables.proofs.Signals.{start_nothing, start_made}
 use Rattle.cd_tables.proofs.changes.start.Goals as goal

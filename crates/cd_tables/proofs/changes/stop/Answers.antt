@@ -1,13 +1,9 @@
 use Rattle.std.proofs.Common.{Some}
 use Rattle.std.proofs.lemmas.Result.{err_from_is_err_and}
+use Rattle.world_store.specs.Words.{b32, registration_state_spelling}
+use Rattle.site_store.specs.Words.{Sets, GoesOn, breaks_on, goes_none, goes_as, goes_put, goes_then}
 use Rattle.repl_types.specs.declared.area.Area.TheVariants as areas
-use Rattle.row_codec.specs.Spelling.{b32}
-use Rattle.repl_records.specs.Capture.{registration_state_spelling}
-use Rattle.site_store.specs.Works.{Sets}
 use Rattle.stored_commits.specs.units.StoredChanges.{with_cleared, with_state, stopped}
-use Rattle.site_store.specs.one_server.Calls.{GoesOn}
-use Rattle.site_store.specs.one_server.laws.Damage.{breaks_on}
-use Rattle.site_store.specs.one_server.laws.Steps.{goes_none, goes_as, goes_put, goes_then}
 use Rattle.cd_tables.specs.Appending.{Becomes}
 use Rattle.cd_tables.specs.Rules.{rules}
 use Rattle.cd_tables.proofs.Shown.{becomes_state}

@@ -1,10 +1,8 @@
 use Rattle.std.proofs.Common.{Some, None, ◌<◌, ℕ, List, length, sym, subst, arith}
 use Rattle.std.proofs.lemmas.Result.{err_from_is_err_and}
-use Rattle.repl_records.specs.RecordKeys.{change_key_spelling}
-use Rattle.site_store.specs.Records.{after_key}
+use Rattle.world_store.specs.Words.{change_key_spelling}
+use Rattle.site_store.specs.Words.{after_key, breaks_on, goes_none, goes_then, goes_open}
 use Rattle.stored_commits.specs.units.StoredChanges.{with_cleared}
-use Rattle.site_store.specs.one_server.laws.Damage.{breaks_on}
-use Rattle.site_store.specs.one_server.laws.Steps.{goes_none, goes_then, goes_open}
 use Rattle.cd_tables.specs.Appending.{Becomes}
 use Rattle.cd_tables.specs.Clearing.{ClearsNext}
 use Rattle.cd_tables.specs.Rules.{rules}

@@ -1,7 +1,6 @@
 use Rattle.std.specs.Prelude.{◌-◌, ◌^◌, IfSome}
-use Rattle.repl_records.specs.RecordKeys.{IsChangeKey, change_key_spelling}
-use Rattle.site_store.specs.Records.{after_key}
-use Rattle.site_store.specs.one_server.Calls.{GoesOn}
+use Rattle.world_store.specs.Words.{IsChangeKey, change_key_spelling}
+use Rattle.site_store.specs.Words.{after_key, GoesOn}
 use Rattle.cd_tables.specs.Reading.{ReadsNoLog}
 use Rattle.cd_tables.proofs.KeyRanks.{rank_of}
 use Rattle.cd_tables.proofs.ClearedRows.{HasCleared}

@@ -1,16 +1,8 @@
-use Rattle.std.proofs.Common.{None, inl, inr, refl}
-use Rattle.std.specs.Prelude.{Some}
+use Rattle.std.proofs.Common.{None, inl, inr, refl, Some}
 use Rattle.std.proofs.lemmas.Result.{err_from_is_err_and}
+use Rattle.world_store.specs.Words.{IsChangeRow, change_row_spelling, IsChangeKey, change_key_spelling}
+use Rattle.site_store.specs.Words.{Contents, IsNextKey, IsLastKey, reads_of_one, writes_of_one, after_key, Sets, next_breaks, write_breaks_after, put_fails, goes_saw, goes_put, saw_then}
 use Rattle.repl_types.specs.declared.area.Area.TheVariants as areas
-use Rattle.keep_core.specs.Contents.{Contents, IsNextKey, IsLastKey}
-use Rattle.repl_records.specs.Capture.{IsChangeRow, change_row_spelling}
-use Rattle.repl_records.specs.RecordKeys.{IsChangeKey, change_key_spelling}
-use Rattle.site_store.specs.Calls.{reads_of_one, writes_of_one}
-use Rattle.site_store.specs.Records.{after_key}
-use Rattle.site_store.specs.Works.{Sets}
-use Rattle.site_store.specs.one_server.laws.Damage.{next_breaks, write_breaks_after}
-use Rattle.site_store.specs.one_server.laws.Faults.{put_fails}
-use Rattle.site_store.specs.one_server.laws.Steps.{goes_saw, goes_put, saw_then}
 use Rattle.cd_tables.specs.Dropping.{DropsNext}
 use Rattle.cd_tables.specs.StoredRows.{row_rules}
 use Rattle.cd_tables.proofs.dropping.drop_next.Goals as goal

@@ -1,9 +1,7 @@
 use Rattle.std.proofs.Common.{Some, None, ◌<◌, ℕ, List, length, sym, subst, arith}
 use Rattle.std.proofs.lemmas.Result.{err_from_is_err_and}
-use Rattle.repl_records.specs.RecordKeys.{change_key_spelling}
-use Rattle.site_store.specs.Records.{after_key}
-use Rattle.site_store.specs.one_server.laws.Damage.{breaks_on}
-use Rattle.site_store.specs.one_server.laws.Steps.{goes_none, goes_then, goes_open}
+use Rattle.world_store.specs.Words.{change_key_spelling}
+use Rattle.site_store.specs.Words.{after_key, breaks_on, goes_none, goes_then, goes_open}
 use Rattle.cd_tables.specs.Dropping.{DropsNext, DropsUpto}
 use Rattle.cd_tables.specs.StoredRows.{row_rules}
 use Rattle.cd_tables.proofs.KeyRanks.{rank_rises, rank_small}

@@ -1,8 +1,7 @@
 use Rattle.std.specs.Prelude.{◌-◌, ◌^◌, IfSome}
+use Rattle.world_store.specs.Words.{IsChangeKey, change_key_spelling}
+use Rattle.site_store.specs.Words.{after_key, GoesOn}
 use Rattle.repl_types.specs.declared.area.Area.TheVariants as areas
-use Rattle.repl_records.specs.RecordKeys.{IsChangeKey, change_key_spelling}
-use Rattle.site_store.specs.Records.{after_key}
-use Rattle.site_store.specs.one_server.Calls.{GoesOn}
 use Rattle.cd_tables.specs.Reading.{ReadsOnlyIn}
 use Rattle.cd_tables.proofs.DroppedRows.{HasDropped}
 use Rattle.cd_tables.proofs.KeyRanks.{rank_of}

@@ -1,14 +1,8 @@
 use Rattle.std.proofs.Common.{◌≡◌, Some, arith}
 use Rattle.std.proofs.lemmas.Result.{err_from_is_err_and}
+use Rattle.world_store.specs.Words.{b64, uow_spelling}
+use Rattle.site_store.specs.Words.{Contents, reads_of_one, writes_of_one, Sets, write_breaks_after, put_fails, goes_put, saw_then}
 use Rattle.repl_types.specs.declared.area.Area.TheVariants as areas
-use Rattle.keep_core.specs.Contents.{Contents}
-use Rattle.row_codec.specs.Spelling.{b64}
-use Rattle.repl_records.specs.Capture.{uow_spelling}
-use Rattle.site_store.specs.Calls.{reads_of_one, writes_of_one}
-use Rattle.site_store.specs.Works.{Sets}
-use Rattle.site_store.specs.one_server.laws.Damage.{write_breaks_after}
-use Rattle.site_store.specs.one_server.laws.Faults.{put_fails}
-use Rattle.site_store.specs.one_server.laws.Steps.{goes_put, saw_then}
 use Rattle.cd_tables.specs.Dropping.{with_code, SetsCode}
 use Rattle.cd_tables.specs.StoredRows.{row_rules}
 use Rattle.cd_tables.proofs.ShownCodes.{sets_code, unit_breaks}

@@ -1,13 +1,8 @@
 use Rattle.std.proofs.Common.{Some, None, arith}
 use Rattle.std.proofs.lemmas.Result.{err_from_is_err_and}
+use Rattle.world_store.specs.Words.{Is64, b64, IsUow, uow_spelling}
+use Rattle.site_store.specs.Words.{IsNextKey, IsLastKey, reads_of_one, sees, if_seen, next_breaks}
 use Rattle.repl_types.specs.declared.area.Area.TheVariants as areas
-use Rattle.keep_core.specs.Contents.{IsNextKey, IsLastKey}
-use Rattle.row_codec.specs.Spelling.{Is64, b64}
-use Rattle.repl_records.specs.Capture.{IsUow, uow_spelling}
-use Rattle.site_store.specs.Calls.{reads_of_one}
-use Rattle.site_store.specs.Views.{sees}
-use Rattle.site_store.specs.laws.Passing.{if_seen}
-use Rattle.site_store.specs.one_server.laws.Damage.{next_breaks}
 use Rattle.cd_tables.specs.Finding.{FindsUnit}
 use Rattle.cd_tables.specs.StoredRows.{row_rules}
 use Rattle.cd_tables.proofs.FoundRows.{finds_unit, finds_no_unit, unit_above}

@@ -1,14 +1,9 @@
-use Rattle.std.proofs.Common.{Some, refl, sym, ◌∙◌}
-use Rattle.std.specs.Prelude.{IfSome}
+use Rattle.std.proofs.Common.{Some, refl, sym, ◌∙◌, IfSome}
 use Rattle.std.proofs.lemmas.Result.{err_from_is_err_and}
+use Rattle.world_store.specs.Words.{short_text}
+use Rattle.site_store.specs.Words.{reads_of_one, RowIs, IsRecord, sees, if_seen, get_breaks, unfit_breaks}
+use Rattle.repl_model.specs.Words.{defined_registration_spelling, IsDefinedRegistration}
 use Rattle.repl_types.specs.declared.area.Area.TheVariants as areas
-use Rattle.row_codec.specs.Spelling.{short_text}
-use Rattle.repl_definitions.specs.Defined.{defined_registration_spelling, IsDefinedRegistration}
-use Rattle.site_store.specs.Calls.{reads_of_one}
-use Rattle.site_store.specs.Records.{RowIs, IsRecord}
-use Rattle.site_store.specs.Views.{sees}
-use Rattle.site_store.specs.laws.Passing.{if_seen}
-use Rattle.site_store.specs.one_server.laws.Damage.{get_breaks, unfit_breaks}
 use Rattle.cd_tables.specs.Rules.{rules}
 use Rattle.cd_tables.proofs.registrations.read_registration.Goals as goal
 

@@ -1,12 +1,8 @@
 use Rattle.std.proofs.Common.{refl}
 use Rattle.std.proofs.lemmas.Result.{err_from_is_err_and}
+use Rattle.world_store.specs.Words.{b32, IsRegistrationState, registration_state_spelling}
+use Rattle.site_store.specs.Words.{reads_of_one, sees, if_seen, needed_breaks}
 use Rattle.repl_types.specs.declared.area.Area.TheVariants as areas
-use Rattle.row_codec.specs.Spelling.{b32}
-use Rattle.repl_records.specs.Capture.{IsRegistrationState, registration_state_spelling}
-use Rattle.site_store.specs.Calls.{reads_of_one}
-use Rattle.site_store.specs.Views.{sees}
-use Rattle.site_store.specs.laws.Passing.{if_seen}
-use Rattle.site_store.specs.one_server.laws.Damage.{needed_breaks}
 use Rattle.cd_tables.specs.Rules.{rules, IsRegistrationIn}
 use Rattle.cd_tables.proofs.registrations.read_state.Goals as goal
 

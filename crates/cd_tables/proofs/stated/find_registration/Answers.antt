@@ -1,10 +1,6 @@
-use Rattle.std.proofs.Common.{◌<◌, ℕ, List, length, sym, subst}
-use Rattle.std.specs.Prelude.{Some, IfSome}
+use Rattle.std.proofs.Common.{◌<◌, ℕ, List, length, sym, subst, Some, IfSome}
 use Rattle.std.proofs.lemmas.Result.{err_from_is_err_and}
-use Rattle.site_store.specs.Views.{sees}
-use Rattle.site_store.specs.laws.Passing.{if_seen}
-use Rattle.site_store.specs.one_server.laws.Damage.{breaks_after}
-use Rattle.site_store.specs.one_server.laws.Reads.{looks_none, looks_then, sees_on}
+use Rattle.site_store.specs.Words.{sees, if_seen, breaks_after, looks_none, looks_then, sees_on}
 use Rattle.cd_tables.specs.Rules.{rules, IsRegistrationOf, IsRegistrationIn, FindsRegistration}
 use Rattle.cd_tables.proofs.stated.find_registration.Goals as goal
 

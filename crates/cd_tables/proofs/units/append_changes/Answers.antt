@@ -1,11 +1,9 @@
 use Rattle.std.proofs.Common.{◌+◌, ◌<◌, ℕ, List, [], None, length, take, sym, subst, arith}
 use Rattle.std.specs.List.{AllByRecursion}
 use Rattle.std.proofs.lemmas.Result.{err_from_is_err_and}
-use Rattle.site_store.specs.Damage.{ShownBefore}
+use Rattle.site_store.specs.Words.{ShownBefore, write_breaks, breaks_on, goes_as, goes_then, goes_open}
 use Rattle.stored_defs.specs.laws.Standing.{all_at_place}
 use Rattle.stored_commits.specs.units.StoredChanges.{with_uow_row}
-use Rattle.site_store.specs.one_server.laws.Damage.{write_breaks, breaks_on}
-use Rattle.site_store.specs.one_server.laws.Steps.{goes_as, goes_then, goes_open}
 use Rattle.cd_tables.specs.Appending.{Becomes, CapturesUnit, IsTyped}
 use Rattle.cd_tables.specs.Known.{AppendsKnowing}
 use Rattle.cd_tables.specs.Rules.{rules}
@@ -24,7 +22,7 @@ changes-init g c =
       reads = c.in_ok-put_unit.ensures.reads;
       few = omega arith;
       fits = tt;
-      goes = goes_as g.K.Keeper.kept c.args.sites.now c.put_unit.new.sites c.args.server (Becomes (with_uow_row unit.head)) (CapturesKnowing unit [] 0 None) c.requires.open c.in_ok-put_unit.ensures.ok (λ d e now. (part_begins c.laws_of_units.ensures.begins unit d e now, tt));
+      goes = goes_as g.K.Keeper.kept c.args.sites.now c.put_unit.new.sites c.args.server (Becomes (with_uow_row unit.head)) (CapturesKnowing unit [] 0 None) c.requires.open c.in_ok-put_unit.ensures.ok (λ d e now. (part_begins unit d e now, tt));
     }
 
 pub append_change-requires-clause-server : goal.append_change-requires-clause-server
@@ -61,7 +59,7 @@ changes-preserved g c =
       reads = λ s. omega (arith, c.changes.invariant.reads s, c.in_ok-made.ensures.reads s);
       few = omega (arith, c.changes.invariant.few, c.in_ok-made.ensures.few);
       fits = c.in_ok-made.ensures.fits;
-      goes = goes_then g.K.Keeper.kept c.args.sites.now c.changes.sites c.append_change.new.sites c.args.server (CapturesKnowing unit (take i changes) rows known) (AppendsKnowing known made.known unit.head.seq placed more) (CapturesKnowing unit (take (i + 1) changes) (rows + more) made.known) c.requires.open c.changes.invariant.goes c.in_ok-made.ensures.ok (λ d e f before now. let captured = now before.1 in (part_next unit changes c.as_slice-placed-items.ensures i rows c.laws_of_units.ensures.goes_on placed more d e f c.changes-test.true c.placed-item.is before.0 captured.0, captured.1));
+      goes = goes_then g.K.Keeper.kept c.args.sites.now c.changes.sites c.append_change.new.sites c.args.server (CapturesKnowing unit (take i changes) rows known) (AppendsKnowing known made.known unit.head.seq placed more) (CapturesKnowing unit (take (i + 1) changes) (rows + more) made.known) c.requires.open c.changes.invariant.goes c.in_ok-made.ensures.ok (λ d e f before now. let captured = now before.1 in (part_next unit changes c.as_slice-placed-items.ensures i rows placed more d e f c.changes-test.true c.placed-item.is before.0 captured.0, captured.1));
     }
 
 pub returns-clause-ok : goal.returns-clause-ok
@@ -70,7 +68,7 @@ returns-clause-ok g c =
     let changes = c.as_slice-placed-items.result.now in
     let i = c.changes.placed-index in
     let rows = c.changes.rows in
-    goes_as g.K.Keeper.kept c.args.sites.now c.changes.sites c.args.server (CapturesKnowing unit (take i changes) rows c.changes.known) (CapturesUnit unit rows) c.requires.open c.changes.invariant.goes (λ d e part. part_ends unit changes c.as_slice-placed-items.ensures i rows c.laws_of_units.ensures.ends d e c.changes-test.false part.0)
+    goes_as g.K.Keeper.kept c.args.sites.now c.changes.sites c.args.server (CapturesKnowing unit (take i changes) rows c.changes.known) (CapturesUnit unit rows) c.requires.open c.changes.invariant.goes (λ d e part. part_ends unit changes c.as_slice-placed-items.ensures i rows d e c.changes-test.false part.0)
 
 pub returns-clause-shown : goal.returns-clause-shown
 returns-clause-shown g c = goes_as g.K.Keeper.kept c.args.sites.now c.changes.sites c.args.server (CapturesKnowing c.args.unit.now (take c.changes.placed-index c.as_slice-placed-items.result.now) c.changes.rows c.changes.known) (ShownBefore rules) c.requires.open c.changes.invariant.goes (λ d e part. part.0.shown)

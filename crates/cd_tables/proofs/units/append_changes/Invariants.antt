@@ -1,6 +1,5 @@
-use Rattle.std.proofs.Common.{◌*◌, ◌≤◌, take}
-use Rattle.std.specs.Prelude.{IfSome}
-use Rattle.site_store.specs.one_server.Calls.{GoesOn}
+use Rattle.std.proofs.Common.{◌*◌, ◌≤◌, take, IfSome}
+use Rattle.site_store.specs.Words.{GoesOn}
 use Rattle.cd_tables.specs.Known.{IsStated}
 use Rattle.cd_tables.specs.Reading.{ReadsNoLog}
 use Rattle.cd_tables.proofs.Parts.{CapturesKnowing}

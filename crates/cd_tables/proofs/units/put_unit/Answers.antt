@@ -1,12 +1,9 @@
 use Rattle.std.proofs.Common.{Some}
 use Rattle.std.proofs.lemmas.Result.{err_from_is_err_and}
+use Rattle.world_store.specs.Words.{b64, uow_spelling}
+use Rattle.site_store.specs.Words.{Sets, no_memory, goes_as, goes_put}
 use Rattle.repl_types.specs.declared.area.Area.TheVariants as areas
-use Rattle.row_codec.specs.Spelling.{b64}
-use Rattle.repl_records.specs.Capture.{uow_spelling}
-use Rattle.site_store.specs.Works.{Sets}
 use Rattle.stored_commits.specs.units.StoredChanges.{with_uow_row}
-use Rattle.site_store.specs.one_server.laws.Faults.{no_memory}
-use Rattle.site_store.specs.one_server.laws.Steps.{goes_as, goes_put}
 use Rattle.cd_tables.specs.Appending.{Becomes}
 use Rattle.cd_tables.proofs.Shown.{becomes_unit}
 use Rattle.cd_tables.proofs.units.put_unit.Goals as goal

@@ -1,5 +1,5 @@
 use Rattle.std.proofs.Common.{◌≡◌, rules}
-use Rattle.repl_model.specs.Rules.{keys_stand}
+use Rattle.repl_model.specs.Words.{keys_stand}
 use Rattle.checked_defs.specs.Rules.{as_source_table}
 use Rattle.checked_defs.proofs.members.texts_fit.Goals as goal
 

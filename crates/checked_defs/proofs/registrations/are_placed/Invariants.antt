@@ -1,7 +1,7 @@
 use Rattle.std.proofs.Common.{◌≡◌, drop, false}
 use Rattle.std.specs.List.{list_all}
 use Rattle.std.specs.Option.{option_map_or}
-use Rattle.lists.specs.Lists.{is_among}
+use Rattle.repl_model.specs.Words.{is_among}
 use Rattle.spelled_defs.specs.Spelled.{column_place}
 use Rattle.checked_defs.proofs.registrations.are_placed.Given as goal
 

@@ -1,11 +1,9 @@
 use Rattle.std.proofs.Common.{◌≡◌, ◌∙◌, inl, inr, ap}
 use Rattle.std.proofs.lemmas.Result.{err_from_is_err_and}
-use Rattle.repl_model.specs.AfterActions.{after_action}
-use Rattle.repl_model.specs.NextActions.{refreshes}
-use Rattle.site_store.specs.one_server.laws.Reads.{looks_none, looks_then}
+use Rattle.world_store.specs.Words.{Head, head_of}
+use Rattle.site_store.specs.Words.{looks_none, looks_then}
+use Rattle.repl_model.specs.Words.{after_action, refreshes}
 use Rattle.subs_sets.specs.States.{state_in}
-use Rattle.repl_records.specs.declared.source_side.Head.{Head}
-use Rattle.world_store.specs.LogRows.{head_of}
 use Rattle.target_steps.specs.declared.step.Step.TheVariants.{Refresh}
 use Rattle.target_steps.specs.Steps.{PutsTargets, PutsSomeTargets}
 use Rattle.target_steps.specs.laws.AtServers.{unchanged, stepped_after, revealed_after, target_after, state_undamaged}
@@ -49,7 +47,6 @@ returns-in_err-counts-clause-fault g c =
     let s2 = c.read_only_state.new.sites in
     let set = c.args.set.now in
     let s3 = c.put_step.new.sites in
-    let laws = c.laws_of_refreshes.ensures in
     let end = c.in_ok-end.end in
     let known = c.in_ok-known.known in
     let first = c.in_ok-end.ensures.ok in
@@ -63,7 +60,7 @@ returns-in_err-counts-clause-fault g c =
     let r = revealed_after kept set s0 s2 c.requires.closed w k stands placed looks in
     let target = target_after kept set s0 s2 c.requires.closed w k stands placed looks in
     record {
-      stands = may_have_refreshed laws.sound laws.target laws.stored laws.time takes g.met.T.Targets.unnumbered w k set stands.sound placed read_only next kept shows s0 s2 s3 stands r end at known known_is laws.others c.in_err-counts.field-0.0 (elim may.stepped [
+      stands = may_have_refreshed takes g.met.T.Targets.unnumbered w k set stands.sound placed read_only next kept shows s0 s2 s3 stands r end at known known_is c.in_err-counts.field-0.0 (elim may.stepped [
         | inl same ↦ inl (same ∙ looks.stays.held)
         | inr stepped ↦ inr (stepped.0, stepped_after kept set s0 s2 s3 set.target (PutsSomeTargets kept takes shows s2 set (Refresh end.commit) end.time known) looks.stays.held stepped.1)
       ]);
@@ -88,7 +85,6 @@ returns-clause-ok g c = λ w k stands placed read_only next.
     let s2 = c.read_only_state.new.sites in
     let set = c.args.set.now in
     let s3 = c.put_step.new.sites in
-    let laws = c.laws_of_refreshes.ensures in
     let end = c.in_ok-end.end in
     let known = c.in_ok-known.known in
     let first = c.in_ok-end.ensures.ok in
@@ -96,4 +92,4 @@ returns-clause-ok g c = λ w k stands placed read_only next.
     let at : end ≡ head_of k.source = c.in_ok-end.ensures.world w (seen_as kept set s0 s0 c.requires.closed w k stands placed (looks_none kept s0)) ∙ ap head_of (place_is kept set s0 s0 c.requires.closed w k stands placed) in
     let known_is : known ≡ state_in w k = c.in_ok-known.ensures.state w k stands.sound placed (target_after kept set s0 s1 c.requires.closed w k stands placed first) in
     let r = revealed_after kept set s0 s2 c.requires.closed w k stands placed looks in
-    has_answered laws.sound laws.target laws.stored laws.time takes g.met.T.Targets.unnumbered w k set stands.sound placed read_only next kept shows s0 s2 s3 stands r end at known known_is laws.others c.in_ok-counts.counts (stepped_after kept set s0 s2 s3 set.target (PutsTargets kept takes shows s2 set (Refresh end.commit) end.time known c.in_ok-counts.counts) looks.stays.held c.in_ok-counts.ensures.ok.stepped)
+    has_answered takes g.met.T.Targets.unnumbered w k set stands.sound placed read_only next kept shows s0 s2 s3 stands r end at known known_is c.in_ok-counts.counts (stepped_after kept set s0 s2 s3 set.target (PutsTargets kept takes shows s2 set (Refresh end.commit) end.time known c.in_ok-counts.counts) looks.stays.held c.in_ok-counts.ensures.ok.stepped)

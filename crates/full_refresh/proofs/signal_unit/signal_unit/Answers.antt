@@ -1,6 +1,6 @@
 use Rattle.std.proofs.Common.{◌≡◌, map, sym, ap, subst, ◌∙◌, arith}
+use Rattle.world_store.specs.Words.{Is64}
 use Rattle.repl_types.specs.declared.unit.Unit.{Unit as LogUnit}
-use Rattle.row_codec.specs.Spelling.{Is64}
 use Rattle.source_log.specs.Units.{MayAppendUnit}
 use Rattle.full_refresh.specs.Signals.{start_of, unit_of_signal}
 use Rattle.full_refresh.proofs.SignalRecords.{signal_may}
@@ -16,4 +16,4 @@ returns-clause-unit c = made c
 pub returns-clause-may : goal.returns-clause-may
 returns-clause-may c =
     let small : Is64 c.args.time = omega arith in
-    subst MayAppendUnit (sym (made c)) (signal_may c.laws_of_records.ensures c.args.def.now c.args.time c.requires small)
+    subst MayAppendUnit (sym (made c)) (signal_may c.args.def.now c.args.time c.requires small)

@@ -1,5 +1,4 @@
-use Rattle.std.proofs.Common.{◌≡◌}
-use Rattle.std.specs.Prelude.{fold, drop}
+use Rattle.std.proofs.Common.{◌≡◌, fold, drop}
 use Rattle.repl_model.specs.AfterActions.{source_tables as source_tables_lem}
 use Rattle.full_refresh.specs.Signals.{with_table}
 use Rattle.full_refresh.proofs.signal_unit.source_tables.Given as goal

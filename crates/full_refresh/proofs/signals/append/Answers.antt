@@ -1,5 +1,5 @@
 use Rattle.std.proofs.Common.{subst}
-use Rattle.repl_types.specs.declared.call_errors.AppendError.{AppendError}
+use Rattle.repl_model.specs.Words.{AppendError}
 use Rattle.source_log.specs.Units.{IsUndamagedAppend}
 use Rattle.full_refresh.proofs.signals.append.Goals as goal
 

@@ -1,7 +1,7 @@
 use Rattle.std.proofs.Common.{◌∙◌}
 use Rattle.std.proofs.lemmas.Result.{err_from_is_err_and}
+use Rattle.site_store.specs.Words.{no_access, writes_of_one}
 use Rattle.repl_types.specs.declared.area.Area.TheVariants as areas
-use Rattle.site_store.specs.Calls.{no_access, writes_of_one}
 use Rattle.source_log.specs.Units.{AppendsUnit}
 use Rattle.set_places.specs.laws.Commits.{begun_open, begun_sees_all, begin_fails, read_fails_begun, write_fails_begun, commits_step, commit_fails}
 use Rattle.full_refresh.specs.PutSignals.{PutsSignal}

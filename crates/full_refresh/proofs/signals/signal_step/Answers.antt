@@ -1,13 +1,10 @@
-use Rattle.std.proofs.Common.{◌≡◌, ◌∙◌, ℕ, inl, inr, ap}
-use Rattle.std.specs.Prelude.{Option, Some, None}
+use Rattle.std.proofs.Common.{◌≡◌, ◌∙◌, ℕ, inl, inr, ap, Option, Some, None}
 use Rattle.std.proofs.lemmas.Result.{err_from_is_err_and}
+use Rattle.world_store.specs.Words.{Head, head_of}
+use Rattle.site_store.specs.Words.{looks_then}
+use Rattle.repl_model.specs.Words.{after_action, source_tables, signal_records, signals}
 use Rattle.repl_types.specs.declared.unit.Unit.{Unit as LogUnit}
-use Rattle.repl_records.specs.declared.source_side.Head.{Head}
-use Rattle.repl_model.specs.AfterActions.{after_action, source_tables, signal_records}
-use Rattle.repl_model.specs.NextActions.{signals}
-use Rattle.site_store.specs.one_server.laws.Reads.{looks_then}
 use Rattle.source_log.specs.Units.{unit_records}
-use Rattle.world_store.specs.LogRows.{head_of}
 use Rattle.full_refresh.specs.Signals.{HasSignalled}
 use Rattle.full_refresh.proofs.PutSignals.{PutsSome}
 use Rattle.full_refresh.proofs.SignalSteps.{mark_blames, end_blames, unit_blames, answered_after, seen_as, place_is, mark_undamaged, records_made}
@@ -60,7 +57,6 @@ returns-in_err-seq-clause-fault g c =
     let known = c.in_ok-known.known in
     let unit = c.in_ok-unit.unit in
     let head = c.in_ok-head.head in
-    let laws = c.laws_of_signals.ensures in
     let first = c.in_ok-known.ensures.ok in
     let looks = looks_then kept s0 s1 s2 first c.in_ok-head.ensures.ok in
     let may = c.in_err-seq.ensures.fault in
@@ -71,11 +67,11 @@ returns-in_err-seq-clause-fault g c =
     let records : unit_records unit ≡ signal_records k.at_source.def k.source.log = records_made kept set w k unit head.time placed c.in_ok-unit.ensures.unit (ap (λ (h : Head). h.time) end) in
     let r = revealed_after kept set s0 s2 c.requires.closed w k stands placed looks in
     record {
-      stands = may_have_signalled laws.sound laws.source w k set stands.sound placed read_only next unit records known marked kept s0 s3 stands laws.others c.in_err-seq.field-0.0 (elim may.stepped [
+      stands = may_have_signalled w k set stands.sound placed read_only next unit records known marked kept s0 s3 stands c.in_err-seq.field-0.0 (elim may.stepped [
         | inl same ↦ inl (same ∙ looks.stays.held)
         | inr stepped ↦ inr (stepped.0, stepped_after kept set s0 s2 s3 set.source (PutsSome set.at_source.number known unit) looks.stays.held stepped.1)
       ]);
-      undamaged = c.in_err-seq.ensures.undamaged k.source r.0 r.1 (whole laws.sound laws.source w k set stands.sound placed read_only next unit records known marked r.0 r.2)
+      undamaged = c.in_err-seq.ensures.undamaged k.source r.0 r.1 (whole w k set stands.sound placed read_only next unit records known marked r.0 r.2)
           (signal_fits k.source unit (source_tables set.at_source.def) (ap (λ (u : LogUnit). u.changes) c.in_ok-unit.ensures.unit));
     })
 
@@ -99,7 +95,6 @@ returns-clause-ok g c = λ w k stands placed read_only next.
     let known = c.in_ok-known.known in
     let unit = c.in_ok-unit.unit in
     let head = c.in_ok-head.head in
-    let laws = c.laws_of_signals.ensures in
     let first = c.in_ok-known.ensures.ok in
     let looks = looks_then kept s0 s1 s2 first c.in_ok-head.ensures.ok in
     let marked : known ≡ record { mark = k.at_source.mark; signal = k.at_source.signal } = c.in_ok-known.ensures.mark w k stands.sound placed (revealed kept set s0 s1 c.requires.closed w k stands placed) in
@@ -107,5 +102,5 @@ returns-clause-ok g c = λ w k stands placed read_only next.
     let records : unit_records unit ≡ signal_records k.at_source.def k.source.log = records_made kept set w k unit head.time placed c.in_ok-unit.ensures.unit (ap (λ (h : Head). h.time) end) in
     let r = revealed_after kept set s0 s2 c.requires.closed w k stands placed looks in
     answered_after kept set s0 s2 s3 known unit r.0 c.in_ok-seq.seq looks.stays.held r.1 c.in_ok-seq.ensures.ok (λ (answer : Option ℕ). HasSignalled kept s0 s3 w k answer)
-    (λ full. has_answered laws.sound laws.source w k set stands.sound placed read_only next unit records known marked kept s0 s3 stands laws.others r.0 r.2 None full)
-    (λ seq put. has_answered laws.sound laws.source w k set stands.sound placed read_only next unit records known marked kept s0 s3 stands laws.others r.0 r.2 (Some seq) put)
+    (λ full. has_answered w k set stands.sound placed read_only next unit records known marked kept s0 s3 stands r.0 r.2 None full)
+    (λ seq put. has_answered w k set stands.sound placed read_only next unit records known marked kept s0 s3 stands r.0 r.2 (Some seq) put)

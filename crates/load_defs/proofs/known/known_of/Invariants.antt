@@ -1,6 +1,4 @@
-use Rattle.std.proofs.Common.{◌≡◌, ◌++◌, drop, map}
-use Rattle.std.specs.Prelude.{filter}
-use Rattle.std.specs.List.{flat_map}
+use Rattle.std.proofs.Common.{◌≡◌, ◌++◌, drop, map, filter, flat_map}
 use Rattle.load_laws.specs.planned.Planned.{stands_stored, known_stored}
 use Rattle.load_defs.proofs.known.known_of.Given as goal
 

@@ -1,5 +1,4 @@
-use Rattle.std.proofs.Common.{◌≡◌, ◌++◌, drop, map}
-use Rattle.std.specs.Prelude.{filter}
+use Rattle.std.proofs.Common.{◌≡◌, ◌++◌, drop, map, filter}
 use Rattle.load_laws.specs.planned.Planned.{stands_stored}
 use Rattle.load_defs.proofs.known.push_sets.Given as goal
 

@@ -1,8 +1,7 @@
 use Rattle.std.proofs.lemmas.Result.{err_from_is_err_and, on_ok_weaker, IfErr-weaker}
 use Rattle.std.proofs.Common.{length}
+use Rattle.site_store.specs.Words.{NoDamage, writes_of_one, AtServer, Fails}
 use Rattle.repl_types.specs.declared.area.Area.TheVariants as areas
-use Rattle.site_store.specs.Records.{NoDamage}
-use Rattle.site_store.specs.Calls.{writes_of_one, AtServer, Fails}
 use Rattle.load_defs.specs.Putting.{added_written}
 use Rattle.load_defs.proofs.Added.{registrations_fail, states_fail, sources_fail, marks_fail, targets_fail, all_added}
 use Rattle.load_defs.proofs.putting.put_added.Goals as goal

@@ -1,7 +1,6 @@
 use Rattle.std.proofs.Common.{◌≡◌, take, drop}
 use Rattle.std.specs.List.{AllByRecursion}
-use Rattle.site_store.specs.Calls.{writes_of_one}
-use Rattle.site_store.specs.Steps.{WorksOn}
+use Rattle.site_store.specs.Words.{writes_of_one, WorksOn}
 use Rattle.load_defs.specs.Putting.{MayBePut, with_put}
 use Rattle.load_defs.proofs.putting.put_rows.Given as goal
 

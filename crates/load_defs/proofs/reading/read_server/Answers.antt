@@ -1,18 +1,9 @@
 use Rattle.std.proofs.Common.{◌+◌, List, [], get_or, subst, ◌∙◌, ◌≡◌, ℕ, refl, arith}
 use Rattle.std.proofs.lemmas.Result.{err_from_is_err_and}
-use Rattle.repl_types.specs.laws.Lists.{all_weaker}
-use Rattle.row_codec.specs.Spelling.{short_text, IsName, set_spelling, IsSet}
-use Rattle.row_codec.specs.Definitions.{HasTableSpelling, HasRegistrationSpelling}
-use Rattle.repl_definitions.specs.Defined.{defined_table_spelling, IsDefinedTable, defined_registration_spelling, IsDefinedRegistration}
-use Rattle.repl_definitions.specs.Sets.{HasSetDefSpelling, source_set_spelling, IsSourceSet, target_set_spelling, IsTargetSet}
-use Rattle.repl_definitions.specs.laws.Defined.{again_defined_table, again_defined_registration}
-use Rattle.repl_definitions.specs.laws.Sets.{again_source_set, again_target_set}
-use Rattle.world_store.specs.DefinitionRows.{table_rows, registration_rows, source_set_rows, target_set_rows}
-use Rattle.world_store.specs.SpelledRows.{definition_limit}
-use Rattle.repl_model.specs.World.{server_in}
+use Rattle.world_store.specs.Words.{short_text, IsName, set_spelling, IsSet, HasTableSpelling, HasRegistrationSpelling, table_rows, registration_rows, source_set_rows, target_set_rows, definition_limit, table_rows_are, registration_rows_are, source_rows_are, target_rows_are}
+use Rattle.site_store.specs.Words.{stays_none}
+use Rattle.repl_model.specs.Words.{all_weaker, defined_table_spelling, IsDefinedTable, defined_registration_spelling, IsDefinedRegistration, HasSetDefSpelling, source_set_spelling, IsSourceSet, target_set_spelling, IsTargetSet, again_defined_table, again_defined_registration, again_source_set, again_target_set, server_in}
 use Rattle.stored_defs.specs.DefinitionReads.{in_defs}
-use Rattle.site_store.specs.laws.Passing.{stays_none}
-use Rattle.world_store.specs.laws.DefinitionRows.{table_rows_are, registration_rows_are, source_rows_are, target_rows_are}
 use Rattle.stored_defs.specs.laws.Standing.{keeps_at}
 use Rattle.load_defs.proofs.StoredReads.{after_one, after_two, after_three, read_fails, records_are, server_is}
 use Rattle.load_defs.proofs.reading.read_server.Goals as goal

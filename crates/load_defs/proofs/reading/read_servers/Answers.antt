@@ -1,10 +1,8 @@
 use Rattle.std.proofs.Common.{◌≡◌, ◌*◌, ◌<◌, ◌≤◌, ◌+◌, ◌++◌, ◌∷◌, ℕ, [], List, length, map, take, get_or, ap, sym, subst, ◌∙◌, arith}
 use Rattle.std.proofs.lemmas.List.{map_more, take_more, map-append}
 use Rattle.std.proofs.lemmas.Result.{err_from_is_err_and}
-use Rattle.repl_types.specs.laws.Lists.{all_append}
-use Rattle.repl_model.specs.World.{empty_server, server_in}
-use Rattle.site_store.specs.Views.{names}
-use Rattle.site_store.specs.laws.Counts.{stays_then}
+use Rattle.site_store.specs.Words.{names, stays_then}
+use Rattle.repl_model.specs.Words.{all_append, empty_server, server_in}
 use Rattle.stored_defs.specs.DefinitionReads.{in_defs, server_reads, known_reads}
 use Rattle.stored_defs.specs.laws.Blaming.{fails_later}
 use Rattle.stored_defs.specs.laws.DefinitionReads.{defs_more}

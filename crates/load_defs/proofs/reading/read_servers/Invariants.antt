@@ -1,9 +1,8 @@
 use Rattle.std.proofs.Common.{◌≡◌, ◌*◌, map, take}
 use Rattle.std.specs.List.{AllByRecursion}
-use Rattle.repl_model.specs.World.{World}
-use Rattle.site_store.specs.Views.{names, held}
-use Rattle.site_store.specs.Calls.{Stays}
-use Rattle.world_store.specs.Stands.{Stands}
+use Rattle.world_store.specs.Words.{Stands}
+use Rattle.site_store.specs.Words.{names, held, Stays}
+use Rattle.repl_model.specs.Words.{World}
 use Rattle.stored_defs.specs.DefinitionReads.{in_defs, server_reads}
 use Rattle.load_plan.specs.Differences.{IsSpelledServer}
 use Rattle.load_laws.specs.planned.Planned.{stored_servers}

@@ -1,11 +1,6 @@
-use Rattle.std.proofs.Common.{◌≡◌, List, set, sym, ap, subst, ◌∙◌, inl, inr}
-use Rattle.std.specs.Prelude.{Option}
+use Rattle.std.proofs.Common.{◌≡◌, List, set, sym, ap, subst, ◌∙◌, inl, inr, Option}
 use Rattle.std.proofs.lemmas.Result.{err_from_is_err_and}
-use Rattle.keep_core.specs.Contents.{Contents}
-use Rattle.site_store.specs.Calls.{no_access}
-use Rattle.site_store.specs.Views.{names, held, work, sees}
-use Rattle.site_store.specs.laws.Counts.{keeps_passed, passes_keeps}
-use Rattle.site_store.specs.laws.Transactions.{closed_again}
+use Rattle.site_store.specs.Words.{Contents, no_access, names, held, work, sees, keeps_passed, passes_keeps, closed_again}
 use Rattle.load_plan.specs.Additions.{additions_at}
 use Rattle.load_laws.specs.worlds.Loads.{load_first}
 use Rattle.load_laws.specs.planned.PlannedLoads.{adds_nothing}
@@ -16,7 +11,7 @@ use Rattle.load_defs.proofs.Standing.{stands_held}
 use Rattle.load_defs.proofs.servers.load_server.Goals as goal
 
 pub returns-then-adds_nothing-clause-ok : goal.returns-then-adds_nothing-clause-ok
-returns-then-adds_nothing-clause-ok g c = λ raw w may is stands. stands_idle raw w c.args.defs.now may c.args.server c.args.stored.now is g.K.Keeper.kept c.args.sites.now c.requires.server stands c.laws_of_worlds.ensures.gains c.laws_of_worlds.ensures.stays (ap adds_nothing (sym c.in_ok-added.ensures) ∙ sym c.adds_nothing.ensures ∙ c.if-adds_nothing.true)
+returns-then-adds_nothing-clause-ok g c = λ raw w may is stands. stands_idle raw w c.args.defs.now may c.args.server c.args.stored.now is g.K.Keeper.kept c.args.sites.now c.requires.server stands (ap adds_nothing (sym c.in_ok-added.ensures) ∙ sym c.adds_nothing.ensures ∙ c.if-adds_nothing.true)
 
 pub put_added-requires-clause-rows : goal.put_added-requires-clause-rows
 put_added-requires-clause-rows g c = subst MayBePutAll (sym (c.in_ok-rows.ensures ∙ ap added_rows c.in_ok-added.ensures)) (added_may (additions_at c.args.defs.now c.args.stored.now) c.requires.loads.rows)
@@ -25,11 +20,10 @@ pub returns-in_err-commit-clause-fault : goal.returns-in_err-commit-clause-fault
 returns-in_err-commit-clause-fault g c =
     let kept = g.K.Keeper.kept in
     let s0 = c.args.sites.now in
-    let laws = c.laws_of_worlds.ensures in
     let p = err_from_is_err_and c.from_residual-in_err-commit.result c.from_residual-in_err-commit.ensures.1 in
     rw (p.1, p.2) (λ raw w may is stands. elim c.in_err-commit.ensures.fault.held [
       | inl before ↦ inl (stands_held (names s0) (held kept s0) (held kept c.commit.new.self) (load_first c.args.defs.now c.args.server w) (before ∙ c.in_ok-put_added.ensures.ok.held ∙ c.in_ok-begin.ensures.ok.held) stands)
-      | inr took ↦ inr (took.0, stands_committed raw w c.args.defs.now may c.args.server c.args.stored.now is kept s0 c.requires.server stands laws.sound laws.loaded laws.others laws.rows c.in_ok-rows.rows (c.in_ok-rows.ensures ∙ ap added_rows c.in_ok-added.ensures) c.begin.new.self c.put_added.new.sites _ c.in_ok-begin.ensures.ok c.in_ok-put_added.ensures.ok (held kept c.commit.new.self) took.1)
+      | inr took ↦ inr (took.0, stands_committed raw w c.args.defs.now may c.args.server c.args.stored.now is kept s0 c.requires.server stands c.in_ok-rows.rows (c.in_ok-rows.ensures ∙ ap added_rows c.in_ok-added.ensures) c.begin.new.self c.put_added.new.sites _ c.in_ok-begin.ensures.ok c.in_ok-put_added.ensures.ok (held kept c.commit.new.self) took.1)
     ])
 
 pub returns-in_err-commit-clause-blames : goal.returns-in_err-commit-clause-blames
@@ -41,8 +35,7 @@ returns-in_err-commit-clause-blames g c =
 
 pub returns-clause-ok : goal.returns-clause-ok
 returns-clause-ok g c = λ raw w may is stands.
-    let laws = c.laws_of_worlds.ensures in
-    stands_committed raw w c.args.defs.now may c.args.server c.args.stored.now is g.K.Keeper.kept c.args.sites.now c.requires.server stands laws.sound laws.loaded laws.others laws.rows c.in_ok-rows.rows (c.in_ok-rows.ensures ∙ ap added_rows c.in_ok-added.ensures) c.begin.new.self c.put_added.new.sites _ c.in_ok-begin.ensures.ok c.in_ok-put_added.ensures.ok (held g.K.Keeper.kept c.commit.new.self) c.in_ok-commit.ensures.ok.held
+    stands_committed raw w c.args.defs.now may c.args.server c.args.stored.now is g.K.Keeper.kept c.args.sites.now c.requires.server stands c.in_ok-rows.rows (c.in_ok-rows.ensures ∙ ap added_rows c.in_ok-added.ensures) c.begin.new.self c.put_added.new.sites _ c.in_ok-begin.ensures.ok c.in_ok-put_added.ensures.ok (held g.K.Keeper.kept c.commit.new.self) c.in_ok-commit.ensures.ok.held
 
 pub returns-in_err-commit-clause-held : goal.returns-in_err-commit-clause-held
 returns-in_err-commit-clause-held g c =

@@ -1,4 +1,4 @@
-use Rattle.site_store.specs.Calls.{KeepsServers}
+use Rattle.site_store.specs.Words.{KeepsServers}
 use Rattle.load_defs.proofs.AllServers.{FirstLoaded}
 use Rattle.load_defs.proofs.servers.load_servers.Given as goal
 

@@ -1,19 +1,9 @@
 -- What the items of a text spell, and the items by which something is spelled.
-use Rattle.std.proofs.Common.{◌≡◌, ℕ, Bool, true, false, cond, List, [], Option, Some, None, refl, sym, ap, ap₂, subst, ◌∙◌}
-use Rattle.std.specs.Prelude.{codes, is_some, unwrap_or}
-use Rattle.std.specs.List.{filter_map}
-use Rattle.std.specs.Option.{option_map, option_and_then}
-use Rattle.std.specs.Str.{bytes_eq}
+use Rattle.std.proofs.Common.{◌≡◌, ℕ, Bool, true, false, cond, List, [], Option, Some, None, refl, sym, ap, ap₂, subst, ◌∙◌, codes, is_some, unwrap_or, filter_map, option_map, option_and_then, bytes_eq}
 use Rattle.std.proofs.lemmas.Bool.{false≢true}
 use Rattle.std.proofs.lemmas.Option.{none-some, same_Some}
-use Rattle.repl_types.specs.Name.{is_name, name_of}
-use Rattle.repl_types.specs.declared.record.SetId.{SetId}
-use Rattle.repl_types.specs.declared.table.ColumnDef.{ColumnDef}
-use Rattle.repl_types.specs.declared.table.Kind.{Kind}
-use Rattle.repl_definitions.specs.declared.member.Member.{Member}
-use Rattle.repl_definitions.specs.declared.member.TargetKind.{TargetKind}
+use Rattle.repl_model.specs.Words.{is_name, name_of, SetId, ColumnDef, Kind, Member, TargetKind, SetDef, is_replica, In, in_filter_map, same_name}
 use Rattle.repl_definitions.specs.declared.member.TargetKind.TheVariants.{UserCopy, PointInTime, BaseAggregate, ChangeAggregate, Ccd, Replica}
-use Rattle.repl_definitions.specs.declared.set.SetDef.{SetDef}
 use Rattle.repl_commands.specs.declared.written.RawDefs.{RawDefs}
 use Rattle.repl_commands.specs.declared.written.RawMember.{RawMember}
 use Rattle.repl_commands.specs.declared.written.RawRegistration.{RawRegistration}
@@ -21,13 +11,10 @@ use Rattle.repl_commands.specs.declared.written.RawSet.{RawSet}
 use Rattle.repl_commands.specs.declared.written.RawTable.{RawTable}
 use Rattle.repl_defs.specs.Entries.{column_name, column_form}
 use Rattle.repl_defs.specs.Trees.{predicate_tree}
-use Rattle.repl_model.specs.Rules.{is_replica}
 use Rattle.spelled_defs.specs.Context.{is_replica_item}
 use Rattle.spelled_defs.specs.Spelled.{spelled_column, table_def, spelled_table, columns_at, registration_def, spelled_registration, target_column, target_kind, spelled_member, spelled_member_at, spelled_set}
 use Rattle.spelled_defs.specs.declared.defs.RegistrationAt.{RegistrationAt}
 use Rattle.spelled_defs.specs.declared.defs.TableAt.{TableAt}
-use Rattle.lists.specs.laws.Members.{In, in_filter_map}
-use Rattle.repl_model.specs.laws.GrowingServers.{same_name}
 
 -- what is some is one
 pub some_is : {A : Type 0} (o : Option A) → is_some o ≡ true → (a : A) × (o ≡ Some a)

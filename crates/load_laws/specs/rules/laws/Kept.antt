@@ -1,9 +1,9 @@
 -- Where no rule is broken, each is kept by each item.
-use Rattle.std.proofs.Common.{◌≡◌, ℕ, ◌+◌, Bool, true, false, not, cond, List, [], ◌∷◌, Option, Some, None, refl}
+use Rattle.std.proofs.Common.{◌≡◌, ℕ, ◌+◌, true, not, List, [], ◌∷◌, None, refl, is_some}
 use Rattle.std.proofs.lemmas.Bool.{and_from}
-use Rattle.std.specs.Prelude.{is_some}
-use Rattle.std.specs.List.{AllByRecursion, list_all, position_from}
-use Rattle.std.specs.Option.{option_map, option_or}
+use Rattle.std.specs.List.{AllByRecursion, list_all}
+use Rattle.std.specs.Option.{option_map}
+use Rattle.repl_model.specs.Words.{In, passes_at, or_none, map_none, chosen_none, none_pass, not_not}
 use Rattle.repl_commands.specs.declared.written.RawDefs.{RawDefs}
 use Rattle.repl_commands.specs.declared.written.RawMember.{RawMember}
 use Rattle.repl_commands.specs.declared.written.RawRegistration.{RawRegistration}
@@ -14,32 +14,8 @@ use Rattle.checked_defs.specs.Broken.{all_rules, table_breaks, registration_brea
 use Rattle.checked_defs.specs.Rules.{table_stands_once, registered_source, is_source_registered, has_texts}
 use Rattle.checked_defs.specs.declared.rule.Rule.{Rule}
 use Rattle.checked_defs.specs.declared.rule.Rule.TheVariants.{Names, Once, Columns, Key, Table, After, Before, Source, Texts, Copies, Condensed, Sums, Replicas}
-use Rattle.lists.specs.laws.Members.{In, passes_at}
-use Rattle.load_laws.specs.rules.laws.Lists.{passes}
 
 -- ---- tests and options
-
--- nothing first and nothing second
-pub or_none : {X : Type 0} (a b : Option X) → option_or a b ≡ None → (a ≡ None) × (b ≡ None)
-or_none None b h = (refl, h)
-or_none (Some x) b h = absurd (cc)
-
--- an image of nothing
-pub map_none : {X Y : Type 0} (f : X → Y) (o : Option X) → option_map f o ≡ None → o ≡ None
-map_none f None h = refl
-map_none f (Some x) h = absurd (cc)
-
--- nothing chosen
-pub chosen_none : {X : Type 0} (b : Bool) (x : X) (o : Option X) → cond b (Some x) o ≡ None → (not b ≡ true) × (o ≡ None)
-chosen_none true x o h = absurd (cc)
-chosen_none false x o h = (refl, h)
-
--- if no element passes, each fails
-none_pass : {X : Type 0} (p : X → Bool) (n : ℕ) (xs : List X) → position_from p n xs ≡ None → list_all (λ x. not (p x)) xs ≡ true
-none_pass p n [] h = refl
-none_pass p n (x ∷ xs) h =
-    let c = chosen_none (p x) n (position_from p (n + 1) xs) h in
-    and_from (not (p x)) (list_all (λ y. not (p y)) xs) c.0 (none_pass p (n + 1) xs c.1)
 
 -- ---- a rule that is kept
 
@@ -120,14 +96,14 @@ member_kept raw context h rule set item i j = passes_at (λ (m : RawMember). not
 -- nothing of a table stands twice
 pub once_kept : (raw : RawDefs) (context : Context) → first_broken raw context all_rules ≡ None → (item : RawTable) → In item raw.tables → table_stands_once raw context item ≡ true
 unfolding table_breaks
-once_kept raw context h item i = passes (table_stands_once raw context item) (table_kept raw context h Once item i)
+once_kept raw context h item i = not_not (table_stands_once raw context item) (table_kept raw context h Once item i)
 
 -- the source of a member is registered
 pub source_registered : (raw : RawDefs) (context : Context) → first_broken raw context all_rules ≡ None → (set : RawSet) (item : RawMember) → In set raw.sets → In item set.members → is_some (registered_source context set.source item.source) ≡ true
 unfolding member_breaks
-source_registered raw context h set item i j = passes (is_source_registered context set item) (member_kept raw context h Source set item i j)
+source_registered raw context h set item i j = not_not (is_source_registered context set item) (member_kept raw context h Source set item i j)
 
 -- the texts of a member fit
 pub texts_kept : (raw : RawDefs) (context : Context) → first_broken raw context all_rules ≡ None → (set : RawSet) (item : RawMember) → In set raw.sets → In item set.members → has_texts context set item ≡ true
 unfolding member_breaks
-texts_kept raw context h set item i j = passes (has_texts context set item) (member_kept raw context h Texts set item i j)
+texts_kept raw context h set item i j = not_not (has_texts context set item) (member_kept raw context h Texts set item i j)

@@ -1,20 +1,11 @@
 -- What functions give of the elements of lists, and lists in which nothing stands twice.
-use Rattle.std.proofs.Common.{◌≡◌, suc, ◌+◌, ◌≤◌, Bool, true, false, cond, not, ◌||◌, ◌&&◌, ◌⊎◌, inl, inr, List, [], ◌∷◌, ◌++◌, length, map, Option, Some, None, refl, sym, ap, ap₂, subst, ◌∙◌, arith}
-use Rattle.std.specs.Prelude.{is_some, find, filter}
+use Rattle.std.proofs.Common.{◌≡◌, suc, ◌+◌, ◌≤◌, Bool, true, false, cond, not, ◌||◌, ◌⊎◌, inl, inr, List, [], ◌∷◌, ◌++◌, length, Option, Some, None, refl, sym, ap, ap₂, subst, ◌∙◌, arith, is_some, find, filter, IfSome}
 use Rattle.std.specs.List.{count_by, filter_map, cons_option, list_all, list_any}
-use Rattle.std.specs.Option.{IfSome}
-use Rattle.std.proofs.Math.Bool.{not-not}
 use Rattle.std.proofs.lemmas.Bool.{false≢true, and_parts, and_from, not-true, not_from_false, false_from_ne_true, both_ways}
 use Rattle.std.proofs.lemmas.List.Sums.{sum_by-cons}
-use Rattle.lists.specs.Lists.{all_differ}
-use Rattle.lists.specs.laws.Members.{In, any_from, some_passes, any_image, only_one, in_either, found_in, beside_itself}
-use Rattle.lists.specs.laws.Embedded.{Embeds, embeds_differ, embeds_filter_map}
+use Rattle.repl_model.specs.Words.{all_differ, In, any_from, some_passes, only_one, in_either, found_in, beside_itself, Embeds, embeds_differ, embeds_filter_map}
 
 -- ---- tests
-
--- what doesn't fail passes
-pub passes : (b : Bool) → not (not b) ≡ true → b ≡ true
-passes b e = sym (not-not b) ∙ e
 
 -- if the first fails or the second passes, and the first passes, the second does
 pub or_else : (a b : Bool) → (not a || b) ≡ true → a ≡ true → b ≡ true

@@ -1,18 +1,12 @@
 -- Places of columns: those of names, those of a range, and those that rise.
-use Rattle.std.proofs.Common.{◌≡◌, ℕ, zero, suc, ◌+◌, ◌<◌, ◌≤◌, Bool, true, false, cond, not, ◌⊎◌, inl, inr, List, [], ◌∷◌, get_or, length, Some, None, refl, sym, ap, subst, ◌∙◌, arith}
-use Rattle.std.specs.Prelude.{◌==◌, find, nat_lt, slice_get}
+use Rattle.std.proofs.Common.{◌≡◌, ℕ, zero, suc, ◌+◌, ◌<◌, ◌≤◌, Bool, true, false, cond, not, ◌⊎◌, inl, inr, List, [], ◌∷◌, get_or, length, Some, None, refl, sym, ap, subst, ◌∙◌, arith, ◌==◌, find, nat_lt, slice_get, bytes_eq}
 use Rattle.std.specs.List.{list_all, list_any, position_or_len, range_with_len}
-use Rattle.std.specs.Str.{bytes_eq}
 use Rattle.std.proofs.lemmas.Bool.{and_parts, and_from, cases_eq, eq-eqb, eqb-true, lt-ltb, ltb-true, or_left, or_right}
 use Rattle.std.proofs.lemmas.List.Folds.{find_at}
 use Rattle.std.proofs.lemmas.Option.{none-some, same_Some, cond_some, slice_get_cases, slice_get_within}
-use Rattle.repl_types.specs.declared.table.ColumnDef.{ColumnDef}
-use Rattle.lists.specs.Lists.{all_differ, is_among, places_rise}
+use Rattle.repl_model.specs.Words.{ColumnDef, all_differ, is_among, places_rise, In, all_pass_from, first_alone, found_in, embeds_differ, same_name}
 use Rattle.spelled_defs.specs.Spelled.{column_place, column_places, names_column, named_places}
 use Rattle.checked_defs.specs.Rules.{texts_differ}
-use Rattle.lists.specs.laws.Members.{In, all_pass_from, first_alone, found_in}
-use Rattle.lists.specs.laws.Embedded.{embeds_differ}
-use Rattle.repl_model.specs.laws.GrowingServers.{same_name}
 use Rattle.load_laws.specs.rules.laws.Lists.{embeds_given}
 
 -- ---- the element at a place

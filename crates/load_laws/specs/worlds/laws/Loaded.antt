@@ -1,18 +1,15 @@
 -- What a load makes of a server, and of the first servers of a world.
-use Rattle.std.proofs.Common.{◌≡◌, ℕ, Bool, true, ◌&&◌, ◌⊎◌, inl, inr, List, ◌++◌, map, take, drop, Option, Some, None, refl, sym, ap, subst, ◌∙◌}
-use Rattle.std.specs.Prelude.{filter, find, is_none}
+use Rattle.std.proofs.Common.{ℕ, Bool, ◌&&◌, ◌⊎◌, inl, inr, List, ◌++◌, map, take, drop, Option, Some, None, refl, sym, ap, subst, ◌∙◌, filter, find, is_none, bytes_eq}
 use Rattle.std.specs.List.{AllByRecursion}
 use Rattle.std.specs.Option.{IfSome, option_map, option_or}
-use Rattle.std.specs.Str.{bytes_eq}
-use Rattle.std.proofs.lemmas.Bool.{and_parts, false≢true}
+use Rattle.std.proofs.lemmas.Bool.{and_parts}
 use Rattle.std.proofs.lemmas.List.{map-append, take-append-drop}
-use Rattle.repl_model.specs.World.{Registered, ServerTable, Server, World, server_table, source_side, target_side}
+use Rattle.repl_model.specs.Words.{Registered, ServerTable, Server, World, server_table, source_side, target_side, In, at_each, in_map, in_filter, in_either, in_first, in_second, image_in, each_image, beside_itself, beside_images, beside_more, TableGrows, IsNewTable, IsNewRegistration, IsNewSource, IsNewTarget, with_lists, ServerGrows, WorldGrows, IsBetween, server_stays}
 use Rattle.spelled_defs.specs.declared.defs.Defs.{Defs}
 use Rattle.spelled_defs.specs.declared.defs.TableAt.{TableAt}
 use Rattle.spelled_defs.specs.declared.defs.RegistrationAt.{RegistrationAt}
 use Rattle.load_laws.specs.worlds.Loads.{new_tables, fresh_registration, registration_in, register, fresh_source, fresh_target, new_sources, new_targets, load_server, load_first, load_all}
-use Rattle.lists.specs.laws.Members.{In, at_each, in_map, in_filter, in_either, in_first, in_second, image_in, each_image, beside_itself, beside_images, beside_more}
-use Rattle.repl_model.specs.laws.GrowingServers.{TableGrows, IsNewTable, IsNewRegistration, IsNewSource, IsNewTarget, with_lists, ServerGrows, WorldGrows, IsBetween, server_stays}
+use Rattle.load_laws.specs.laws.Loaded.{none_there}
 
 -- ---- one server
 
@@ -28,17 +25,12 @@ registration_new defs s t = by_found (find (λ r. bytes_eq r.server s.name && by
 table_loads : (defs : Defs) (s : Server) (t : ServerTable) → TableGrows t (register defs s t)
 table_loads defs s t = (refl, λ r e. ap (λ (o : Option Registered). option_or o (registration_in defs s t)) e, λ e. subst (λ (o : Option Registered). IfSome (option_or o (registration_in defs s t)) IsNewRegistration) (sym e) (registration_new defs s t))
 
--- nothing is what isn't some
-pub none_is : {X : Type 0} (o : Option X) → is_none o ≡ true → o ≡ None
-none_is None e = refl
-none_is (Some x) e = absurd (false≢true e)
-
 -- a table of a text that a server doesn't have is new there, with its registration if it has one
 tables_new : (defs : Defs) (s : Server) → AllByRecursion (IsNewTable s) (map (register defs s) (new_tables defs s))
 tables_new defs s = each_image (IsNewTable s) (register defs s) (new_tables defs s)
     (each_image (λ t. IsNewTable s (register defs s t)) (λ (t : TableAt). record { def = t.def; registered = None }) (filter is_new defs.tables)
     (at_each (λ t. IsNewTable s (register defs s (record { def = t.def; registered = None }))) (filter is_new defs.tables)
-    (λ t i. (none_is (server_table t.def.name s) (and_parts (bytes_eq t.server s.name) (is_none (server_table t.def.name s)) (in_filter is_new defs.tables t i).1).1, registration_new defs s (record { def = t.def; registered = None })))))
+    (λ t i. (none_there (server_table t.def.name s) (and_parts (bytes_eq t.server s.name) (is_none (server_table t.def.name s)) (in_filter is_new defs.tables t i).1).1, registration_new defs s (record { def = t.def; registered = None })))))
   where
     is_new : TableAt → Bool
     is_new t = bytes_eq t.server s.name && is_none (server_table t.def.name s)

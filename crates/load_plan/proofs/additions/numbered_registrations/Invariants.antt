@@ -1,6 +1,4 @@
-use Rattle.std.proofs.Common.{◌≡◌, ◌++◌, drop}
-use Rattle.std.specs.Prelude.{filter}
-use Rattle.std.specs.List.{filter_map}
+use Rattle.std.proofs.Common.{◌≡◌, ◌++◌, drop, filter, filter_map}
 use Rattle.load_plan.specs.Additions.{gets_registration, numbered_registration}
 use Rattle.load_plan.proofs.additions.numbered_registrations.Given as goal
 

@@ -1,5 +1,5 @@
 use Rattle.std.proofs.Common.{rules, ◌≡◌, ◌<◌, ◌∷◌, [], ◌++◌, ap, sym, ◌∙◌, true, false, length, slice_index_or}
-use Rattle.repl_definitions.specs.declared.set.SetDef.{SetDef}
+use Rattle.repl_model.specs.Words.{SetDef}
 use Rattle.load_plan.specs.Limits.{gets_target}
 use Rattle.load_plan.proofs.Numbered.{rows_with, rows_without, count_with, count_without}
 use Rattle.load_plan.proofs.additions.targets_added.Goals as goal

@@ -1,5 +1,4 @@
-use Rattle.std.proofs.Common.{◌≡◌, ◌+◌, ◌++◌, length, drop, map}
-use Rattle.std.specs.Prelude.{filter, count_by}
+use Rattle.std.proofs.Common.{◌≡◌, ◌+◌, ◌++◌, length, drop, map, filter, count_by}
 use Rattle.std.specs.List.{enumerate_from}
 use Rattle.load_plan.specs.Limits.{gets_target}
 use Rattle.load_plan.proofs.additions.targets_added.Given as goal

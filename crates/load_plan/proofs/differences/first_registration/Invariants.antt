@@ -1,5 +1,4 @@
-use Rattle.std.proofs.Common.{◌≡◌, drop}
-use Rattle.std.specs.Prelude.{find}
+use Rattle.std.proofs.Common.{◌≡◌, drop, find}
 use Rattle.std.specs.List.{AllByRecursion}
 use Rattle.row_codec.specs.Definitions.{HasRegistrationSpelling}
 use Rattle.load_plan.specs.Differences.{registration_differs}

@@ -1,7 +1,6 @@
-use Rattle.std.proofs.Common.{◌≡◌, drop}
-use Rattle.std.specs.Prelude.{find}
+use Rattle.std.proofs.Common.{◌≡◌, drop, find}
 use Rattle.std.specs.List.{AllByRecursion}
-use Rattle.repl_definitions.specs.Sets.{HasSetDefSpelling}
+use Rattle.repl_model.specs.Words.{HasSetDefSpelling}
 use Rattle.load_plan.specs.Differences.{set_differs}
 use Rattle.load_plan.proofs.differences.first_set.Given as goal
 

@@ -1,6 +1,5 @@
 use Rattle.std.proofs.Common.{rules, ◌<◌, length}
-use Rattle.repl_definitions.specs.Sets.{HasSetDefSpelling}
-use Rattle.repl_model.specs.World.{same_set}
+use Rattle.repl_model.specs.Words.{HasSetDefSpelling, same_set}
 use Rattle.load_plan.specs.Differences.{IsSpelledServer}
 use Rattle.load_plan.proofs.Found.{head_holds, part_holds}
 use Rattle.load_plan.proofs.differences.set_differs.Goals as goal

@@ -1,5 +1,4 @@
-use Rattle.std.proofs.Common.{rules, ◌<◌, length}
-use Rattle.std.specs.Str.{bytes_eq}
+use Rattle.std.proofs.Common.{rules, ◌<◌, length, bytes_eq}
 use Rattle.row_codec.specs.Definitions.{HasTableSpelling}
 use Rattle.load_plan.specs.Differences.{IsSpelledServer}
 use Rattle.load_plan.proofs.Found.{head_holds, part_holds}

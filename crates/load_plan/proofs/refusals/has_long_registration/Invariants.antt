@@ -1,7 +1,6 @@
-use Rattle.std.proofs.Common.{◌≡◌, ◌+◌, length, drop}
-use Rattle.std.specs.Prelude.{nat_lt}
+use Rattle.std.proofs.Common.{◌≡◌, ◌+◌, length, drop, nat_lt}
 use Rattle.std.specs.List.{AllByRecursion, list_any}
-use Rattle.repl_types.specs.Sizes.{value_limit}
+use Rattle.repl_model.specs.Words.{value_limit}
 use Rattle.row_codec.specs.Definitions.{registration_spelling, HasRegistrationSpelling}
 use Rattle.load_plan.proofs.refusals.has_long_registration.Given as goal
 

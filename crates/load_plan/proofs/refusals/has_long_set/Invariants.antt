@@ -1,8 +1,6 @@
-use Rattle.std.proofs.Common.{◌≡◌, ◌+◌, length, drop}
-use Rattle.std.specs.Prelude.{nat_lt}
+use Rattle.std.proofs.Common.{◌≡◌, ◌+◌, length, drop, nat_lt}
 use Rattle.std.specs.List.{AllByRecursion, list_any}
-use Rattle.repl_types.specs.Sizes.{value_limit}
-use Rattle.repl_definitions.specs.Sets.{set_def_spelling, HasSetDefSpelling, IsSetDef}
+use Rattle.repl_model.specs.Words.{value_limit, set_def_spelling, HasSetDefSpelling, IsSetDef}
 use Rattle.load_plan.proofs.refusals.has_long_set.Given as goal
 
 abbrev pub invariant-sets : goal.invariant-sets

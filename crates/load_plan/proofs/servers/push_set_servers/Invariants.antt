@@ -1,5 +1,4 @@
-use Rattle.std.proofs.Common.{◌≡◌, ◌∷◌, [], ◌++◌, drop}
-use Rattle.std.specs.List.{flat_map}
+use Rattle.std.proofs.Common.{◌≡◌, ◌∷◌, [], ◌++◌, drop, flat_map}
 use Rattle.load_plan.proofs.servers.push_set_servers.Given as goal
 
 abbrev pub invariant-sets : goal.invariant-sets

@@ -1,9 +1,7 @@
 use Rattle.std.proofs.lemmas.Result.{err_from_is_err_and}
+use Rattle.world_store.specs.Words.{b32, mark_spelling, IsMark}
+use Rattle.site_store.specs.Words.{reads_of_one, needed_breaks}
 use Rattle.repl_types.specs.declared.area.Area.TheVariants as areas
-use Rattle.row_codec.specs.Spelling.{b32}
-use Rattle.repl_records.specs.Prune.{mark_spelling, IsMark}
-use Rattle.site_store.specs.Calls.{reads_of_one}
-use Rattle.site_store.specs.one_server.laws.Damage.{needed_breaks}
 use Rattle.prune_control.specs.Noting.{mark_rules}
 use Rattle.prune_control.proofs.StoredMarks.{called_for, mark_read}
 use Rattle.prune_control.proofs.marks.read_mark.Goals as goal

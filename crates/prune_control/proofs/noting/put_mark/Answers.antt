@@ -1,6 +1,6 @@
 use Rattle.std.proofs.lemmas.Result.{err_from_is_err_and}
+use Rattle.site_store.specs.Words.{writes_of_one}
 use Rattle.repl_types.specs.declared.area.Area.TheVariants as areas
-use Rattle.site_store.specs.Calls.{writes_of_one}
 use Rattle.set_places.specs.laws.Commits.{begun_open, read_fails_begun, write_fails_begun, commits_step, commit_fails}
 use Rattle.prune_control.specs.Noting.{mark_rules}
 use Rattle.prune_control.specs.Putting.{PutsPoint}

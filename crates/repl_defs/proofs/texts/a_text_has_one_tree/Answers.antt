@@ -1,7 +1,7 @@
 -- A text has one list of tokens, and that has one tree at most.
 use Rattle.std.proofs.Common.{sym, subst, ◌∙◌}
 use Rattle.std.proofs.lemmas.Option.{same_Some}
-use Rattle.repl_defs.proofs.TextsRead.{one_source, one_predicate}
+use Rattle.repl_defs.specs.laws.TextsRead.{one_source, one_predicate}
 use Rattle.repl_defs.specs.Grammar.{IsSource, IsPredicate, disjunction}
 use Rattle.repl_defs.proofs.texts.a_text_has_one_tree.Goals as goal
 

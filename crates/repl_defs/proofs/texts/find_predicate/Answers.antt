@@ -1,6 +1,5 @@
-use Rattle.std.proofs.Common.{sym, ap, ◌∙◌}
-use Rattle.std.specs.Prelude.{Err}
-use Rattle.repl_defs.proofs.TextTrees.{is_predicate_text, predicate_tree_is, nothing_found}
+use Rattle.std.proofs.Common.{sym, ap, ◌∙◌, Err}
+use Rattle.repl_defs.specs.laws.TextTrees.{is_predicate_text, predicate_tree_is, nothing_found}
 use Rattle.repl_defs.proofs.texts.find_predicate.Goals as goal
 
 pub returns-in-Ok : goal.returns-in-Ok

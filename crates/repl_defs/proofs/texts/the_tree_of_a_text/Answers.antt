@@ -1,4 +1,4 @@
-use Rattle.repl_defs.proofs.TextTrees.{is_source_text, source_tree_is, is_predicate_text, predicate_tree_is}
+use Rattle.repl_defs.specs.laws.TextTrees.{is_source_text, source_tree_is, is_predicate_text, predicate_tree_is}
 use Rattle.repl_defs.proofs.texts.the_tree_of_a_text.Goals as goal
 
 pub returns-clause-source : goal.returns-clause-source

@@ -1,7 +1,7 @@
 use Rattle.std.proofs.Common.{length, sym, ap, ◌∙◌, arith, drop}
 use Rattle.std.proofs.lemmas.List.{take_rest, length-drop}
 use Rattle.repl_defs.specs.Tokens.{quoted_len}
-use Rattle.repl_defs.proofs.Quoted.{is_pair-some, quoted_len-pair, quoted_len-other, quoted_len-more, quoted_len-found, quoted_len-nothing}
+use Rattle.repl_defs.specs.laws.Quoted.{is_pair-some, quoted_len-pair, quoted_len-other, quoted_len-more, quoted_len-found, quoted_len-nothing}
 use Rattle.repl_defs.proofs.token.quoted_len.Goals as goal
 
 pub loop-first-preserved-then-is_pair : goal.loop-first-preserved-then-is_pair

@@ -1,5 +1,4 @@
-use Rattle.std.proofs.Common.{◌≡◌, ◌+◌, ◌-◌, ◌≤◌, length}
-use Rattle.std.specs.Option.{option_map}
+use Rattle.std.proofs.Common.{◌≡◌, ◌+◌, ◌-◌, ◌≤◌, length, option_map}
 use Rattle.repl_defs.specs.Tokens.{quoted_len}
 use Rattle.repl_defs.proofs.token.quoted_len.Given as goal
 

@@ -1,5 +1,5 @@
 use Rattle.std.proofs.Common.{◌≤◌, ◌+◌, length, rules}
-use Rattle.repl_defs.proofs.Quoted.{word_within}
+use Rattle.repl_defs.specs.laws.Quoted.{word_within}
 use Rattle.repl_defs.proofs.token.take_text.Goals as goal
 
 pub overflow_add-len : goal.overflow_add-len

@@ -1,6 +1,6 @@
 use Rattle.std.proofs.Common.{◌≤◌, length, arith}
 use Rattle.std.proofs.lemmas.Result.{err_from_is_err_and}
-use Rattle.repl_defs.proofs.Rests.{past_blank, past_token, token_shortens, no_token, at_end}
+use Rattle.repl_defs.specs.laws.Rests.{past_blank, past_token, token_shortens, no_token, at_end}
 use Rattle.repl_defs.proofs.token.tokens.Goals as goal
 
 pub loop-rest-preserved-then-rest-eq32 : goal.loop-rest-preserved-then-rest-eq32

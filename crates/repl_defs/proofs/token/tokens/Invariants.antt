@@ -1,5 +1,5 @@
 use Rattle.std.proofs.Common.{length}
-use Rattle.repl_defs.proofs.Rests.{Continues}
+use Rattle.repl_defs.specs.laws.Rests.{Continues}
 use Rattle.repl_defs.proofs.token.tokens.Given as goal
 
 abbrev pub invariant-loop-rest : goal.invariant-loop-rest

@@ -1,5 +1,5 @@
-use Rattle.repl_model.proofs.Applicable.{leaves_keys_push}
-use Rattle.repl_model.proofs.CopyByRows.{copy_by_rows, copy_onward}
+use Rattle.repl_model.specs.laws.Applicable.{leaves_keys_push}
+use Rattle.repl_model.specs.laws.CopyByRows.{copy_by_rows, copy_onward}
 use Rattle.repl_model.proofs.changes.copy_by_change_rows.Goals as goal
 
 pub returns-clause-whole : goal.returns-clause-whole

@@ -1,4 +1,4 @@
-use Rattle.repl_model.proofs.Trees.{value_column, value_int, value_text, value_add, value_sub, value_mul, value_concat}
+use Rattle.repl_model.specs.laws.Trees.{value_column, value_int, value_text, value_add, value_sub, value_mul, value_concat}
 use Rattle.repl_model.proofs.expressions.expressions_by_nodes.Goals as goal
 
 pub returns-clause-column : goal.returns-clause-column

@@ -1,4 +1,4 @@
-use Rattle.repl_model.proofs.Trees.{truth_compare, truth_null, truth_not_null, truth_and, truth_or}
+use Rattle.repl_model.specs.laws.Trees.{truth_compare, truth_null, truth_not_null, truth_and, truth_or}
 use Rattle.repl_model.proofs.expressions.predicates_by_nodes.Goals as goal
 
 pub returns-clause-compare : goal.returns-clause-compare

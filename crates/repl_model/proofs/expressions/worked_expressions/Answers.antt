@@ -1,6 +1,6 @@
 use Rattle.std.proofs.Common.{refl}
 use Rattle.std.proofs.lemmas.List.{append-nil, length_push}
-use Rattle.repl_model.proofs.Trees.{by_nodes}
+use Rattle.repl_model.specs.laws.Trees.{by_nodes}
 use Rattle.repl_model.proofs.expressions.worked_expressions.Goals as goal
 
 pub returns-clause-sum : goal.returns-clause-sum

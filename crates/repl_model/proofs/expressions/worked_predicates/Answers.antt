@@ -1,5 +1,5 @@
 use Rattle.std.proofs.Common.{refl}
-use Rattle.repl_model.proofs.Trees.{by_nodes}
+use Rattle.repl_model.specs.laws.Trees.{by_nodes}
 use Rattle.repl_model.proofs.expressions.worked_predicates.Goals as goal
 
 pub returns-clause-null_equal : goal.returns-clause-null_equal

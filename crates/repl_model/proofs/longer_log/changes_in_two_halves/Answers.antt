@@ -1,4 +1,4 @@
-use Rattle.repl_model.proofs.LongerCopies.{selected_changes_join, interval_entries_join}
+use Rattle.repl_model.specs.laws.LongerCopies.{selected_changes_join, interval_entries_join}
 use Rattle.repl_model.proofs.longer_log.changes_in_two_halves.Goals as goal
 
 pub returns-clause-selected : goal.returns-clause-selected

@@ -1,4 +1,4 @@
-use Rattle.repl_model.proofs.WholeMembers.{copies_source, whole_row, copies_whole}
+use Rattle.repl_model.specs.laws.WholeMembers.{copies_source, whole_row, copies_whole}
 use Rattle.repl_model.proofs.member_copies.whole_member.Goals as goal
 
 pub returns-clause-copy : goal.returns-clause-copy

@@ -1,11 +1,10 @@
-use Rattle.std.proofs.Common.{◌∷◌, [], ◌++◌, None, refl}
-use Rattle.std.specs.Prelude.{pos, codes}
+use Rattle.std.proofs.Common.{◌∷◌, [], ◌++◌, None, refl, pos, codes}
 use Rattle.repl_types.specs.declared.value.Value.TheVariants.{Int}
 use Rattle.repl_model.specs.Units.{units}
 use Rattle.repl_model.specs.Applicable.{change_fits, is_applicable}
 use Rattle.repl_model.specs.WorkedOrders.{orders, orders_insert}
 use Rattle.repl_model.specs.WorkedCopies.{parts, interleaved_log}
-use Rattle.repl_model.proofs.Applied.{commit_applicable}
+use Rattle.repl_model.specs.laws.Applied.{commit_applicable}
 use Rattle.repl_model.proofs.worked_copies.worked_applicable.Goals as goal
 
 pub returns-clause-change : goal.returns-clause-change

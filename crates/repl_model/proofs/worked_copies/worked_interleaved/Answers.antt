@@ -2,7 +2,7 @@ use Rattle.std.proofs.Common.{refl}
 use Rattle.repl_model.specs.Units.{units}
 use Rattle.repl_model.specs.WorkedOrders.{orders}
 use Rattle.repl_model.specs.WorkedCopies.{parts, interleaved_log}
-use Rattle.repl_model.proofs.Evaluate.{source_entries}
+use Rattle.repl_model.specs.laws.Evaluate.{source_entries}
 use Rattle.repl_model.proofs.worked_copies.worked_interleaved.Goals as goal
 
 pub returns-clause-seqs : goal.returns-clause-seqs

@@ -4,8 +4,8 @@ use Rattle.repl_model.specs.SourceAt.{time_at}
 use Rattle.repl_model.specs.ChangeRows.{change_rows, changes_between}
 use Rattle.repl_model.specs.MemberCopies.{user_copy, point_in_time_copy}
 use Rattle.repl_model.specs.WorkedCopies.{parts, renamed_log, interleaved_log}
-use Rattle.repl_model.proofs.Trees.{by_nodes}
-use Rattle.repl_model.proofs.Evaluate.{source_entries}
+use Rattle.repl_model.specs.laws.Trees.{by_nodes}
+use Rattle.repl_model.specs.laws.Evaluate.{source_entries}
 use Rattle.repl_model.proofs.worked_copies.worked_point_in_time_copy.Goals as goal
 
 pub returns-clause-inserted : goal.returns-clause-inserted

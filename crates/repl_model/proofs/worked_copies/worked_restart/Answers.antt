@@ -5,8 +5,8 @@ use Rattle.repl_model.specs.MemberCopies.{user_copy}
 use Rattle.repl_model.specs.World.{restart_after}
 use Rattle.repl_model.specs.WorkedOrders.{orders}
 use Rattle.repl_model.specs.WorkedCopies.{long_log}
-use Rattle.repl_model.proofs.Trees.{by_nodes}
-use Rattle.repl_model.proofs.Evaluate.{source_entries}
+use Rattle.repl_model.specs.laws.Trees.{by_nodes}
+use Rattle.repl_model.specs.laws.Evaluate.{source_entries}
 use Rattle.repl_model.proofs.worked_copies.worked_restart.Goals as goal
 
 pub returns-clause-before : goal.returns-clause-before

@@ -3,8 +3,8 @@ use Rattle.repl_model.specs.Units.{units}
 use Rattle.repl_model.specs.MemberCopies.{user_copy}
 use Rattle.repl_model.specs.WorkedOrders.{orders}
 use Rattle.repl_model.specs.WorkedCopies.{changed_log}
-use Rattle.repl_model.proofs.Trees.{by_nodes}
-use Rattle.repl_model.proofs.Evaluate.{source_entries}
+use Rattle.repl_model.specs.laws.Trees.{by_nodes}
+use Rattle.repl_model.specs.laws.Evaluate.{source_entries}
 use Rattle.repl_model.proofs.worked_copies.worked_user_copy.Goals as goal
 
 pub returns-clause-source_refreshed : goal.returns-clause-source_refreshed

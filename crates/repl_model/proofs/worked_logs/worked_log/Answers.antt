@@ -1,5 +1,4 @@
-use Rattle.std.proofs.Common.{◌≡◌, Bool, true, false, cond, Some, None, inl, inr, refl}
-use Rattle.std.specs.Prelude.{codes}
+use Rattle.std.proofs.Common.{◌≡◌, Bool, true, false, cond, Some, None, inl, inr, refl, codes}
 use Rattle.std.specs.FinMap.{empty, insert, remove}
 use Rattle.std.proofs.lemmas.Bool.{cases_Bool}
 use Rattle.repl_types.specs.Value.{Values, key_cmp}
@@ -8,7 +7,7 @@ use Rattle.repl_model.specs.Units.{units}
 use Rattle.repl_model.specs.SourceAt.{source_at}
 use Rattle.repl_model.specs.ChangeRows.{change_rows, changes_between}
 use Rattle.repl_model.specs.Worked.{item_key, item}
-use Rattle.repl_model.proofs.Rows.{same_values_exact, same_rows, at_key}
+use Rattle.repl_model.specs.laws.Rows.{same_values_exact, same_rows, at_key}
 use Rattle.repl_model.proofs.worked_logs.worked_log.Goals as goal
 
 pub returns-clause-units : goal.returns-clause-units

@@ -5,8 +5,8 @@ use Rattle.repl_model.specs.Summaries.{by_key, groups_of}
 use Rattle.repl_model.specs.Aggregates.{base_aggregate}
 use Rattle.repl_model.specs.WorkedOrders.{orders}
 use Rattle.repl_model.specs.WorkedSums.{two_orders}
-use Rattle.repl_model.proofs.Trees.{by_nodes}
-use Rattle.repl_model.proofs.Evaluate.{source_entries}
+use Rattle.repl_model.specs.laws.Trees.{by_nodes}
+use Rattle.repl_model.specs.laws.Evaluate.{source_entries}
 use Rattle.repl_model.proofs.worked_sums.worked_base_aggregate.Goals as goal
 
 pub returns-clause-rows : goal.returns-clause-rows

@@ -5,8 +5,8 @@ use Rattle.repl_model.specs.ChangeRows.{change_rows, changes_between}
 use Rattle.repl_model.specs.History.{history}
 use Rattle.repl_model.specs.WorkedOrders.{orders}
 use Rattle.repl_model.specs.WorkedSums.{early_order}
-use Rattle.repl_model.proofs.Trees.{by_nodes}
-use Rattle.repl_model.proofs.Evaluate.{source_entries}
+use Rattle.repl_model.specs.laws.Trees.{by_nodes}
+use Rattle.repl_model.specs.laws.Evaluate.{source_entries}
 use Rattle.repl_model.proofs.worked_sums.worked_complete_history.Goals as goal
 
 pub returns : goal.returns

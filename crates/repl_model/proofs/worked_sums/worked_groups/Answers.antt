@@ -1,6 +1,6 @@
 use Rattle.std.proofs.Common.{refl}
 use Rattle.repl_model.specs.Summaries.{by_key, groups_of}
-use Rattle.repl_model.proofs.Trees.{by_nodes}
+use Rattle.repl_model.specs.laws.Trees.{by_nodes}
 use Rattle.repl_model.proofs.worked_sums.worked_groups.Goals as goal
 
 pub returns-clause-no_extremes : goal.returns-clause-no_extremes

@@ -6,8 +6,8 @@ use Rattle.repl_model.specs.Summaries.{by_key}
 use Rattle.repl_model.specs.History.{history, condensed}
 use Rattle.repl_model.specs.WorkedOrders.{orders}
 use Rattle.repl_model.specs.WorkedSums.{withdrawn_log, renewed_log}
-use Rattle.repl_model.proofs.Trees.{by_nodes}
-use Rattle.repl_model.proofs.Evaluate.{source_entries}
+use Rattle.repl_model.specs.laws.Trees.{by_nodes}
+use Rattle.repl_model.specs.laws.Evaluate.{source_entries}
 use Rattle.repl_model.proofs.worked_sums.worked_history.Goals as goal
 
 pub returns-clause-changes : goal.returns-clause-changes

@@ -4,7 +4,7 @@ use Rattle.repl_model.specs.SourceAt.{time_at}
 use Rattle.repl_model.specs.ChangeRows.{change_rows, changes_between}
 use Rattle.repl_model.specs.Summaries.{by_key, groups_of}
 use Rattle.repl_model.specs.Aggregates.{change_aggregate}
-use Rattle.repl_model.proofs.Trees.{by_nodes}
+use Rattle.repl_model.specs.laws.Trees.{by_nodes}
 use Rattle.repl_model.proofs.worked_sums.worked_sum_out_of_range.Goals as goal
 
 pub returns : goal.returns

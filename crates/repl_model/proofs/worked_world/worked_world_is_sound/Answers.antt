@@ -1,4 +1,4 @@
-use Rattle.repl_model.proofs.WorkedWorld.{one_known, world_sound}
+use Rattle.repl_model.specs.laws.WorkedWorld.{one_known, world_sound}
 use Rattle.repl_model.proofs.worked_world.worked_world_is_sound.Goals as goal
 
 pub returns-clause-sound : goal.returns-clause-sound

@@ -1,6 +1,6 @@
 use Rattle.std.proofs.Common.{ℕ, [], ◌∷◌, ◌++◌, sym, ap, ◌∙◌}
 use Rattle.std.proofs.lemmas.List.{map_more}
-use Rattle.repl_types.specs.Value.{Values}
+use Rattle.repl_model.specs.Words.{Values}
 use Rattle.repl_types.specs.declared.value.Value.TheVariants.{Null}
 use Rattle.row_changes.proofs.change_rows.no_befores.Goals as goal
 

@@ -1,10 +1,7 @@
 use Rattle.std.proofs.Common.{◌≡◌, Bool, false, ◌&&◌, eqb, List, [], ◌∷◌, length, refl, sym, ap, ◌∙◌, arith}
 use Rattle.std.specs.List.{list_all, zip}
 use Rattle.std.proofs.lemmas.Bool.Decides.{nat_tests}
-use Rattle.repl_types.specs.Value.{Values}
-use Rattle.repl_types.specs.declared.value.Value.{Value}
-use Rattle.repl_types.specs.declared.table.ColumnDef.{ColumnDef}
-use Rattle.repl_model.specs.Applicable.{fits_column, fits_columns}
+use Rattle.repl_model.specs.Words.{Values, Value, ColumnDef, fits_column, fits_columns}
 use Rattle.row_changes.proofs.changes.fits_columns.Goals as goal
 
 -- as many values as columns fit if each fits its column

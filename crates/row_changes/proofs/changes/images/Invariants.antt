@@ -1,5 +1,5 @@
 use Rattle.std.proofs.Common.{◌≡◌, take}
-use Rattle.repl_types.specs.Value.{images}
+use Rattle.repl_model.specs.Words.{images}
 use Rattle.row_changes.proofs.changes.images.Given as goal
 
 abbrev pub invariant-loop-place : goal.invariant-loop-place

@@ -1,6 +1,5 @@
 use Rattle.std.proofs.Common.{◌≡◌, ◌≤◌, sum_by, take}
-use Rattle.repl_types.specs.Sizes.{key_limit}
-use Rattle.repl_types.specs.Value.{spelled_len}
+use Rattle.repl_model.specs.Words.{key_limit, spelled_len}
 use Rattle.row_changes.proofs.changes.is_short.Given as goal
 
 abbrev pub invariant-loop-value : goal.invariant-loop-value

@@ -1,5 +1,5 @@
 use Rattle.std.proofs.Common.{◌≡◌, ◌+◌}
-use Rattle.repl_model.specs.Expressions.{value_of}
+use Rattle.repl_model.specs.Words.{value_of}
 use Rattle.row_expr.specs.Evaluation.{expr_size, rest_sizes, whole_value}
 use Rattle.row_expr.proofs.expression.eval.Given as goal
 

@@ -1,5 +1,5 @@
 use Rattle.std.proofs.Common.{◌≡◌, ◌≤◌, length}
-use Rattle.repl_types.specs.Value.{Values}
+use Rattle.repl_model.specs.Words.{Values}
 use Rattle.row_expr.specs.Evaluation.{rest_sizes, whole_value}
 use Rattle.row_expr.proofs.expression.settle.Given as goal
 

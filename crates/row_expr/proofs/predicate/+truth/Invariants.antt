@@ -1,5 +1,5 @@
 use Rattle.std.proofs.Common.{◌≡◌, ◌≤◌, ◌+◌, ◌*◌, ◌<◌, length}
-use Rattle.repl_model.specs.Expressions.{is_true_of}
+use Rattle.repl_model.specs.Words.{is_true_of}
 use Rattle.row_expr.specs.declared.pending.TheConstants.{ROOM}
 use Rattle.row_expr.specs.PendingPredicates.{predicate_size, left_sizes, whole_truth}
 use Rattle.row_expr.proofs.predicate.+truth.Given as goal

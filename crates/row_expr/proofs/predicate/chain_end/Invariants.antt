@@ -1,5 +1,5 @@
 use Rattle.std.proofs.Common.{◌≡◌, ◌≤◌}
-use Rattle.repl_model.specs.Expressions.{is_true_of}
+use Rattle.repl_model.specs.Words.{is_true_of}
 use Rattle.row_expr.specs.PendingPredicates.{predicate_size}
 use Rattle.row_expr.proofs.predicate.chain_end.Given as goal
 

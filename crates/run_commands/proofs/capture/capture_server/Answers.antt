@@ -1,7 +1,7 @@
 use Rattle.std.proofs.Common.{ℕ, ◌<◌, false, refl, sym, subst, arith}
-use Rattle.repl_model.specs.World.{World}
-use Rattle.site_store.specs.Views.{names, held}
-use Rattle.world_store.specs.Stands.{Stands}
+use Rattle.world_store.specs.Words.{Stands}
+use Rattle.site_store.specs.Words.{names, held}
+use Rattle.repl_model.specs.Words.{World}
 use Rattle.capture_core.specs.Capturing.{HasCapturedAll, HasStopped}
 use Rattle.run_commands.specs.parts.laws.Composing.{part_as, part_refused, part_written}
 use Rattle.run_commands.specs.capture.CaptureEvents.{capture_events}

@@ -1,9 +1,9 @@
 use Rattle.std.proofs.Common.{◌∙◌, true, refl, rules, sym, subst}
+use Rattle.world_store.specs.Words.{Stands}
+use Rattle.site_store.specs.Words.{names, held}
+use Rattle.repl_model.specs.Words.{World}
 use Rattle.repl_types.specs.declared.refusal.Refusal.TheVariants as refusals
-use Rattle.repl_model.specs.World.{World}
 use Rattle.shows.specs.tables.Replies.{registered_named, change_lines}
-use Rattle.site_store.specs.Views.{names, held}
-use Rattle.world_store.specs.Stands.{Stands}
 use Rattle.shows.specs.tables.Rules.{change_reads}
 use Rattle.run_commands.specs.show.ShowEvents.{registered_events, changes_events}
 use Rattle.run_commands.specs.parts.Parts.{WritesRefusal}

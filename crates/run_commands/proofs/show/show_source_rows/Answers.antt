@@ -1,9 +1,9 @@
 use Rattle.std.proofs.Common.{◌∙◌, true, refl, rules, sym, subst}
+use Rattle.world_store.specs.Words.{Stands}
+use Rattle.site_store.specs.Words.{names, held}
+use Rattle.repl_model.specs.Words.{World, server_table}
 use Rattle.repl_types.specs.declared.refusal.Refusal.TheVariants as refusals
-use Rattle.repl_model.specs.World.{World, server_table}
 use Rattle.shows.specs.tables.Replies.{source_lines}
-use Rattle.site_store.specs.Views.{names, held}
-use Rattle.world_store.specs.Stands.{Stands}
 use Rattle.shows.specs.tables.Rules.{source_reads}
 use Rattle.run_commands.specs.show.ShowEvents.{table_events, source_events}
 use Rattle.run_commands.specs.parts.Parts.{WritesRefusal}

@@ -1,5 +1,4 @@
-use Rattle.std.proofs.Common.{refl, rules}
-use Rattle.std.specs.Prelude.{map}
+use Rattle.std.proofs.Common.{refl, rules, map}
 use Rattle.run_core.specs.Runs.{writes}
 use Rattle.shows.specs.tables.Replies.{unit_lines}
 use Rattle.shows.specs.tables.Rules.{unit_reads}

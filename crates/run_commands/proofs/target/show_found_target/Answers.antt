@@ -1,8 +1,8 @@
 use Rattle.std.proofs.Common.{◌≡◌, ◌∙◌, List, false, refl, subst, sym}
-use Rattle.repl_model.specs.World.{World}
+use Rattle.world_store.specs.Words.{Stands}
+use Rattle.site_store.specs.Words.{names, held}
+use Rattle.repl_model.specs.Words.{World}
 use Rattle.run_core.specs.Runs.{Event, Went, Stopped, is_refused}
-use Rattle.site_store.specs.Views.{names, held}
-use Rattle.world_store.specs.Stands.{Stands}
 use Rattle.run_commands.specs.parts.laws.Composing.{part_as, part_refused}
 use Rattle.run_commands.specs.parts.laws.Looking.{looked_keeps}
 use Rattle.run_commands.proofs.AfterReads.{read_only, fails_test, copy_written, copy_begun}

@@ -1,8 +1,7 @@
-use Rattle.std.proofs.Common.{ℕ, ◌<◌, length, refl, subst, sym}
-use Rattle.std.specs.Prelude.{Option, IfSome}
-use Rattle.repl_model.specs.World.{World, server_in}
-use Rattle.site_store.specs.Views.{names, held}
-use Rattle.world_store.specs.Stands.{Stands}
+use Rattle.std.proofs.Common.{ℕ, ◌<◌, length, refl, subst, sym, Option, IfSome}
+use Rattle.world_store.specs.Words.{Stands}
+use Rattle.site_store.specs.Words.{names, held}
+use Rattle.repl_model.specs.Words.{World, server_in}
 use Rattle.shows.specs.sets.Rules.{rules}
 use Rattle.shows.specs.sets.Targets.{IsTargetAt, IsNamedAs}
 use Rattle.shows.specs.declared.targets.PlacedTarget.{PlacedTarget}

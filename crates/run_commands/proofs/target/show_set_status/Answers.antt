@@ -1,5 +1,5 @@
 use Rattle.std.proofs.Common.{◌<◌, length, refl, sym}
-use Rattle.site_store.specs.Views.{names}
+use Rattle.site_store.specs.Words.{names}
 use Rattle.stored_defs.specs.Rules.{rules as stored_rules}
 use Rattle.run_commands.specs.parts.laws.Composing.{part_as, part_looked, part_refused, reads_failed}
 use Rattle.run_commands.specs.parts.laws.Damage.{stored_shown}

@@ -1,21 +1,11 @@
 -- Parts of a run as wholes: one after another, by other words, and after reads.
-use Rattle.std.proofs.Common.{◌≡◌, ◌<◌, ◌≤◌, ◌∙◌, ◌||◌, ℕ, List, [], ◌∷◌, length, Bool, true, false, sym, ap, subst, arith}
-use Rattle.std.specs.Prelude.{Option, Some, None, Result, Ok, Err, IfOk, IfSome, IsErrAnd}
+use Rattle.std.proofs.Common.{◌≡◌, ◌<◌, ◌≤◌, ◌∙◌, ◌||◌, ℕ, List, [], ◌∷◌, length, Bool, true, false, sym, ap, subst, arith, Option, Some, None, Result, Ok, Err, IfOk, IfSome, IsErrAnd}
 use Rattle.std.proofs.lemmas.Result.{err_from_is_err_and, on_err_weaker}
-use Rattle.repl_types.specs.declared.fault.Fault.{Fault}
-use Rattle.repl_types.specs.declared.refusal.Refusal.{Refusal}
-use Rattle.keep_core.specs.Kept.{Kept}
-use Rattle.keep_core.specs.Revealed.{Takes, TakesPrefix}
-use Rattle.repl_model.specs.World.{World}
-use Rattle.run_core.specs.Runs.{Event, writes}
-use Rattle.site_store.specs.Calls.{KeepsServers}
-use Rattle.site_store.specs.Damage.{Rules, Damages, IsNoDamage}
-use Rattle.site_store.specs.Servers.{AllClosed}
-use Rattle.site_store.specs.Views.{names, held, work}
+use Rattle.world_store.specs.Words.{Stands}
+use Rattle.site_store.specs.Words.{Kept, Takes, TakesPrefix, KeepsServers, Rules, Damages, IsNoDamage, AllClosed, names, held, work, keeps_itself, keeps_then, Looks, Stops}
 use Rattle.site_store.specs.declared.sites.Sites.{Sites}
-use Rattle.site_store.specs.laws.Counts.{keeps_itself, keeps_then}
-use Rattle.site_store.specs.one_server.Calls.{Looks, Stops}
-use Rattle.world_store.specs.Stands.{Stands}
+use Rattle.repl_model.specs.Words.{Fault, Refusal, World}
+use Rattle.run_core.specs.Runs.{Event, writes}
 use Rattle.run_commands.specs.parts.Parts.{then_events, Happened, StoppedIn, IsPart, WritesLine, WritesRefusal}
 use Rattle.run_commands.specs.parts.Refusing.{refused}
 use Rattle.run_commands.specs.parts.RunErrors.{error_of_fault}

@@ -1,23 +1,12 @@
 -- Damage that a part of a run met, by the rules of one of its layers, and why the run ends.
-use Rattle.std.proofs.Common.{◌≡◌, ◌∙◌, inl, inr, ℕ, List, [], ◌<◌, length, refl, sym, ap, subst}
-use Rattle.std.specs.Prelude.{Option, Some, None, slice_index_or}
+use Rattle.std.proofs.Common.{◌≡◌, ◌∙◌, inl, inr, ℕ, List, [], ◌<◌, length, refl, sym, ap, subst, Option, Some, None, slice_index_or}
 use Rattle.std.proofs.lemmas.Option.{same_Some}
-use Rattle.repl_types.specs.declared.area.Area.{Area}
-use Rattle.repl_types.specs.declared.status.DamageCause.{DamageCause}
-use Rattle.repl_types.specs.declared.status.DamageCause.TheVariants as causes
-use Rattle.repl_types.specs.declared.fault.Fault.{Fault}
-use Rattle.repl_types.specs.declared.fault.Fault.TheVariants as faults
-use Rattle.keep_core.specs.Contents.{Contents}
-use Rattle.keep_core.specs.Kept.{Kept, seen_of}
-use Rattle.repl_model.specs.World.{World}
-use Rattle.site_store.specs.Servers.{AllClosed}
-use Rattle.site_store.specs.Views.{names, held, work, sees}
-use Rattle.site_store.specs.Calls.{Bounds, IsRead, KeepsServers, Blames, Fails}
-use Rattle.site_store.specs.Damage.{Rules, joined, Shows, Damages, IsNoDamage}
-use Rattle.site_store.specs.laws.Counts.{keeps_passed}
-use Rattle.site_store.specs.laws.Damage.{shown_first, shown_second}
+use Rattle.world_store.specs.Words.{Stands}
+use Rattle.site_store.specs.Words.{Contents, Kept, seen_of, AllClosed, names, held, work, sees, Bounds, IsRead, KeepsServers, Blames, Fails, Rules, joined, Shows, Damages, IsNoDamage, keeps_passed, shown_first, shown_second}
 use Rattle.site_store.specs.declared.sites.Sites.{Sites}
-use Rattle.world_store.specs.Stands.{Stands}
+use Rattle.repl_model.specs.Words.{Area, DamageCause, Fault, World}
+use Rattle.repl_types.specs.declared.status.DamageCause.TheVariants as causes
+use Rattle.repl_types.specs.declared.fault.Fault.TheVariants as faults
 use Rattle.stored_defs.specs.Rules.{rules as stored_rules}
 use Rattle.shows.specs.servers.Rules.{rules as status_rules}
 use Rattle.shows.specs.tables.Rules.{rules as source_rules}

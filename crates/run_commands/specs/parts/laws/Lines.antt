@@ -1,16 +1,11 @@
 -- Parts of a run that write lines and commit nothing.
-use Rattle.std.proofs.Common.{◌≡◌, ℕ, List, [], ◌∷◌, ◌++◌, map, false, refl, sym, ap, subst}
-use Rattle.std.specs.Prelude.{Option}
-use Rattle.std.specs.List.{flat_map}
-use Rattle.keep_core.specs.Kept.{Kept}
-use Rattle.keep_core.specs.Revealed.{Takes, TakesPrefix}
-use Rattle.keep_core.specs.laws.Revealed.{takes_nothing}
-use Rattle.repl_model.specs.World.{World}
+use Rattle.std.proofs.Common.{◌≡◌, ℕ, List, [], ◌∷◌, ◌++◌, map, false, refl, sym, ap, subst, Option, flat_map}
+use Rattle.world_store.specs.Words.{Stands}
+use Rattle.site_store.specs.Words.{Kept, Takes, TakesPrefix, takes_nothing, names, held}
+use Rattle.site_store.specs.declared.sites.Sites.{Sites}
+use Rattle.repl_model.specs.Words.{World}
 use Rattle.run_core.specs.Runs.{Event, writes, lines_of, is_refused}
 use Rattle.run_core.specs.laws.Quiet.{IsQuiet}
-use Rattle.site_store.specs.Views.{names, held}
-use Rattle.site_store.specs.declared.sites.Sites.{Sites}
-use Rattle.world_store.specs.Stands.{Stands}
 use Rattle.run_commands.specs.parts.Parts.{Happened, StoppedIn}
 use Rattle.run_commands.specs.parts.laws.Parts.{happened_quiet, stopped_quietly}
 

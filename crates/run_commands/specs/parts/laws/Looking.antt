@@ -1,21 +1,12 @@
 -- Parts of a run that begin with reads.
-use Rattle.std.proofs.Common.{◌≡◌, inl, ℕ, ◌<◌, List, length, Bool, refl, sym, subst, arith}
-use Rattle.std.specs.Prelude.{Option, Some, IsSome}
-use Rattle.repl_types.specs.declared.fault.Fault.{Fault}
+use Rattle.std.proofs.Common.{◌≡◌, inl, ℕ, ◌<◌, List, length, Bool, refl, sym, subst, arith, Option, Some, IsSome}
+use Rattle.world_store.specs.Words.{Stands}
+use Rattle.site_store.specs.Words.{Contents, Kept, AllClosed, names, held, work, sees, KeepsServers, Blames, Rules, Damages, IsNoDamage, keeps_passed, keeps_then, Looks, Stops}
+use Rattle.site_store.specs.declared.sites.Sites.{Sites}
+use Rattle.repl_model.specs.Words.{Fault, World}
 use Rattle.repl_types.specs.declared.fault.Fault.TheVariants as faults
-use Rattle.keep_core.specs.Contents.{Contents}
-use Rattle.keep_core.specs.Kept.{Kept}
-use Rattle.repl_model.specs.World.{World}
 use Rattle.run_core.specs.Runs.{Event, Went, Stopped}
 use Rattle.run_core.specs.laws.Runs.{stopped_before}
-use Rattle.site_store.specs.Servers.{AllClosed}
-use Rattle.site_store.specs.Views.{names, held, work, sees}
-use Rattle.site_store.specs.Calls.{KeepsServers, Blames}
-use Rattle.site_store.specs.Damage.{Rules, Damages, IsNoDamage}
-use Rattle.site_store.specs.declared.sites.Sites.{Sites}
-use Rattle.site_store.specs.laws.Counts.{keeps_passed, keeps_then}
-use Rattle.site_store.specs.one_server.Calls.{Looks, Stops}
-use Rattle.world_store.specs.Stands.{Stands}
 use Rattle.run_commands.specs.parts.Causes.{PartHasCause, FoundByRead}
 use Rattle.run_commands.specs.parts.Parts.{Happened, StoppedIn}
 use Rattle.run_commands.specs.parts.RunErrors.{error_of_fault}

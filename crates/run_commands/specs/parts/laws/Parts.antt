@@ -1,22 +1,12 @@
 -- Parts of a run: what is said of them at the names that the servers had at the beginning, and parts that only write.
-use Rattle.std.proofs.Common.{◌≡◌, ◌<◌, ◌≤◌, ◌∙◌, ◌||◌, ℕ, List, [], ◌∷◌, length, Bool, true, false, refl, sym, ap₂, subst, arith}
-use Rattle.std.specs.Prelude.{Option}
-use Rattle.std.proofs.lemmas.List.{append-nil}
-use Rattle.repl_types.specs.declared.area.Area.{Area}
-use Rattle.repl_types.specs.declared.refusal.Refusal.{Refusal}
-use Rattle.repl_types.specs.declared.status.DamageCause.{DamageCause}
-use Rattle.keep_core.specs.Contents.{Contents}
-use Rattle.keep_core.specs.Kept.{Kept}
-use Rattle.keep_core.specs.Revealed.{Takes, TakesPrefix}
-use Rattle.keep_core.specs.laws.Revealed.{takes_nothing}
-use Rattle.repl_model.specs.World.{World}
+use Rattle.std.proofs.Common.{◌≡◌, ◌<◌, ◌≤◌, ◌∙◌, ◌||◌, ℕ, List, [], ◌∷◌, length, Bool, true, false, refl, sym, ap₂, subst, arith, Option, append-nil}
+use Rattle.world_store.specs.Words.{Stands}
+use Rattle.site_store.specs.Words.{Contents, Kept, Takes, TakesPrefix, takes_nothing, names, held, KeepsServers}
+use Rattle.site_store.specs.declared.sites.Sites.{Sites}
+use Rattle.repl_model.specs.Words.{Area, Refusal, DamageCause, World}
 use Rattle.run_core.specs.Runs.{Event, writes, last_world, lines_of, is_refused, Went, Stopped}
 use Rattle.run_core.specs.laws.Runs.{refused_append, stopped_before, went_both, stopped_in_first, stopped_in_second}
 use Rattle.run_core.specs.laws.Quiet.{IsQuiet, went_quiet, stopped_quiet}
-use Rattle.site_store.specs.Views.{names, held}
-use Rattle.site_store.specs.Calls.{KeepsServers}
-use Rattle.site_store.specs.declared.sites.Sites.{Sites}
-use Rattle.world_store.specs.Stands.{Stands}
 use Rattle.run_commands.specs.parts.Causes.{MetDamage, PartHasCause, FoundByRead, IsOfOutput}
 use Rattle.run_commands.specs.parts.Parts.{then_events, Happened, StoppedIn}
 use Rattle.run_commands.specs.parts.Refusing.{refused}

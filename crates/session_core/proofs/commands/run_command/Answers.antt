@@ -1,8 +1,7 @@
-use Rattle.std.proofs.Common.{◌≡◌, ℕ, List, ap, refl, sym}
-use Rattle.std.specs.Prelude.{Option, None}
+use Rattle.std.proofs.Common.{◌≡◌, ℕ, List, ap, refl, sym, Option, None}
 use Rattle.std.specs.Option.{option_map_or}
+use Rattle.repl_model.specs.Words.{World}
 use Rattle.repl_types.specs.declared.refusal.Refusal.TheVariants as refusals
-use Rattle.repl_model.specs.World.{World}
 use Rattle.run_core.specs.Runs.{Event}
 use Rattle.run_commands.specs.parts.Refusing.{refused}
 use Rattle.run_commands.specs.parts.laws.Composing.{part_as, part_refused}

@@ -1,7 +1,7 @@
 use Rattle.std.proofs.Common.{◌+◌, ◌||◌, List, ℕ, refl, subst, sym, arith}
+use Rattle.world_store.specs.Words.{Stands}
+use Rattle.site_store.specs.Words.{held}
 use Rattle.run_core.specs.Runs.{last_world}
-use Rattle.site_store.specs.Views.{held}
-use Rattle.world_store.specs.Stands.{Stands}
 use Rattle.run_commands.specs.parts.laws.Composing.{err_value, first_fails, part_err, part_failed, part_gives, part_then}
 use Rattle.session_core.specs.Commands.{command_line_events}
 use Rattle.session_core.specs.Talk.{end_events}

@@ -1,9 +1,8 @@
 use Rattle.std.proofs.Common.{◌≤◌, ◌∙◌, ◌+◌, ◌||◌, ℕ, Ok, Err, refl, rules, sym, ap, subst, arith}
+use Rattle.world_store.specs.Words.{Stands}
+use Rattle.site_store.specs.Words.{names, held, keeps_itself, keeps_then}
+use Rattle.repl_model.specs.Words.{World}
 use Rattle.line_input.specs.Script.{lines_left, line_number, total_left}
-use Rattle.repl_model.specs.World.{World}
-use Rattle.site_store.specs.Views.{names, held}
-use Rattle.site_store.specs.laws.Counts.{keeps_itself, keeps_then}
-use Rattle.world_store.specs.Stands.{Stands}
 use Rattle.run_commands.specs.parts.laws.Parts.{later_cause}
 use Rattle.session_core.specs.Bodies.{KeepsBodies}
 use Rattle.session_core.specs.Lines.{GoesOn}

@@ -1,11 +1,8 @@
-use Rattle.std.proofs.Common.{◌≡◌, ◌≤◌, ◌+◌, length}
-use Rattle.std.specs.Prelude.{None}
-use Rattle.std.specs.Option.{option_map}
-use Rattle.repl_model.specs.World.{World}
+use Rattle.std.proofs.Common.{◌≡◌, ◌≤◌, ◌+◌, length, None, option_map}
+use Rattle.world_store.specs.Words.{Stands}
+use Rattle.site_store.specs.Words.{KeepsServers, names, held}
+use Rattle.repl_model.specs.Words.{World}
 use Rattle.line_input.specs.Script.{lines_left, total_left, pending, next_kind, line_number, HasOneSource}
-use Rattle.site_store.specs.Calls.{KeepsServers}
-use Rattle.site_store.specs.Views.{names, held}
-use Rattle.world_store.specs.Stands.{Stands}
 use Rattle.session_core.specs.Bodies.{KeepsBodies}
 use Rattle.session_core.specs.Lines.{GoesOn}
 use Rattle.session_core.proofs.script.run_script.Given as goal

@@ -1,6 +1,6 @@
 use Rattle.std.proofs.Common.{◌≡◌, [], get_or, codes, sym, ◌∙◌, rules, length}
 use Rattle.std.proofs.lemmas.Slice.Eq.{bytes_eq-Decides}
-use Rattle.site_store.specs.Views.{names}
+use Rattle.site_store.specs.Words.{names}
 use Rattle.session_core.proofs.Names.{two_names, not_two_names, same_bytes}
 use Rattle.session_core.proofs.words.are_of_copy.Goals as goal
 

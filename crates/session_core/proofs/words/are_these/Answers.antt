@@ -1,6 +1,6 @@
 use Rattle.std.proofs.Common.{◌∙◌, ◌<◌, refl, sym, length, arith}
 use Rattle.std.proofs.lemmas.Bool.{false≢true}
-use Rattle.site_store.specs.Views.{names}
+use Rattle.site_store.specs.Words.{names}
 use Rattle.session_core.proofs.Names.{same_names, other_names}
 use Rattle.session_core.proofs.words.are_these.Goals as goal
 

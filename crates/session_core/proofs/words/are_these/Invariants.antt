@@ -1,6 +1,6 @@
 use Rattle.std.proofs.Common.{◌≡◌, ◌<◌, ℕ, [], length, get_or}
+use Rattle.site_store.specs.Words.{names}
 use Rattle.run_words.specs.declared.opening.ServerWord.{ServerWord}
-use Rattle.site_store.specs.Views.{names}
 use Rattle.session_core.proofs.words.are_these.Given as goal
 
 abbrev pub invariant-loop-place : goal.invariant-loop-place

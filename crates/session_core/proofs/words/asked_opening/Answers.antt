@@ -1,6 +1,6 @@
 use Rattle.std.proofs.Common.{◌≡◌, ◌∙◌, sym, ap, true}
 use Rattle.std.proofs.lemmas.Bool.{false≢true}
-use Rattle.site_store.specs.Views.{names}
+use Rattle.site_store.specs.Words.{names}
 use Rattle.session_core.specs.Session.{server_names}
 use Rattle.session_core.proofs.words.asked_opening.Goals as goal
 

@@ -54,7 +54,7 @@ end_events (Some feed) w = feed_end_events feed w
 
 -- ---- an answer
 
--- what was refused at a line, if something may have been refused before
+-- whether something was refused at a line, which nothing is after an earlier refusal
 abbrev pub refuses_now : Option Feed → Option Feed → Bool
 refuses_now None after = false
 refuses_now (Some feed) after = is_none after

@@ -1,12 +1,9 @@
-use Rattle.std.proofs.Common.{List, ℕ, map, sym, subst}
-use Rattle.std.specs.Prelude.{string_bytes}
-use Rattle.keep_core.specs.Contents.{Contents}
+use Rattle.std.proofs.Common.{List, ℕ, map, sym, subst, string_bytes}
+use Rattle.world_store.specs.Words.{Stands}
+use Rattle.site_store.specs.Words.{names, held, keeps_then}
 use Rattle.session_core.specs.Inputs.{OfInput}
 use Rattle.session_core.specs.Session.{Asks, run_events}
 use Rattle.session_tests.specs.TwoRuns.{HasBegun}
-use Rattle.site_store.specs.Views.{names, held}
-use Rattle.site_store.specs.laws.Counts.{keeps_then}
-use Rattle.world_store.specs.Stands.{Stands}
 use Rattle.session_tests.proofs.Begun.{begun, both_begun}
 use Rattle.session_tests.proofs.two_runs.run_twice.Goals as goal
 

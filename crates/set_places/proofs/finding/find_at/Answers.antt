@@ -1,10 +1,9 @@
 use Rattle.std.specs.Prelude.{Some, None}
 use Rattle.std.proofs.lemmas.Result.{err_from_is_err_and}
+use Rattle.world_store.specs.Words.{set_spelling}
+use Rattle.site_store.specs.Words.{reads_of_one, looks_then}
+use Rattle.repl_model.specs.Words.{target_set_spelling, IsTargetSet}
 use Rattle.repl_types.specs.declared.area.Area.TheVariants as areas
-use Rattle.row_codec.specs.Spelling.{set_spelling}
-use Rattle.repl_definitions.specs.Sets.{target_set_spelling, IsTargetSet}
-use Rattle.site_store.specs.Calls.{reads_of_one}
-use Rattle.site_store.specs.one_server.laws.Reads.{looks_then}
 use Rattle.set_places.proofs.FindFaults.{get_stops, stops_later}
 use Rattle.set_places.proofs.FoundSets.{none_without_row, placed_if_apart, none_if_same, known_if_found}
 use Rattle.set_places.proofs.finding.find_at.Goals as goal

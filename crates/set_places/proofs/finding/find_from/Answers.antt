@@ -1,7 +1,7 @@
 use Rattle.std.proofs.lemmas.Result.{err_from_is_err_and}
-use Rattle.row_codec.specs.Spelling.{set_spelling}
-use Rattle.repl_definitions.specs.Sets.{source_set_spelling, IsSourceSet}
-use Rattle.site_store.specs.one_server.laws.Reads.{looks_none}
+use Rattle.world_store.specs.Words.{set_spelling}
+use Rattle.site_store.specs.Words.{looks_none}
+use Rattle.repl_model.specs.Words.{source_set_spelling, IsSourceSet}
 use Rattle.set_places.proofs.FindFaults.{get_stops}
 use Rattle.set_places.proofs.FoundSources.{no_server_found, no_row_found, row_found}
 use Rattle.set_places.proofs.finding.find_from.Goals as goal

@@ -1,6 +1,6 @@
 use Rattle.std.proofs.Common.{arith}
 use Rattle.std.proofs.lemmas.Result.{err_from_is_err_and}
-use Rattle.site_store.specs.one_server.laws.Reads.{looks_none, looks_then}
+use Rattle.site_store.specs.Words.{looks_none, looks_then}
 use Rattle.set_places.proofs.FindFaults.{stops_later, stops_undamaged}
 use Rattle.set_places.proofs.FoundSets.{none_at_all, none_before_next}
 use Rattle.set_places.proofs.finding.find_set.Goals as goal

@@ -1,4 +1,4 @@
-use Rattle.site_store.specs.one_server.Calls.{Looks}
+use Rattle.site_store.specs.Words.{Looks}
 use Rattle.set_places.specs.Reading.{is_of_definitions, ReadsOnly}
 use Rattle.set_places.proofs.FoundSets.{NoneBefore}
 use Rattle.set_places.proofs.finding.find_set.Given as goal

@@ -1,10 +1,9 @@
 use Rattle.std.proofs.Common.{get_or}
 use Rattle.std.proofs.lemmas.Result.{err_from_is_err_and}
+use Rattle.world_store.specs.Words.{short_text}
+use Rattle.site_store.specs.Words.{reads_of_one, needed_breaks}
+use Rattle.repl_model.specs.Words.{defined_registration_spelling, IsDefinedRegistration}
 use Rattle.repl_types.specs.declared.area.Area.TheVariants as areas
-use Rattle.row_codec.specs.Spelling.{short_text}
-use Rattle.repl_definitions.specs.Defined.{defined_registration_spelling, IsDefinedRegistration}
-use Rattle.site_store.specs.Calls.{reads_of_one}
-use Rattle.site_store.specs.one_server.laws.Damage.{needed_breaks}
 use Rattle.set_places.specs.Members.{member_rules}
 use Rattle.set_places.proofs.MemberRows.{called_for, member_at, registration_is}
 use Rattle.set_places.proofs.registrations.read_registration.Goals as goal

@@ -1,17 +1,9 @@
-use Rattle.std.proofs.Common.{◌<◌, length, sym, ap, subst}
-use Rattle.std.specs.Prelude.{is_some}
+use Rattle.std.proofs.Common.{◌<◌, length, sym, ap, subst, is_some}
 use Rattle.std.proofs.lemmas.Result.{err_from_is_err_and}
+use Rattle.world_store.specs.Words.{short_text, IsChangeRow, change_row_spelling, IsChangeKey, change_key_spelling}
+use Rattle.site_store.specs.Words.{count_max, Takes, takes_nothing, names, reads_of_one, at_most_itself, get_fails}
+use Rattle.repl_model.specs.Words.{defined_registration_spelling, IsDefinedRegistration}
 use Rattle.repl_types.specs.declared.area.Area.TheVariants as areas
-use Rattle.keep_core.specs.Revealed.{count_max, Takes}
-use Rattle.keep_core.specs.laws.Revealed.{takes_nothing}
-use Rattle.row_codec.specs.Spelling.{short_text}
-use Rattle.repl_definitions.specs.Defined.{defined_registration_spelling, IsDefinedRegistration}
-use Rattle.repl_records.specs.Capture.{IsChangeRow, change_row_spelling}
-use Rattle.repl_records.specs.RecordKeys.{IsChangeKey, change_key_spelling}
-use Rattle.site_store.specs.Views.{names}
-use Rattle.site_store.specs.Calls.{reads_of_one}
-use Rattle.site_store.specs.laws.Counts.{at_most_itself}
-use Rattle.site_store.specs.laws.Steps.{get_fails}
 use Rattle.shows.specs.tables.Replies.{stored_change_line}
 use Rattle.shows.specs.tables.Records.{TakesRows, TakesSomeRows}
 use Rattle.shows.specs.tables.Rules.{rules, change_reads}
@@ -28,7 +20,7 @@ returns-in_err-defined-clause-fault g c =
 pub returns-in_err-defined-clause-undamaged : goal.returns-in_err-defined-clause-undamaged
 returns-in_err-defined-clause-undamaged g c =
     let p = err_from_is_err_and c.from_residual.result c.from_residual.ensures.1 in
-    rw (p.1, p.2) (λ w is_world. none_damaged g.K.Keeper.kept c.args.sites.now c.requires.closed w is_world c.a_change_is_stored.ensures.keys c.the_source_stands.ensures.stand c.get.new.self c.in_err-defined.field-0.0 (get_fails g.K.Keeper.kept IsDefinedRegistration defined_registration_spelling (λ s. s < length (names c.args.sites.now)) rules c.args.sites.now c.get.new.self c.args.server areas.Defs 1 (short_text c.args.table.now) (change_reads c.args.server) c.in_err-defined.field-0.0 c.requires.server (λ bytes h. h) (one_read c.args.server (reads_of_one count_max c.args.server areas.Cd)) c.in_err-defined.ensures.fault).blames)
+    rw (p.1, p.2) (λ w is_world. none_damaged g.K.Keeper.kept c.args.sites.now c.requires.closed w is_world c.get.new.self c.in_err-defined.field-0.0 (get_fails g.K.Keeper.kept IsDefinedRegistration defined_registration_spelling (λ s. s < length (names c.args.sites.now)) rules c.args.sites.now c.get.new.self c.args.server areas.Defs 1 (short_text c.args.table.now) (change_reads c.args.server) c.in_err-defined.field-0.0 c.requires.server (λ bytes h. h) (one_read c.args.server (reads_of_one count_max c.args.server areas.Cd)) c.in_err-defined.ensures.fault).blames)
 
 pub returns-in_default-clause-ok : goal.returns-in_default-clause-ok
 returns-in_default-clause-ok g c = λ w is_world. subst (Takes (g.O.Sink.taken c.args.output.now) (g.O.Sink.taken c.args.output.now)) (sym (nothing_registered g.K.Keeper.kept c.args.sites.now c.requires.closed w is_world c.args.server c.requires.server c.args.table.now (rw c.in_default.is at c.in_ok-defined.ensures.row))) (takes_nothing (g.O.Sink.taken c.args.output.now))
@@ -50,7 +42,7 @@ returns-in_err-show_records-clause-fault g c =
 pub returns-in_err-show_records-clause-undamaged : goal.returns-in_err-show_records-clause-undamaged
 returns-in_err-show_records-clause-undamaged g c =
     let p = err_from_is_err_and c.from_residual-in_err-show_records.result c.from_residual-in_err-show_records.ensures.1 in
-    rw (p.1, p.2) (λ w is_world. shows_undamaged g.K.Keeper.kept c.args.sites.now c.show_records.new.sites (change_reads c.args.server) (g.O.Sink.faults c.args.output.now) (g.O.Sink.faults c.show_records.new.output) c.in_err-show_records.field-0.0 c.a_change_is_stored.ensures.keys c.the_source_stands.ensures.stand c.requires.closed (fails_by_rules g.K.Keeper.kept IsChangeKey change_key_spelling IsChangeRow change_row_spelling areas.Cd c.in-Some.defined.number (λ bytes h. h) (λ bytes h. h) c.args.sites.now c.get.new.self c.show_records.new.sites c.args.server (reads_of_one 1 c.args.server areas.Defs) (reads_of_one count_max c.args.server areas.Cd) (change_reads c.args.server) (g.O.Sink.faults c.args.output.now) (g.O.Sink.faults c.show_records.new.output) c.in_err-show_records.field-0.0 c.requires.server (at_most_itself (change_reads c.args.server)) c.in_ok-defined.ensures.ok.stays c.in_err-show_records.ensures.fault) w is_world)
+    rw (p.1, p.2) (λ w is_world. shows_undamaged g.K.Keeper.kept c.args.sites.now c.show_records.new.sites (change_reads c.args.server) (g.O.Sink.faults c.args.output.now) (g.O.Sink.faults c.show_records.new.output) c.in_err-show_records.field-0.0 c.requires.closed (fails_by_rules g.K.Keeper.kept IsChangeKey change_key_spelling IsChangeRow change_row_spelling areas.Cd c.in-Some.defined.number (λ bytes h. h) (λ bytes h. h) c.args.sites.now c.get.new.self c.show_records.new.sites c.args.server (reads_of_one 1 c.args.server areas.Defs) (reads_of_one count_max c.args.server areas.Cd) (change_reads c.args.server) (g.O.Sink.faults c.args.output.now) (g.O.Sink.faults c.show_records.new.output) c.in_err-show_records.field-0.0 c.requires.server (at_most_itself (change_reads c.args.server)) c.in_ok-defined.ensures.ok.stays c.in_err-show_records.ensures.fault) w is_world)
 
 pub returns-clause-ok : goal.returns-clause-ok
 returns-clause-ok g c =

@@ -1,11 +1,8 @@
 use Rattle.std.proofs.Common.{arith}
 use Rattle.std.proofs.lemmas.Result.{err_from_is_err_and}
+use Rattle.world_store.specs.Words.{Is64, b64, IsUow, uow_spelling}
+use Rattle.site_store.specs.Words.{count_max, reads_of_one, reads_more, stays_none}
 use Rattle.repl_types.specs.declared.area.Area.TheVariants as areas
-use Rattle.keep_core.specs.Revealed.{count_max}
-use Rattle.row_codec.specs.Spelling.{Is64, b64}
-use Rattle.repl_records.specs.Capture.{IsUow, uow_spelling}
-use Rattle.site_store.specs.Calls.{reads_of_one}
-use Rattle.site_store.specs.laws.Passing.{reads_more, stays_none}
 use Rattle.shows.specs.tables.Rules.{unit_reads}
 use Rattle.shows.proofs.TableBlame.{fails_by_rules, shows_undamaged}
 use Rattle.shows.proofs.CapturedStanding.{units_shown, units_part}
@@ -24,7 +21,7 @@ returns-in_err-show_records-clause-fault g c =
 pub returns-in_err-show_records-clause-undamaged : goal.returns-in_err-show_records-clause-undamaged
 returns-in_err-show_records-clause-undamaged g c =
     let p = err_from_is_err_and c.from_residual.result c.from_residual.ensures.1 in
-    rw (p.1, p.2) (λ w is_world. shows_undamaged g.K.Keeper.kept c.args.sites.now c.show_records.new.sites (unit_reads c.args.server) (g.O.Sink.faults c.args.output.now) (g.O.Sink.faults c.show_records.new.output) c.in_err-show_records.field-0.0 c.a_change_is_stored.ensures.keys c.the_source_stands.ensures.stand c.requires.closed (fails_by_rules g.K.Keeper.kept Is64 b64 IsUow uow_spelling areas.Uow 0 (λ bytes h. h) (λ bytes h. h) c.args.sites.now c.args.sites.now c.show_records.new.sites c.args.server (reads_of_one 0 c.args.server areas.Uow) (unit_reads c.args.server) (unit_reads c.args.server) (g.O.Sink.faults c.args.output.now) (g.O.Sink.faults c.show_records.new.output) c.in_err-show_records.field-0.0 c.requires.server (reads_more 0 count_max count_max c.args.server areas.Uow (omega arith)) (stays_none g.K.Keeper.kept c.args.sites.now (reads_of_one 0 c.args.server areas.Uow)) c.in_err-show_records.ensures.fault) w is_world)
+    rw (p.1, p.2) (λ w is_world. shows_undamaged g.K.Keeper.kept c.args.sites.now c.show_records.new.sites (unit_reads c.args.server) (g.O.Sink.faults c.args.output.now) (g.O.Sink.faults c.show_records.new.output) c.in_err-show_records.field-0.0 c.requires.closed (fails_by_rules g.K.Keeper.kept Is64 b64 IsUow uow_spelling areas.Uow 0 (λ bytes h. h) (λ bytes h. h) c.args.sites.now c.args.sites.now c.show_records.new.sites c.args.server (reads_of_one 0 c.args.server areas.Uow) (unit_reads c.args.server) (unit_reads c.args.server) (g.O.Sink.faults c.args.output.now) (g.O.Sink.faults c.show_records.new.output) c.in_err-show_records.field-0.0 c.requires.server (reads_more 0 count_max count_max c.args.server areas.Uow (omega arith)) (stays_none g.K.Keeper.kept c.args.sites.now (reads_of_one 0 c.args.server areas.Uow)) c.in_err-show_records.ensures.fault) w is_world)
 
 pub returns-clause-ok : goal.returns-clause-ok
 returns-clause-ok g c = λ w is_world. units_shown g.K.Keeper.kept c.args.sites.now c.requires.closed w is_world c.args.server c.requires.server (g.O.Sink.taken c.args.output.now) (g.O.Sink.taken c.show_records.new.output) c.in_ok-show_records.ensures.ok

@@ -1,17 +1,8 @@
-use Rattle.std.proofs.Common.{◌<◌, ◌++◌, ℕ, List, length, sym, ap, subst, ◌∙◌, arith}
-use Rattle.std.specs.Prelude.{Option, IfSome}
+use Rattle.std.proofs.Common.{◌<◌, ◌++◌, ℕ, List, length, sym, ap, subst, ◌∙◌, arith, Option, IfSome}
 use Rattle.std.proofs.lemmas.Result.{err_from_is_err_and}
+use Rattle.world_store.specs.Words.{single_spelling, head_spelling, IsHead, capture_spelling, IsCapture, first_capture}
+use Rattle.site_store.specs.Words.{Contents, names, StateIs, reads_of_one, get_fails, stays_sees}
 use Rattle.repl_types.specs.declared.area.Area.TheVariants as areas
-use Rattle.keep_core.specs.Contents.{Contents}
-use Rattle.repl_records.specs.RecordKeys.{single_spelling}
-use Rattle.repl_records.specs.SourceSide.{head_spelling, IsHead}
-use Rattle.repl_records.specs.Capture.{capture_spelling, IsCapture}
-use Rattle.repl_records.specs.FirstStates.{first_capture}
-use Rattle.site_store.specs.Views.{names}
-use Rattle.site_store.specs.Records.{StateIs}
-use Rattle.site_store.specs.Calls.{reads_of_one}
-use Rattle.site_store.specs.laws.Steps.{get_fails}
-use Rattle.site_store.specs.laws.Passing.{stays_sees}
 use Rattle.shows.specs.servers.Rules.{rules, reads_at}
 use Rattle.shows.proofs.Contents.{last_read}
 use Rattle.shows.proofs.ReadingOne.{one_at, one_more, fails_on}

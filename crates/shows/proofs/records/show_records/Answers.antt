@@ -1,11 +1,7 @@
 use Rattle.std.proofs.Common.{◌≡◌, ◌<◌, ◌+◌, ℕ, List, length, sym, subst, arith}
 use Rattle.std.proofs.lemmas.Result.{err_from_is_err_and}
-use Rattle.keep_core.specs.Revealed.{count_max}
-use Rattle.site_store.specs.Records.{after_key}
-use Rattle.site_store.specs.Calls.{reads_of_one}
-use Rattle.site_store.specs.Damage.{Damages}
+use Rattle.site_store.specs.Words.{count_max, after_key, reads_of_one, Damages, stays_none}
 use Rattle.stored_defs.specs.Reading.{table_rules}
-use Rattle.site_store.specs.laws.Passing.{stays_none}
 use Rattle.shows.proofs.Showing.{output_fails, starts, stops, goes_on, stops_in, ends, is_full, counted, stops_counting, read_more, reads_up_to, read_fails}
 use Rattle.shows.proofs.records.show_records.Goals as goal
 

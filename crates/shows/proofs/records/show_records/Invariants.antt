@@ -1,6 +1,5 @@
 use Rattle.std.proofs.Common.{◌≤◌, IfSome}
-use Rattle.site_store.specs.Views.{sees}
-use Rattle.site_store.specs.Calls.{reads_of_one, Stays}
+use Rattle.site_store.specs.Words.{sees, reads_of_one, Stays}
 use Rattle.shows.proofs.ShownRows.{HasShown}
 use Rattle.shows.proofs.records.show_records.Given as goal
 

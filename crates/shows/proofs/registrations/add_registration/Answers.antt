@@ -1,12 +1,10 @@
 use Rattle.std.proofs.Common.{◌++◌, ℕ, List, append-nil, sym, ap, ◌∙◌, arith}
 use Rattle.std.proofs.lemmas.Result.{err_from_is_err_and}
+use Rattle.world_store.specs.Words.{b32, registration_state_spelling, IsRegistrationState}
+use Rattle.site_store.specs.Words.{sees, if_seen}
+use Rattle.repl_model.specs.Words.{defined_registration_spelling}
 use Rattle.repl_types.specs.declared.area.Area.TheVariants as areas
-use Rattle.row_codec.specs.Spelling.{b32}
-use Rattle.repl_definitions.specs.Defined.{defined_registration_spelling}
-use Rattle.repl_records.specs.Capture.{registration_state_spelling, IsRegistrationState}
-use Rattle.site_store.specs.Views.{sees}
 use Rattle.stored_defs.specs.Reading.{AllStand}
-use Rattle.site_store.specs.laws.Passing.{if_seen}
 use Rattle.shows.specs.servers.Rules.{rules, reads_at}
 use Rattle.shows.proofs.Contents.{registration_passed, registration_read, registration_stands}
 use Rattle.shows.proofs.ReadingOne.{one_at, needed_fails}

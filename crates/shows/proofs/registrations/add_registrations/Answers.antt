@@ -1,20 +1,11 @@
-use Rattle.std.proofs.Common.{◌≡◌, ◌<◌, ◌+◌, ◌*◌, ◌++◌, ℕ, List, length, take, append-nil, append_assoc, sym, ap, subst, ◌∙◌, arith}
-use Rattle.std.specs.Prelude.{Option, IfSome}
-use Rattle.std.specs.List.{flat_map}
+use Rattle.std.proofs.Common.{◌≡◌, ◌<◌, ◌+◌, ◌*◌, ◌++◌, ℕ, List, length, take, append-nil, append_assoc, sym, ap, subst, ◌∙◌, arith, Option, IfSome, flat_map}
 use Rattle.std.proofs.lemmas.Result.{err_from_is_err_and}
+use Rattle.world_store.specs.Words.{short_text, IsName, definition_limit}
+use Rattle.site_store.specs.Words.{Contents, names, sees, reads_of_one, stays_then, stays_closed, stays_sees, stays_within}
+use Rattle.repl_model.specs.Words.{defined_registration_spelling, IsDefinedRegistration, DefinedRegistration, ServerTable, server_in}
 use Rattle.repl_types.specs.declared.area.Area.TheVariants as areas
-use Rattle.keep_core.specs.Contents.{Contents}
-use Rattle.row_codec.specs.Spelling.{short_text, IsName}
-use Rattle.repl_definitions.specs.Defined.{defined_registration_spelling, IsDefinedRegistration}
-use Rattle.repl_definitions.specs.declared.defined.DefinedRegistration.{DefinedRegistration}
-use Rattle.repl_model.specs.World.{ServerTable, server_in}
-use Rattle.site_store.specs.Views.{names, sees}
-use Rattle.site_store.specs.Calls.{reads_of_one}
-use Rattle.site_store.specs.laws.Counts.{stays_then}
 use Rattle.stored_defs.specs.Reading.{AllStand}
-use Rattle.world_store.specs.SpelledRows.{definition_limit}
 use Rattle.stored_defs.specs.laws.Blaming.{fails_by_table}
-use Rattle.site_store.specs.laws.Passing.{stays_closed, stays_sees, stays_within}
 use Rattle.stored_defs.specs.laws.Standing.{stands_on}
 use Rattle.shows.specs.servers.Status.{registration_text, text_at}
 use Rattle.shows.specs.servers.Rules.{rules, reads_at}

@@ -1,10 +1,7 @@
-use Rattle.std.proofs.Common.{◌≡◌, ◌+◌, ◌++◌, take}
-use Rattle.std.specs.List.{flat_map}
-use Rattle.repl_model.specs.World.{World, server_in}
-use Rattle.site_store.specs.Views.{names, held}
-use Rattle.site_store.specs.Calls.{Stays}
-use Rattle.world_store.specs.Stands.{Stands}
-use Rattle.world_store.specs.SpelledRows.{definition_limit}
+use Rattle.std.proofs.Common.{◌≡◌, ◌+◌, ◌++◌, take, flat_map}
+use Rattle.world_store.specs.Words.{Stands, definition_limit}
+use Rattle.site_store.specs.Words.{names, held, Stays}
+use Rattle.repl_model.specs.Words.{World, server_in}
 use Rattle.shows.specs.servers.Status.{registration_text}
 use Rattle.shows.specs.servers.Rules.{reads_at}
 use Rattle.shows.proofs.registrations.add_registrations.Given as goal

@@ -1,5 +1,5 @@
 use Rattle.std.proofs.lemmas.Result.{err_from_is_err_and}
-use Rattle.repl_model.specs.World.{server_in}
+use Rattle.repl_model.specs.Words.{server_in}
 use Rattle.shows.specs.servers.Status.{status_text}
 use Rattle.shows.proofs.Contents.{none_damaged}
 use Rattle.shows.proofs.show.show_server.Goals as goal

@@ -1,9 +1,8 @@
-use Rattle.std.proofs.Common.{◌+◌, ◌*◌, ◌++◌, ℕ, List, ap, ◌∙◌, arith}
-use Rattle.std.specs.List.{flat_map}
+use Rattle.std.proofs.Common.{◌+◌, ◌*◌, ◌++◌, ℕ, List, ap, ◌∙◌, arith, flat_map}
 use Rattle.std.proofs.lemmas.Result.{err_from_is_err_and}
-use Rattle.site_store.specs.laws.Counts.{stays_then}
-use Rattle.world_store.specs.SpelledRows.{definition_limit}
-use Rattle.repl_model.specs.World.{server_in}
+use Rattle.world_store.specs.Words.{definition_limit}
+use Rattle.site_store.specs.Words.{stays_then}
+use Rattle.repl_model.specs.Words.{server_in}
 use Rattle.stored_defs.specs.laws.Standing.{stands_on}
 use Rattle.shows.specs.servers.Status.{registration_text, set_text, last_line}
 use Rattle.shows.specs.servers.Rules.{reads_at, status_reads}

@@ -1,6 +1,6 @@
-use Rattle.std.proofs.Common.{List, ℕ, subst, arith, length-drop}
+use Rattle.std.proofs.Common.{arith, length-drop}
 use Rattle.std.proofs.lemmas.Result.{err_from_is_err_and}
-use Rattle.keep_core.specs.laws.Revealed.{takes_on}
+use Rattle.site_store.specs.Words.{takes_on}
 use Rattle.shows.proofs.Written.{prefix_on}
 use Rattle.shows.proofs.show.write_lines.Goals as goal
 

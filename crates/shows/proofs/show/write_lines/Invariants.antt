@@ -1,5 +1,5 @@
 use Rattle.std.proofs.Common.{◌≤◌, ◌-◌, length, take}
-use Rattle.keep_core.specs.Revealed.{Takes}
+use Rattle.site_store.specs.Words.{Takes}
 use Rattle.shows.proofs.show.write_lines.Given as goal
 
 abbrev pub invariant-loop-at : goal.invariant-loop-at

@@ -1,14 +1,13 @@
 use Rattle.std.proofs.lemmas.Result.{err_from_is_err_and}
-use Rattle.site_store.specs.one_server.laws.Damage.{breaks_after}
-use Rattle.site_store.specs.one_server.laws.Reads.{looks_then}
 use Rattle.set_places.specs.laws.Standing.{source_revealed, target_revealed}
 use Rattle.prune_control.specs.Noting.{mark_rules}
 use Rattle.prune_control.specs.laws.Marks.{marks_undamaged}
 use Rattle.subs_sets.specs.Rules.{state_rules}
 use Rattle.subs_sets.specs.laws.Undamaged.{states_undamaged}
 use Rattle.shows.specs.sets.Rules.{ShowsDamage}
-use Rattle.repl_records.specs.declared.prune.SyncMark.{SyncMark}
 use Rattle.std.proofs.Common.{rules, ◌≡◌}
+use Rattle.world_store.specs.Words.{SyncMark}
+use Rattle.site_store.specs.Words.{breaks_after, looks_then}
 use Rattle.shows.proofs.AfterReads.{source_before}
 use Rattle.shows.proofs.SetBlame.{mark_shows, memory_after, none_broken, state_shows}
 use Rattle.shows.proofs.KnownStatus.{status_is}

@@ -1,6 +1,6 @@
 use Rattle.std.proofs.Common.{subst}
 use Rattle.std.proofs.lemmas.Result.{err_from_is_err_and}
-use Rattle.keep_core.specs.Revealed.{Takes, TakesPrefix}
+use Rattle.site_store.specs.Words.{Takes, TakesPrefix}
 use Rattle.reply_text.specs.declared.reply.Reply.TheVariants.{ReadOnlySet}
 use Rattle.reply_text.specs.declared.status.ReadOnlyStatus.{ReadOnlyStatus}
 use Rattle.reply_text.specs.Replies.{reply_line}

@@ -1,5 +1,5 @@
 use Rattle.std.proofs.Common.{◌<◌, List, ℕ, length, subst}
-use Rattle.site_store.specs.one_server.laws.Reads.{looks_none}
+use Rattle.site_store.specs.Words.{looks_none}
 use Rattle.shows.proofs.FoundTargets.{named_if_found, none_if_elsewhere, none_if_unknown, placed_if_found}
 use Rattle.shows.proofs.targets.find_in.Goals as goal
 

@@ -1,15 +1,10 @@
-use Rattle.std.proofs.Common.{List, length, refl, sym, subst, arith}
-use Rattle.std.specs.Prelude.{IfSome}
+use Rattle.std.proofs.Common.{List, length, refl, sym, subst, arith, IfSome}
 use Rattle.std.proofs.lemmas.Option.{slice_get_read}
 use Rattle.std.proofs.lemmas.Result.{err_from_is_err_and}
-use Rattle.row_codec.specs.Spelling.{IsSet, set_spelling}
-use Rattle.repl_definitions.specs.Sets.{IsTargetSet, target_set_spelling}
-use Rattle.repl_definitions.specs.declared.set.TargetSet.{TargetSet}
-use Rattle.site_store.specs.Views.{sees}
-use Rattle.site_store.specs.one_server.laws.Reads.{looks_then}
-use Rattle.site_store.specs.Calls.{reads_of_one}
+use Rattle.world_store.specs.Words.{IsSet, set_spelling, definition_limit}
+use Rattle.site_store.specs.Words.{sees, looks_then, reads_of_one}
+use Rattle.repl_model.specs.Words.{IsTargetSet, target_set_spelling, TargetSet}
 use Rattle.stored_defs.specs.Reading.{HasRecords}
-use Rattle.world_store.specs.SpelledRows.{definition_limit}
 use Rattle.repl_types.specs.declared.area.Area.TheVariants as areas
 use Rattle.stored_defs.specs.laws.Standing.{none_damaged}
 use Rattle.shows.proofs.SetBlame.{definitions_later, definitions_show, rows_stop}

@@ -1,4 +1,4 @@
-use Rattle.site_store.specs.one_server.Calls.{Looks}
+use Rattle.site_store.specs.Words.{Looks}
 use Rattle.shows.proofs.FoundTargets.{NoneBefore}
 use Rattle.shows.proofs.targets.find_target.Given as goal
 

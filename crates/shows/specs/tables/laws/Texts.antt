@@ -1,6 +1,5 @@
 -- The text of rows is that of their lines, one after another, and of their count.
-use Rattle.std.proofs.Common.{◌≡◌, ℕ, List, [], ◌∷◌, ◌++◌, map, length, append_assoc, append-nil, sym, ap, ◌∙◌}
-use Rattle.std.specs.List.{flat_map}
+use Rattle.std.proofs.Common.{◌≡◌, ℕ, List, [], ◌∷◌, ◌++◌, map, length, append_assoc, append-nil, sym, ap, ◌∙◌, flat_map}
 use Rattle.std.proofs.lemmas.List.{length-map}
 use Rattle.shows.specs.tables.Replies.{count_line}
 use Rattle.shows.specs.tables.Records.{row_lines, rows_text}

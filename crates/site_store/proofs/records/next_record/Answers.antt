@@ -1,5 +1,4 @@
-use Rattle.std.proofs.Common.{List, ℕ, rules, refl, inr}
-use Rattle.std.specs.Prelude.{Option, Some, None, IfSome, true}
+use Rattle.std.proofs.Common.{List, ℕ, rules, refl, inr, Option, Some, None, IfSome, true}
 use Rattle.keep_core.specs.Contents.{Contents, IsNextKey}
 use Rattle.keep_core.specs.Kept.{NextIs}
 use Rattle.repl_types.specs.declared.area.Area.{Area}

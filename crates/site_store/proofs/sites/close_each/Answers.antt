@@ -1,5 +1,4 @@
-use Rattle.std.proofs.Common.{◌≡◌, ◌<◌, get_or, ap, ◌∙◌, below_more, length, arith}
-use Rattle.std.specs.Prelude.{None}
+use Rattle.std.proofs.Common.{◌≡◌, ◌<◌, get_or, ap, ◌∙◌, below_more, length, arith, None}
 use Rattle.keep_core.specs.Kept.{Kept}
 use Rattle.site_store.proofs.Replaced.{names_stay, stays, has, has_else, none_fell}
 use Rattle.site_store.proofs.sites.close_each.Goals as goal

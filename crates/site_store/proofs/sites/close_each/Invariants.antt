@@ -1,5 +1,4 @@
-use Rattle.std.proofs.Common.{◌≡◌, ◌<◌, ◌≤◌, ℕ, get_or}
-use Rattle.std.specs.Prelude.{None}
+use Rattle.std.proofs.Common.{◌≡◌, ◌<◌, ◌≤◌, ℕ, get_or, None}
 use Rattle.repl_types.specs.declared.area.Area.{Area}
 use Rattle.site_store.specs.Servers.{names_of, held_of, work_of, faults_of, reads_of, writes_of}
 use Rattle.site_store.proofs.sites.close_each.Given as goal

@@ -1,16 +1,13 @@
 use Rattle.std.proofs.Common.{inl}
 use Rattle.std.proofs.lemmas.Result.{err_from_is_err_and}
-use Rattle.site_store.specs.Calls.{no_access}
-use Rattle.site_store.specs.Views.{held}
-use Rattle.site_store.specs.laws.Counts.{keeps_passed, passes_keeps}
+use Rattle.site_store.specs.Words.{no_access, held, keeps_passed, passes_keeps}
 use Rattle.source_log.specs.Rules.{ShowsDamage}
 use Rattle.source_log.proofs.Appended.{ok_as, err_as, opened, stands_broken, stands_ended, stands_doubted, keeps_ended, has_appended, has_not_appended, stops_holding, blames_broken, blames_doubted}
 use Rattle.source_log.proofs.appending.append.Goals as goal
 
 pub returns-in-Err-clause-refused : goal.returns-in-Err-clause-refused
 returns-in-Err-clause-refused g c = λ w stands.
-    let logs = c.laws_of_logs.ensures in
-    let r = stands_broken g.K.Keeper.kept c.args.sites.now c.requires.closed w stands c.args.server c.requires.server logs.flights logs.rows logs.stored logs.stand c.laws_of_worlds.ensures.fits c.begin.new.self c.take_all.new.sites c.in-Err.e c.in_ok-begin.ensures.ok c.in-Err.ensures.fault (held g.K.Keeper.kept c.rollback_all.new.self) c.rollback_all.ensures.held in
+    let r = stands_broken g.K.Keeper.kept c.args.sites.now c.requires.closed w stands c.args.server c.requires.server c.begin.new.self c.take_all.new.sites c.in-Err.e c.in_ok-begin.ensures.ok c.in-Err.ensures.fault (held g.K.Keeper.kept c.rollback_all.new.self) c.rollback_all.ensures.held in
     (r.0, inl r.1)
 
 pub returns-in_err-commit_taken-clause-refused : goal.returns-in_err-commit_taken-clause-refused
@@ -26,9 +23,8 @@ returns-in_err-commit_taken-clause-refused g c =
     let begun = c.in_ok-begin.ensures.ok in
     let goes = c.in-Ok.ensures.ok in
     let open_at = opened kept s0 s1 s2 c.requires.closed n begun c.requires.server in
-    let laws = c.laws_of_worlds.ensures in
     let p = err_from_is_err_and c.from_residual-in_err-commit_taken.result c.from_residual-in_err-commit_taken.ensures.1 in
-    rw (p.1, p.2) (λ w stands. stands_doubted kept s0 c.requires.closed w stands n c.requires.server laws.fits records s1 s2 progress begun goes laws.world laws.logged laws.others c.requires.records s3 open_at c.in_err-commit_taken.field-0.0 c.in_err-commit_taken.ensures.fault)
+    rw (p.1, p.2) (λ w stands. stands_doubted kept s0 c.requires.closed w stands n c.requires.server records s1 s2 progress begun goes c.requires.records s3 open_at c.in_err-commit_taken.field-0.0 c.in_err-commit_taken.ensures.fault)
 
 pub returns-clause-ok : goal.returns-clause-ok
 returns-clause-ok g c =
@@ -43,10 +39,9 @@ returns-clause-ok g c =
     let begun = c.in_ok-begin.ensures.ok in
     let goes = c.in-Ok.ensures.ok in
     let open_at = opened kept s0 s1 s2 c.requires.closed n begun c.requires.server in
-    let laws = c.laws_of_worlds.ensures in
     ok_as c.answer_of.result (λ last told w stands.
-    let stand = stands_ended kept s0 c.requires.closed w stands n c.requires.server laws.fits records s1 s2 progress begun goes laws.world laws.logged laws.others c.requires.records s3 open_at c.in_ok-commit_taken.ensures.none c.in_ok-commit_taken.ensures.some in
-    has_appended kept s0 c.requires.closed w stands n c.requires.server laws.fits records s1 s2 progress begun goes s3 stand last told) c.answer_of.ensures.ok
+    let stand = stands_ended kept s0 c.requires.closed w stands n c.requires.server records s1 s2 progress begun goes c.requires.records s3 open_at c.in_ok-commit_taken.ensures.none c.in_ok-commit_taken.ensures.some in
+    has_appended kept s0 c.requires.closed w stands n c.requires.server records s1 s2 progress begun goes s3 stand last told) c.answer_of.ensures.ok
 
 pub returns-clause-refused : goal.returns-clause-refused
 returns-clause-refused g c =
@@ -61,10 +56,9 @@ returns-clause-refused g c =
     let begun = c.in_ok-begin.ensures.ok in
     let goes = c.in-Ok.ensures.ok in
     let open_at = opened kept s0 s1 s2 c.requires.closed n begun c.requires.server in
-    let laws = c.laws_of_worlds.ensures in
     err_as c.answer_of.result (λ e told w stands.
-    let stand = stands_ended kept s0 c.requires.closed w stands n c.requires.server laws.fits records s1 s2 progress begun goes laws.world laws.logged laws.others c.requires.records s3 open_at c.in_ok-commit_taken.ensures.none c.in_ok-commit_taken.ensures.some in
-    has_not_appended kept s0 c.requires.closed w stands n c.requires.server laws.fits records s1 s2 progress begun goes s3 stand e told) c.answer_of.ensures.refused
+    let stand = stands_ended kept s0 c.requires.closed w stands n c.requires.server records s1 s2 progress begun goes c.requires.records s3 open_at c.in_ok-commit_taken.ensures.none c.in_ok-commit_taken.ensures.some in
+    has_not_appended kept s0 c.requires.closed w stands n c.requires.server records s1 s2 progress begun goes s3 stand e told) c.answer_of.ensures.refused
 
 pub returns-clause-servers : goal.returns-clause-servers
 returns-clause-servers g c =

@@ -1,12 +1,8 @@
 use Rattle.std.proofs.Common.{Some, ◌∙◌, inl, inr}
 use Rattle.std.proofs.lemmas.Result.{err_from_is_err_and}
+use Rattle.world_store.specs.Words.{single_spelling, head_spelling}
+use Rattle.site_store.specs.Words.{no_access, writes_of_one, both, at_most_itself, passes_then, put_fails, blames_after, goes_put}
 use Rattle.repl_types.specs.declared.area.Area.TheVariants as areas
-use Rattle.repl_records.specs.RecordKeys.{single_spelling}
-use Rattle.repl_records.specs.SourceSide.{head_spelling}
-use Rattle.site_store.specs.Calls.{no_access, writes_of_one, both}
-use Rattle.site_store.specs.laws.Counts.{at_most_itself, passes_then}
-use Rattle.site_store.specs.one_server.laws.Faults.{put_fails, blames_after}
-use Rattle.site_store.specs.one_server.laws.Steps.{goes_put}
 use Rattle.source_log.proofs.appending.commit_taken.Goals as goal
 
 pub returns-in_err-put-clause-fault : goal.returns-in_err-put-clause-fault

@@ -1,13 +1,8 @@
 use Rattle.std.proofs.Common.{arith}
 use Rattle.std.proofs.lemmas.Result.{err_from_is_err_and}
+use Rattle.world_store.specs.Words.{IsLogRecord, log_spelling, Is64, b64, single_spelling, head_spelling, IsHead}
+use Rattle.site_store.specs.Words.{reads_of_one, get_breaks, next_breaks, breaks_after, looks_then}
 use Rattle.repl_types.specs.declared.area.Area.TheVariants as areas
-use Rattle.row_codec.specs.LogRecords.{IsLogRecord, log_spelling}
-use Rattle.row_codec.specs.Spelling.{Is64, b64}
-use Rattle.repl_records.specs.RecordKeys.{single_spelling}
-use Rattle.repl_records.specs.SourceSide.{head_spelling, IsHead}
-use Rattle.site_store.specs.Calls.{reads_of_one}
-use Rattle.site_store.specs.one_server.laws.Damage.{get_breaks, next_breaks, breaks_after}
-use Rattle.site_store.specs.one_server.laws.Reads.{looks_then}
 use Rattle.source_log.specs.Rules.{rules}
 use Rattle.source_log.proofs.Ends.{first_breaks, end_breaks}
 use Rattle.source_log.proofs.appending.read_end.Goals as goal

@@ -1,9 +1,7 @@
 use Rattle.std.proofs.lemmas.Result.{err_from_is_err_and}
+use Rattle.world_store.specs.Words.{b64}
+use Rattle.site_store.specs.Words.{IsLastKey, breaks_after, saw_then}
 use Rattle.repl_types.specs.declared.area.Area.TheVariants as areas
-use Rattle.keep_core.specs.Contents.{IsLastKey}
-use Rattle.row_codec.specs.Spelling.{b64}
-use Rattle.site_store.specs.one_server.laws.Damage.{breaks_after}
-use Rattle.site_store.specs.one_server.laws.Steps.{saw_then}
 use Rattle.source_log.specs.Appending.{TakesFirst, TakesAll}
 use Rattle.source_log.specs.Rules.{rules, EndIs}
 use Rattle.source_log.proofs.Ends.{first_breaks}

@@ -1,14 +1,8 @@
 use Rattle.std.proofs.Common.{◌+◌, ◌<◌, ℕ, List, None, length, sym, subst}
 use Rattle.std.proofs.lemmas.Result.{err_from_is_err_and}
+use Rattle.world_store.specs.Words.{IsLogRecord, b64, Head}
+use Rattle.site_store.specs.Words.{Contents, IsLastKey, GoesOn, breaks_on, looks_none, goes_saw, goes_as, goes_then, goes_open}
 use Rattle.repl_types.specs.declared.area.Area.TheVariants as areas
-use Rattle.keep_core.specs.Contents.{Contents, IsLastKey}
-use Rattle.row_codec.specs.LogRecords.{IsLogRecord}
-use Rattle.row_codec.specs.Spelling.{b64}
-use Rattle.repl_records.specs.declared.source_side.Head.{Head}
-use Rattle.site_store.specs.one_server.Calls.{GoesOn}
-use Rattle.site_store.specs.one_server.laws.Damage.{breaks_on}
-use Rattle.site_store.specs.one_server.laws.Reads.{looks_none}
-use Rattle.site_store.specs.one_server.laws.Steps.{goes_saw, goes_as, goes_then, goes_open}
 use Rattle.stored_defs.specs.laws.Standing.{all_at_place}
 use Rattle.source_log.specs.Appending.{TakesFirst}
 use Rattle.source_log.specs.Rules.{rules, IsKnown}
@@ -78,14 +72,13 @@ records-preserved g c =
     let is = c.index-records-taken.is in
     let lt = c.records-test.true in
     let P = λ (d e : Contents). IsLastKey (d areas.Log 0) (b64 head.last) × TookSome head records n end d e × IsKnown c.records.known e in
-    let laws = c.laws_of_worlds.ensures in
     let next = c.head_after-end.result in
     let may : MayAppend r = subst MayAppend (sym is) (all_at_place MayAppend records n r c.requires.records lt) in
     let before = c.records.known in
     let now = c.take_record.new.known in
     let takes : GoesOn kept s1 s2 server (TakesKnowing before now end r outcomes.Taken) = subst (λ (o : Outcome). GoesOn kept s1 s2 server (TakesKnowing before now end r o)) c.in-Taken.is c.in_ok-outcome.ensures.ok in
     goes_then kept s0 s1 s2 server P (TakesKnowing before now end r outcomes.Taken) (λ d e. IsLastKey (d areas.Log 0) (b64 head.last) × TookSome head records (n + 1) next d e × IsKnown now e) c.requires.open c.records.invariant takes
-    (λ d e f took takes. let taken = takes took.2 in (took.0, subst (λ (h : Head). TookSome head records (n + 1) h d f) (sym c.head_after-end.ensures) (took_more head records n end d e f took.1 r is lt laws.log laws.goes_on may taken.0), taken.1))
+    (λ d e f took takes. let taken = takes took.2 in (took.0, subst (λ (h : Head). TookSome head records (n + 1) h d f) (sym c.head_after-end.ensures) (took_more head records n end d e f took.1 r is lt may taken.0), taken.1))
 
 pub returns-clause-ok : goal.returns-clause-ok
 returns-clause-ok g c =

@@ -1,7 +1,6 @@
+use Rattle.world_store.specs.Words.{b64}
+use Rattle.site_store.specs.Words.{IsLastKey, GoesOn}
 use Rattle.repl_types.specs.declared.area.Area.TheVariants as areas
-use Rattle.keep_core.specs.Contents.{IsLastKey}
-use Rattle.row_codec.specs.Spelling.{b64}
-use Rattle.site_store.specs.one_server.Calls.{GoesOn}
 use Rattle.source_log.specs.Rules.{IsKnown}
 use Rattle.source_log.proofs.TakenFirst.{TookSome}
 use Rattle.source_log.proofs.appending.take_first.Given as goal

@@ -1,10 +1,7 @@
 use Rattle.std.proofs.Common.{◌≡◌, List, ℕ, take, get_or, None, refl, ap, ◌∙◌, ◌+◌}
 use Rattle.std.proofs.lemmas.Result.{err_from_is_err_and}
+use Rattle.site_store.specs.Words.{Sets, writes_of_one, put_fails, write_fails_on, goes_none, goes_as, goes_put, goes_then}
 use Rattle.repl_types.specs.declared.area.Area.TheVariants as areas
-use Rattle.site_store.specs.Works.{Sets}
-use Rattle.site_store.specs.Calls.{writes_of_one}
-use Rattle.site_store.specs.one_server.laws.Faults.{put_fails, write_fails_on}
-use Rattle.site_store.specs.one_server.laws.Steps.{goes_none, goes_as, goes_put, goes_then}
 use Rattle.source_log.specs.Reading.{with_dropped}
 use Rattle.source_log.specs.Rules.{flight_key}
 use Rattle.source_log.proofs.Drops.{dropped_next, take_whole}

@@ -1,5 +1,5 @@
 use Rattle.std.proofs.Common.{◌≡◌, take}
-use Rattle.site_store.specs.one_server.Calls.{GoesOn}
+use Rattle.site_store.specs.Words.{GoesOn}
 use Rattle.source_log.specs.Reading.{with_dropped}
 use Rattle.source_log.proofs.in_flight.drop_changes.Given as goal
 

@@ -1,10 +1,6 @@
-use Rattle.std.proofs.Common.{ℕ, List, sym, subst, arith}
-use Rattle.std.specs.Prelude.{Some, None}
+use Rattle.std.proofs.Common.{ℕ, List, sym, subst, arith, Some, None}
 use Rattle.std.proofs.lemmas.Result.{err_from_is_err_and}
-use Rattle.site_store.specs.Views.{sees}
-use Rattle.site_store.specs.one_server.laws.Damage.{breaks_after, memory_after}
-use Rattle.site_store.specs.one_server.laws.Reads.{looks_none, looks_then, sees_back}
-use Rattle.site_store.specs.laws.Passing.{if_seen, if_both_seen, any_seen}
+use Rattle.site_store.specs.Words.{sees, breaks_after, memory_after, looks_none, looks_then, sees_back, if_seen, if_both_seen, any_seen}
 use Rattle.source_log.specs.Reading.{IsNextPosition, ArePositions}
 use Rattle.source_log.specs.Rules.{rules}
 use Rattle.source_log.proofs.Flights.{SoFar, none_yet, one_more, all_found}
@@ -33,7 +29,7 @@ pub returns-in_default-clause-positions : goal.returns-in_default-clause-positio
 returns-in_default-clause-positions g c =
     let kept = g.K.Keeper.kept in
     let s0 = c.args.sites.now in
-    if_both_seen (sees kept s0 c.args.server) (SoFar c.args.tx c.loop-positions.last c.loop-positions.positions) (IsNextPosition c.args.tx c.loop-positions.last None) (ArePositions c.args.tx c.loop-positions.positions) (λ d so_far next. all_found c.laws_of_transactions.ensures.start c.args.tx c.loop-positions.last c.loop-positions.positions d (omega arith) so_far next) c.loop-positions.invariant.so_far (sees_back kept s0 c.loop-positions.sites c.args.server (IsNextPosition c.args.tx c.loop-positions.last None) c.loop-positions.invariant.looks (rw c.in_default.is at c.in_ok-pos.ensures.next))
+    if_both_seen (sees kept s0 c.args.server) (SoFar c.args.tx c.loop-positions.last c.loop-positions.positions) (IsNextPosition c.args.tx c.loop-positions.last None) (ArePositions c.args.tx c.loop-positions.positions) (λ d so_far next. all_found c.args.tx c.loop-positions.last c.loop-positions.positions d (omega arith) so_far next) c.loop-positions.invariant.so_far (sees_back kept s0 c.loop-positions.sites c.args.server (IsNextPosition c.args.tx c.loop-positions.last None) c.loop-positions.invariant.looks (rw c.in_default.is at c.in_ok-pos.ensures.next))
 
 pub loop-positions-preserved : goal.loop-positions-preserved
 loop-positions-preserved g c =

@@ -1,6 +1,5 @@
 use Rattle.std.specs.Prelude.{◌-◌, ◌^◌, IfSome}
-use Rattle.site_store.specs.Views.{sees}
-use Rattle.site_store.specs.one_server.Calls.{Looks}
+use Rattle.site_store.specs.Words.{sees, Looks}
 use Rattle.source_log.proofs.Flights.{SoFar}
 use Rattle.source_log.proofs.in_flight.positions_of.Given as goal
 

@@ -1,7 +1,6 @@
 use Rattle.std.proofs.Common.{◌≡◌, ◌≤◌, List, length, take, ◌∙◌, ap, sym, arith}
 use Rattle.std.proofs.lemmas.Result.{err_from_is_err_and}
-use Rattle.site_store.specs.one_server.laws.Damage.{write_breaks_on}
-use Rattle.site_store.specs.one_server.laws.Steps.{goes_as, goes_then}
+use Rattle.site_store.specs.Words.{write_breaks_on, goes_as, goes_then}
 use Rattle.source_log.specs.Making.{MakesFirst, MakesAll, all_made, all_unmade}
 use Rattle.source_log.specs.Rules.{rules}
 use Rattle.source_log.specs.declared.step.Step.{Step}

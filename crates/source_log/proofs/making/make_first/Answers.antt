@@ -1,7 +1,6 @@
 use Rattle.std.proofs.Common.{◌+◌, Bool, length, sym, subst}
 use Rattle.std.proofs.lemmas.Result.{err_from_is_err_and}
-use Rattle.site_store.specs.one_server.laws.Damage.{breaks_on}
-use Rattle.site_store.specs.one_server.laws.Steps.{goes_none, goes_as, goes_then}
+use Rattle.site_store.specs.Words.{breaks_on, goes_none, goes_as, goes_then}
 use Rattle.stored_defs.specs.laws.Standing.{all_at_place}
 use Rattle.source_log.specs.Making.{StepCanBeMade, MakesOne, MakesFirst}
 use Rattle.source_log.specs.Rules.{rules}
@@ -21,15 +20,13 @@ returns-in_err-applies-clause-fault g c =
 
 pub returns-then-not-applies-clause-ok : goal.returns-then-not-applies-clause-ok
 returns-then-not-applies-clause-ok g c =
-    let laws = c.laws_of_turns.ensures in
     let step = c.index-steps-made.result in
-    goes_then g.K.Keeper.kept c.args.sites.now c.steps.sites c.make_one.new.sites c.args.server (MadeFirst c.args.steps.now c.steps.made) (MakesOne step c.in_ok-applies.applies) (MakesFirst c.args.steps.now c.steps.made) c.requires.open c.steps.invariant c.in_ok-applies.ensures.ok (λ d e f made one. first_stops laws.stored laws.stand laws.first laws.own c.args.steps.now c.requires.can c.steps.made c.steps-test.true step c.index-steps-made.is d e f made (subst (λ (b : Bool). MakesOne step b e f) c.if-not-applies.true one))
+    goes_then g.K.Keeper.kept c.args.sites.now c.steps.sites c.make_one.new.sites c.args.server (MadeFirst c.args.steps.now c.steps.made) (MakesOne step c.in_ok-applies.applies) (MakesFirst c.args.steps.now c.steps.made) c.requires.open c.steps.invariant c.in_ok-applies.ensures.ok (λ d e f made one. first_stops c.args.steps.now c.requires.can c.steps.made c.steps-test.true step c.index-steps-made.is d e f made (subst (λ (b : Bool). MakesOne step b e f) c.if-not-applies.true one))
 
 pub steps-preserved : goal.steps-preserved
 steps-preserved g c =
-    let laws = c.laws_of_turns.ensures in
     let step = c.index-steps-made.result in
-    goes_then g.K.Keeper.kept c.args.sites.now c.steps.sites c.make_one.new.sites c.args.server (MadeFirst c.args.steps.now c.steps.made) (MakesOne step c.in_ok-applies.applies) (MadeFirst c.args.steps.now (c.steps.made + 1)) c.requires.open c.steps.invariant c.in_ok-applies.ensures.ok (λ d e f made one. first_next laws.stored laws.stand laws.first laws.own c.args.steps.now c.requires.can c.steps.made c.steps-test.true step c.index-steps-made.is d e f made (subst (λ (b : Bool). MakesOne step b e f) c.if-not-applies.false one))
+    goes_then g.K.Keeper.kept c.args.sites.now c.steps.sites c.make_one.new.sites c.args.server (MadeFirst c.args.steps.now c.steps.made) (MakesOne step c.in_ok-applies.applies) (MadeFirst c.args.steps.now (c.steps.made + 1)) c.requires.open c.steps.invariant c.in_ok-applies.ensures.ok (λ d e f made one. first_next c.args.steps.now c.requires.can c.steps.made c.steps-test.true step c.index-steps-made.is d e f made (subst (λ (b : Bool). MakesOne step b e f) c.if-not-applies.false one))
 
 pub returns-clause-ok : goal.returns-clause-ok
-returns-clause-ok g c = goes_as g.K.Keeper.kept c.args.sites.now c.steps.sites c.args.server (MadeFirst c.args.steps.now c.steps.made) (MakesFirst c.args.steps.now (length c.args.steps.now)) c.requires.open c.steps.invariant (λ d e made. first_all c.laws_of_turns.ensures.empty c.args.steps.now c.steps.made d e c.steps-test.false made)
+returns-clause-ok g c = goes_as g.K.Keeper.kept c.args.sites.now c.steps.sites c.args.server (MadeFirst c.args.steps.now c.steps.made) (MakesFirst c.args.steps.now (length c.args.steps.now)) c.requires.open c.steps.invariant (λ d e made. first_all c.args.steps.now c.steps.made d e c.steps-test.false made)

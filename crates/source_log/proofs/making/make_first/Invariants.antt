@@ -1,4 +1,4 @@
-use Rattle.site_store.specs.one_server.Calls.{GoesOn}
+use Rattle.site_store.specs.Words.{GoesOn}
 use Rattle.source_log.proofs.Turns.{MadeFirst}
 use Rattle.source_log.proofs.making.make_first.Given as goal
 

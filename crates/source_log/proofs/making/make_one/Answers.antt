@@ -1,11 +1,7 @@
-use Rattle.std.proofs.Common.{◌≡◌, Bool, true, false, subst, refl}
-use Rattle.std.specs.Prelude.{IfSome}
+use Rattle.std.proofs.Common.{◌≡◌, Bool, true, false, subst, refl, IfSome}
 use Rattle.std.proofs.lemmas.Result.{err_from_is_err_and}
-use Rattle.repl_definitions.specs.declared.defined.DefinedTable.{DefinedTable}
-use Rattle.site_store.specs.Views.{sees}
-use Rattle.site_store.specs.one_server.Calls.{GoesOn}
-use Rattle.site_store.specs.one_server.laws.Damage.{write_breaks_after}
-use Rattle.site_store.specs.one_server.laws.Steps.{goes_saw, saw_then}
+use Rattle.site_store.specs.Words.{sees, GoesOn, write_breaks_after, goes_saw, saw_then}
+use Rattle.repl_model.specs.Words.{DefinedTable}
 use Rattle.source_log.specs.Making.{Tells, MakesOne, with_made}
 use Rattle.source_log.specs.Rules.{rules}
 use Rattle.source_log.proofs.making.make_one.Goals as goal

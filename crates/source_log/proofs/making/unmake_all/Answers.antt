@@ -1,10 +1,7 @@
 use Rattle.std.proofs.Common.{◌≡◌, ◌<◌, ◌-◌, ◌+◌, ℕ, List, length, take, sym, ap, subst, ◌∙◌, arith}
 use Rattle.std.proofs.lemmas.Result.{err_from_is_err_and}
-use Rattle.repl_definitions.specs.declared.defined.DefinedTable.{DefinedTable}
-use Rattle.repl_model.specs.Tables.{inverse}
-use Rattle.site_store.specs.one_server.Calls.{GoesOn}
-use Rattle.site_store.specs.one_server.laws.Faults.{write_fails_on}
-use Rattle.site_store.specs.one_server.laws.Steps.{goes_none, goes_as, goes_then}
+use Rattle.site_store.specs.Words.{GoesOn, write_fails_on, goes_none, goes_as, goes_then}
+use Rattle.repl_model.specs.Words.{DefinedTable, inverse}
 use Rattle.stored_defs.specs.laws.Standing.{all_at_place}
 use Rattle.source_log.specs.Fitting.{CanBeMade}
 use Rattle.source_log.specs.Making.{StepCanBeMade, all_unmade, with_made}

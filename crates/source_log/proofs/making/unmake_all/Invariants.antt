@@ -1,5 +1,5 @@
 use Rattle.std.proofs.Common.{◌≡◌, ◌≤◌, length, take}
-use Rattle.site_store.specs.one_server.Calls.{GoesOn}
+use Rattle.site_store.specs.Words.{GoesOn}
 use Rattle.source_log.specs.Making.{all_unmade}
 use Rattle.source_log.proofs.making.unmake_all.Given as goal
 

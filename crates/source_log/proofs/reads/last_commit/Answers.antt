@@ -1,8 +1,6 @@
+use Rattle.world_store.specs.Words.{b64}
+use Rattle.site_store.specs.Words.{IsLastKey, sees, if_seen}
 use Rattle.repl_types.specs.declared.area.Area.TheVariants as areas
-use Rattle.keep_core.specs.Contents.{IsLastKey}
-use Rattle.row_codec.specs.Spelling.{b64}
-use Rattle.site_store.specs.Views.{sees}
-use Rattle.site_store.specs.laws.Passing.{if_seen}
 use Rattle.source_log.specs.Rules.{EndIs}
 use Rattle.source_log.proofs.Seen.{end_seen, none_seen}
 use Rattle.source_log.proofs.reads.last_commit.Goals as goal
@@ -15,10 +13,9 @@ returns-in-Ok-clause-end g c =
 pub returns-in-Ok-clause-world : goal.returns-in-Ok-clause-world
 returns-in-Ok-clause-world g c = λ w seen.
     let head = c.in-Ok.head in
-    end_seen g.K.Keeper.kept c.args.sites.now c.args.server w seen c.laws_of_worlds.ensures.fits head c.in-Ok.ensures.fits
+    end_seen g.K.Keeper.kept c.args.sites.now c.args.server w seen head c.in-Ok.ensures.fits
     (if_seen (sees g.K.Keeper.kept c.args.sites.now c.args.server) (λ d. EndIs head d × IsLastKey (d areas.Log 0) (b64 head.last)) (EndIs head) (λ d h. h.0) c.in-Ok.ensures.end)
 
 pub returns-in-Err-clause-undamaged : goal.returns-in-Err-clause-undamaged
 returns-in-Err-clause-undamaged g c = λ w seen.
-    let logs = c.laws_of_logs.ensures in
-    none_seen g.K.Keeper.kept c.args.sites.now c.args.server w seen logs.flights logs.rows logs.stored logs.stand c.laws_of_worlds.ensures.fits c.read_end.new.sites c.in-Err.e c.in-Err.ensures.fault.blames
+    none_seen g.K.Keeper.kept c.args.sites.now c.args.server w seen c.read_end.new.sites c.in-Err.e c.in-Err.ensures.fault.blames

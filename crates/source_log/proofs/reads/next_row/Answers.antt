@@ -1,14 +1,8 @@
-use Rattle.std.proofs.Common.{None, Some}
-use Rattle.std.specs.Option.{option_copied}
+use Rattle.std.proofs.Common.{None, Some, option_copied}
 use Rattle.std.proofs.lemmas.Result.{err_from_is_err_and}
+use Rattle.world_store.specs.Words.{key_spelling, source_row_spelling, SourceRow}
+use Rattle.site_store.specs.Words.{after_key, NextRowIs, sees, no_memory, if_seen}
 use Rattle.repl_types.specs.declared.area.Area.TheVariants as areas
-use Rattle.row_codec.specs.Spelling.{key_spelling}
-use Rattle.repl_records.specs.SourceSide.{source_row_spelling}
-use Rattle.repl_records.specs.declared.source_side.SourceRow.{SourceRow}
-use Rattle.site_store.specs.Records.{after_key, NextRowIs}
-use Rattle.site_store.specs.Views.{sees}
-use Rattle.site_store.specs.one_server.laws.Faults.{no_memory}
-use Rattle.site_store.specs.laws.Passing.{if_seen}
 use Rattle.source_log.specs.Scanning.{ShowsBadRow, IsNextCommitted}
 use Rattle.source_log.proofs.Scanned.{scan_fails, none_next, some_next}
 use Rattle.source_log.proofs.reads.next_row.Goals as goal
@@ -28,7 +22,7 @@ returns-in_default-clause-row g c =
     let table = c.args.table.now in
     let after = option_copied c.args.after in
     if_seen (sees g.K.Keeper.kept c.args.sites.now c.args.server) (NextRowIs {X = SourceRow} key_spelling source_row_spelling areas.Source table.number (after_key key_spelling c.in_ok-last.last) None) (IsNextCommitted table after None)
-    (λ d last server has. none_next c.laws_of_reads.ensures.keys c.laws_of_logs.ensures.stand server table d has after c.in_ok-last.last c.in_ok-last.ensures last)
+    (λ d last server has. none_next server table d has after c.in_ok-last.last c.in_ok-last.ensures last)
     (rw (c.in_default.is, c.as_ref.ensures.value) at c.in_ok-next.ensures.row)
 
 pub returns-clause-row : goal.returns-clause-row
@@ -39,5 +33,5 @@ returns-clause-row g c =
     let row = c.in-Some.stored in
     let follows = rw (c.in-Some.is, c.as_ref.ensures.value) at c.in_ok-next.ensures.rises in
     if_seen (sees g.K.Keeper.kept c.args.sites.now c.args.server) (NextRowIs key_spelling source_row_spelling areas.Source table.number (after_key key_spelling c.in_ok-last.last) (Some (key, row))) (IsNextCommitted table after (Some row.row))
-    (λ d next server has. some_next c.laws_of_reads.ensures.keys c.laws_of_logs.ensures.stand server table d has after c.in_ok-last.last c.in_ok-last.ensures key row.row follows.fits follows.row.fits next)
+    (λ d next server has. some_next server table d has after c.in_ok-last.last c.in_ok-last.ensures key row.row follows.fits follows.row.fits next)
     (rw (c.in-Some.is, c.as_ref.ensures.value) at c.in_ok-next.ensures.row)

@@ -1,4 +1,4 @@
-use Rattle.site_store.specs.one_server.laws.Reads.{looks_none}
+use Rattle.site_store.specs.Words.{looks_none}
 use Rattle.source_log.proofs.source.change_applies.Goals as goal
 
 pub returns-in-Start-clause-ok : goal.returns-in-Start-clause-ok

@@ -1,10 +1,7 @@
 use Rattle.std.proofs.Common.{◌≡◌, List, ℕ}
 use Rattle.std.proofs.lemmas.Result.{err_from_is_err_and}
+use Rattle.site_store.specs.Words.{Damages, sees, no_memory, if_seen}
 use Rattle.repl_types.specs.declared.record.Change.TheVariants.{Delete}
-use Rattle.site_store.specs.Damage.{Damages}
-use Rattle.site_store.specs.Views.{sees}
-use Rattle.site_store.specs.one_server.laws.Faults.{no_memory}
-use Rattle.site_store.specs.laws.Passing.{if_seen}
 use Rattle.source_log.specs.Making.{Tells}
 use Rattle.source_log.specs.Reading.{FindsRow}
 use Rattle.source_log.specs.Rules.{rules}
@@ -17,4 +14,4 @@ returns-in_err-key-clause-fault g c =
     rw (p.1, p.2) (no_memory g.K.Keeper.kept c.args.sites.now (Damages (λ s. s ≡ c.args.server) rules g.K.Keeper.kept c.args.sites.now))
 
 pub returns-clause-tells : goal.returns-clause-tells
-returns-clause-tells g c = if_seen (sees g.K.Keeper.kept c.args.sites.now c.args.server) (FindsRow c.args.table.now.number c.in_ok-key.key c.in_ok-found.found) (λ d. (name : List ℕ) → Tells c.args.table.now (Delete name c.args.row.now) c.is_row.result d) (λ d f. delete_tells c.laws_of_reads.ensures.delete c.args.table.now c.args.row.now c.in_ok-key.key c.in_ok-found.found c.is_row.result d c.requires.values c.in_ok-key.ensures c.is_row.ensures f) c.in_ok-found.ensures.row
+returns-clause-tells g c = if_seen (sees g.K.Keeper.kept c.args.sites.now c.args.server) (FindsRow c.args.table.now.number c.in_ok-key.key c.in_ok-found.found) (λ d. (name : List ℕ) → Tells c.args.table.now (Delete name c.args.row.now) c.is_row.result d) (λ d f. delete_tells c.args.table.now c.args.row.now c.in_ok-key.key c.in_ok-found.found c.is_row.result d c.requires.values c.in_ok-key.ensures c.is_row.ensures f) c.in_ok-found.ensures.row

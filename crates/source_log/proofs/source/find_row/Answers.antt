@@ -1,9 +1,7 @@
 use Rattle.std.proofs.lemmas.Result.{err_from_is_err_and}
+use Rattle.world_store.specs.Words.{key_spelling, source_row_spelling, IsSourceRow}
+use Rattle.site_store.specs.Words.{reads_of_one, get_breaks}
 use Rattle.repl_types.specs.declared.area.Area.TheVariants as areas
-use Rattle.row_codec.specs.Spelling.{key_spelling}
-use Rattle.repl_records.specs.SourceSide.{source_row_spelling, IsSourceRow}
-use Rattle.site_store.specs.Calls.{reads_of_one}
-use Rattle.site_store.specs.one_server.laws.Damage.{get_breaks}
 use Rattle.source_log.specs.Rules.{rules}
 use Rattle.source_log.proofs.source.find_row.Goals as goal
 

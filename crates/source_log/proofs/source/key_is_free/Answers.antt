@@ -1,10 +1,6 @@
 use Rattle.std.proofs.Common.{◌≡◌, true, sym, ◌∙◌}
 use Rattle.std.proofs.lemmas.Result.{err_from_is_err_and}
-use Rattle.site_store.specs.Damage.{Damages}
-use Rattle.site_store.specs.Views.{sees}
-use Rattle.site_store.specs.one_server.laws.Faults.{no_memory}
-use Rattle.site_store.specs.one_server.laws.Reads.{looks_none}
-use Rattle.site_store.specs.laws.Passing.{if_seen, any_seen}
+use Rattle.site_store.specs.Words.{Damages, sees, no_memory, looks_none, if_seen, any_seen}
 use Rattle.source_log.specs.Reading.{FindsRow, HasFreeKey}
 use Rattle.source_log.specs.Rules.{rules}
 use Rattle.source_log.proofs.Decides.{free_same, free_found, none_says}

@@ -1,5 +1,5 @@
 use Rattle.std.proofs.lemmas.Result.{err_from_is_err_and}
-use Rattle.site_store.specs.one_server.laws.Faults.{no_memory}
+use Rattle.site_store.specs.Words.{no_memory}
 use Rattle.source_log.proofs.source.remove_row.Goals as goal
 
 pub returns-in_err-key-clause-fault : goal.returns-in_err-key-clause-fault

@@ -1,11 +1,9 @@
 use Rattle.std.proofs.Common.{◌≡◌, ◌∙◌, ap, Some, None}
 use Rattle.std.proofs.lemmas.Result.{err_from_is_err_and}
+use Rattle.world_store.specs.Words.{key_spelling, row_spelling}
+use Rattle.site_store.specs.Words.{Contents, put_at, write_fails_on, goes_then}
+use Rattle.repl_model.specs.Words.{key_of}
 use Rattle.repl_types.specs.declared.area.Area.TheVariants as areas
-use Rattle.keep_core.specs.Contents.{Contents, put_at}
-use Rattle.row_codec.specs.Spelling.{key_spelling, row_spelling}
-use Rattle.repl_model.specs.Tables.{key_of}
-use Rattle.site_store.specs.one_server.laws.Faults.{write_fails_on}
-use Rattle.site_store.specs.one_server.laws.Steps.{goes_then}
 use Rattle.source_log.proofs.source.replace_row.Goals as goal
 
 pub returns-in_err-put_row-clause-fault : goal.returns-in_err-put_row-clause-fault

@@ -1,10 +1,9 @@
 use Rattle.std.proofs.Common.{◌≡◌, subst, ap, Some, None}
 use Rattle.std.proofs.lemmas.Result.{on_ok_weaker}
+use Rattle.world_store.specs.Words.{key_spelling, row_spelling}
+use Rattle.site_store.specs.Words.{put_at, goes_as}
+use Rattle.repl_model.specs.Words.{key_of, inverse}
 use Rattle.repl_types.specs.declared.area.Area.TheVariants as areas
-use Rattle.keep_core.specs.Contents.{put_at}
-use Rattle.row_codec.specs.Spelling.{key_spelling, row_spelling}
-use Rattle.repl_model.specs.Tables.{key_of, inverse}
-use Rattle.site_store.specs.one_server.laws.Steps.{goes_as}
 use Rattle.source_log.specs.Fitting.{CanBeMade}
 use Rattle.source_log.specs.Making.{with_made}
 use Rattle.source_log.proofs.Makes.{made_insert, made_delete, made_update}

@@ -1,12 +1,7 @@
 use Rattle.std.proofs.Common.{◌≡◌, ℕ, List, false, sym, ◌∙◌}
 use Rattle.std.proofs.lemmas.Result.{err_from_is_err_and}
+use Rattle.site_store.specs.Words.{Damages, sees, breaks_after, no_memory, looks_then, sees_back, if_seen, if_both_seen}
 use Rattle.repl_types.specs.declared.record.Change.TheVariants.{Update}
-use Rattle.site_store.specs.Damage.{Damages}
-use Rattle.site_store.specs.Views.{sees}
-use Rattle.site_store.specs.one_server.laws.Damage.{breaks_after}
-use Rattle.site_store.specs.one_server.laws.Faults.{no_memory}
-use Rattle.site_store.specs.one_server.laws.Reads.{looks_then, sees_back}
-use Rattle.site_store.specs.laws.Passing.{if_seen, if_both_seen}
 use Rattle.source_log.specs.Making.{Tells}
 use Rattle.source_log.specs.Reading.{FindsRow, HasFreeKey}
 use Rattle.source_log.specs.Rules.{rules}
@@ -24,10 +19,10 @@ returns-in_err-free-clause-fault g c =
     rw (p.1, p.2) (breaks_after rules g.K.Keeper.kept c.args.sites.now c.find_row.new.sites c.key_is_free.new.sites c.args.server c.in_err-free.field-0.0 c.in_ok-found.ensures.ok c.in_err-free.ensures.fault)
 
 pub returns-then-not-is_row-clause-tells : goal.returns-then-not-is_row-clause-tells
-returns-then-not-is_row-clause-tells g c = if_seen (sees g.K.Keeper.kept c.args.sites.now c.args.server) (FindsRow c.args.table.now.number c.in_ok-old_key.old_key c.in_ok-found.found) (λ d. (name : List ℕ) → Tells c.args.table.now (Update name c.args.before.now c.args.after.now) false d) (λ d f. update_tells_none c.laws_of_reads.ensures.insert c.laws_of_reads.ensures.delete c.args.table.now c.args.before.now c.args.after.now c.in_ok-old_key.old_key c.in_ok-found.found d c.requires.values c.requires.after c.in_ok-old_key.ensures f (sym c.is_row.ensures ∙ c.if-not-is_row.true)) c.in_ok-found.ensures.row
+returns-then-not-is_row-clause-tells g c = if_seen (sees g.K.Keeper.kept c.args.sites.now c.args.server) (FindsRow c.args.table.now.number c.in_ok-old_key.old_key c.in_ok-found.found) (λ d. (name : List ℕ) → Tells c.args.table.now (Update name c.args.before.now c.args.after.now) false d) (λ d f. update_tells_none c.args.table.now c.args.before.now c.args.after.now c.in_ok-old_key.old_key c.in_ok-found.found d c.requires.values c.requires.after c.in_ok-old_key.ensures f (sym c.is_row.ensures ∙ c.if-not-is_row.true)) c.in_ok-found.ensures.row
 
 pub returns-clause-ok : goal.returns-clause-ok
 returns-clause-ok g c = looks_then g.K.Keeper.kept c.args.sites.now c.find_row.new.sites c.key_is_free.new.sites c.in_ok-found.ensures.ok c.in_ok-free.ensures.ok
 
 pub returns-clause-tells : goal.returns-clause-tells
-returns-clause-tells g c = if_both_seen (sees g.K.Keeper.kept c.args.sites.now c.args.server) (FindsRow c.args.table.now.number c.in_ok-old_key.old_key c.in_ok-found.found) (HasFreeKey c.args.table.now c.in_ok-old_key.old_key c.args.after.now c.in_ok-free.free) (λ d. (name : List ℕ) → Tells c.args.table.now (Update name c.args.before.now c.args.after.now) c.in_ok-free.free d) (λ d f free. update_tells c.laws_of_reads.ensures.insert c.laws_of_reads.ensures.delete c.args.table.now c.args.before.now c.args.after.now c.in_ok-old_key.old_key c.in_ok-found.found d c.requires.values c.requires.after c.in_ok-old_key.ensures f c.in_ok-free.free (sym c.is_row.ensures ∙ c.if-not-is_row.false) free) c.in_ok-found.ensures.row (sees_back g.K.Keeper.kept c.args.sites.now c.find_row.new.sites c.args.server (HasFreeKey c.args.table.now c.in_ok-old_key.old_key c.args.after.now c.in_ok-free.free) c.in_ok-found.ensures.ok c.in_ok-free.ensures.free)
+returns-clause-tells g c = if_both_seen (sees g.K.Keeper.kept c.args.sites.now c.args.server) (FindsRow c.args.table.now.number c.in_ok-old_key.old_key c.in_ok-found.found) (HasFreeKey c.args.table.now c.in_ok-old_key.old_key c.args.after.now c.in_ok-free.free) (λ d. (name : List ℕ) → Tells c.args.table.now (Update name c.args.before.now c.args.after.now) c.in_ok-free.free d) (λ d f free. update_tells c.args.table.now c.args.before.now c.args.after.now c.in_ok-old_key.old_key c.in_ok-found.found d c.requires.values c.requires.after c.in_ok-old_key.ensures f c.in_ok-free.free (sym c.is_row.ensures ∙ c.if-not-is_row.false) free) c.in_ok-found.ensures.row (sees_back g.K.Keeper.kept c.args.sites.now c.find_row.new.sites c.args.server (HasFreeKey c.args.table.now c.in_ok-old_key.old_key c.args.after.now c.in_ok-free.free) c.in_ok-found.ensures.ok c.in_ok-free.ensures.free)

@@ -1,22 +1,14 @@
-use Rattle.std.proofs.Common.{◌≡◌, Some, refl, ap, subst, ◌∙◌}
-use Rattle.std.specs.Prelude.{Option, IfSome}
+use Rattle.std.proofs.Common.{◌≡◌, Some, refl, ap, subst, ◌∙◌, Option, IfSome}
 use Rattle.std.proofs.lemmas.Result.{err_from_is_err_and}
+use Rattle.world_store.specs.Words.{IsLogRecord, log_spelling, b64}
+use Rattle.site_store.specs.Words.{Contents, reads_of_one, RowIs, sees, needed_breaks, breaks_after, sees_on, sees_back, looks_then, if_seen, if_both_seen}
+use Rattle.repl_model.specs.Words.{Change, LogRecord}
 use Rattle.repl_types.specs.declared.area.Area.TheVariants as areas
-use Rattle.repl_types.specs.declared.record.Change.{Change}
-use Rattle.repl_types.specs.declared.record.LogRecord.{LogRecord}
 use Rattle.repl_types.specs.declared.record.LogRecord.TheVariants as records
-use Rattle.keep_core.specs.Contents.{Contents}
-use Rattle.row_codec.specs.LogRecords.{IsLogRecord, log_spelling}
-use Rattle.row_codec.specs.Spelling.{b64}
-use Rattle.site_store.specs.Calls.{reads_of_one}
-use Rattle.site_store.specs.Records.{RowIs}
-use Rattle.site_store.specs.Views.{sees}
-use Rattle.site_store.specs.one_server.laws.Damage.{needed_breaks, breaks_after}
-use Rattle.site_store.specs.one_server.laws.Reads.{sees_on, sees_back, looks_then}
-use Rattle.site_store.specs.laws.Passing.{if_seen, if_both_seen}
 use Rattle.source_log.specs.Making.{IsStepAt}
 use Rattle.source_log.specs.Rules.{rules, IsInFlight, IsLogged, IsKnown, HasTable}
 use Rattle.source_log.proofs.Strays.{other_record, IsStray}
+use Rattle.stored_commits.specs.laws.StoredRows.{typed_rows}
 use Rattle.source_log.proofs.steps.read_step.Goals as goal
 
 pub returns-in_err-logged-clause-fault : goal.returns-in_err-logged-clause-fault
@@ -72,4 +64,4 @@ returns-clause-step g c =
 pub returns-clause-can : goal.returns-clause-can
 returns-clause-can g c =
     let is : c.in_ok-logged.logged ≡ records.Change c.args.tx c.in-Some.change = subst (λ (o : Option Change). IfSome o (λ x. c.in_ok-logged.logged ≡ records.Change c.args.tx x)) c.in-Some.is c.change_of.ensures.some in
-    record { rows = c.laws_of_changes.ensures.typed c.args.tx c.in-Some.change (subst IsLogRecord is c.in_ok-logged.ensures.fits.fits); stands = c.in_ok-table.ensures.can }
+    record { rows = typed_rows c.args.tx c.in-Some.change (subst IsLogRecord is c.in_ok-logged.ensures.fits.fits); stands = c.in_ok-table.ensures.can }

@@ -1,16 +1,9 @@
-use Rattle.std.proofs.Common.{◌+◌, List, [], ◌∷◌, ◌++◌, ℕ, Some, get_or, take, sym, subst}
-use Rattle.std.specs.Prelude.{IfSome}
+use Rattle.std.proofs.Common.{◌+◌, List, [], ◌∷◌, ◌++◌, ℕ, Some, get_or, take, sym, subst, IfSome}
 use Rattle.std.specs.List.{AllByRecursion}
 use Rattle.std.proofs.lemmas.List.{take_more}
 use Rattle.std.proofs.lemmas.Result.{err_from_is_err_and}
-use Rattle.repl_types.specs.laws.Lists.{all_append}
-use Rattle.keep_core.specs.Contents.{Contents}
-use Rattle.lists.specs.laws.Members.{beside_more}
-use Rattle.repl_definitions.specs.declared.defined.DefinedTable.{DefinedTable}
-use Rattle.site_store.specs.Views.{sees}
-use Rattle.site_store.specs.one_server.laws.Damage.{breaks_after, memory_after}
-use Rattle.site_store.specs.one_server.laws.Reads.{looks_none, looks_then, sees_on, sees_back}
-use Rattle.site_store.specs.laws.Passing.{if_seen, if_both_seen, any_seen}
+use Rattle.site_store.specs.Words.{Contents, sees, breaks_after, memory_after, looks_none, looks_then, sees_on, sees_back, if_seen, if_both_seen, any_seen}
+use Rattle.repl_model.specs.Words.{all_append, beside_more, DefinedTable}
 use Rattle.stored_defs.specs.laws.Standing.{all_at_place}
 use Rattle.source_log.specs.Making.{StepCanBeMade, AreSteps, IsStepAt}
 use Rattle.source_log.specs.Rules.{rules, IsInFlight, IsKnown}

@@ -1,8 +1,6 @@
-use Rattle.std.proofs.Common.{take}
-use Rattle.std.specs.Prelude.{IfSome}
+use Rattle.std.proofs.Common.{take, IfSome}
 use Rattle.std.specs.List.{AllByRecursion}
-use Rattle.site_store.specs.Views.{sees}
-use Rattle.site_store.specs.one_server.Calls.{Looks}
+use Rattle.site_store.specs.Words.{sees, Looks}
 use Rattle.source_log.specs.Making.{StepCanBeMade, AreSteps}
 use Rattle.source_log.specs.Rules.{IsKnown}
 use Rattle.source_log.proofs.steps.read_steps.Given as goal

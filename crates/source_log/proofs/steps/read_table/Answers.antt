@@ -1,14 +1,9 @@
 use Rattle.std.proofs.Common.{List, ℕ, Some, sym, ap, ◌∙◌}
 use Rattle.std.proofs.lemmas.Result.{err_from_is_err_and}
+use Rattle.world_store.specs.Words.{short_text}
+use Rattle.site_store.specs.Words.{reads_of_one, RowIs, sees, needed_breaks, breaks_after, memory_after, looks_none, sees_on, if_seen, if_both_seen}
+use Rattle.repl_model.specs.Words.{defined_table_spelling, IsDefinedTable}
 use Rattle.repl_types.specs.declared.area.Area.TheVariants as areas
-use Rattle.row_codec.specs.Spelling.{short_text}
-use Rattle.repl_definitions.specs.Defined.{defined_table_spelling, IsDefinedTable}
-use Rattle.site_store.specs.Calls.{reads_of_one}
-use Rattle.site_store.specs.Records.{RowIs}
-use Rattle.site_store.specs.Views.{sees}
-use Rattle.site_store.specs.one_server.laws.Damage.{needed_breaks, breaks_after, memory_after}
-use Rattle.site_store.specs.one_server.laws.Reads.{looks_none, sees_on}
-use Rattle.site_store.specs.laws.Passing.{if_seen, if_both_seen}
 use Rattle.source_log.specs.Rules.{rules, IsInFlight, IsLogged}
 use Rattle.source_log.proofs.Strays.{other_table, IsStray}
 use Rattle.source_log.proofs.steps.read_table.Goals as goal

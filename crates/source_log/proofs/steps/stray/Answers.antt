@@ -1,8 +1,6 @@
+use Rattle.world_store.specs.Words.{Any, in_flight_spelling}
+use Rattle.site_store.specs.Words.{reads_of_one, get_breaks}
 use Rattle.repl_types.specs.declared.area.Area.TheVariants as areas
-use Rattle.row_codec.specs.Spelling.{Any}
-use Rattle.repl_records.specs.SourceSide.{in_flight_spelling}
-use Rattle.site_store.specs.Calls.{reads_of_one}
-use Rattle.site_store.specs.one_server.laws.Damage.{get_breaks}
 use Rattle.source_log.specs.Rules.{rules, flight_key}
 use Rattle.source_log.proofs.Strays.{stray_breaks}
 use Rattle.source_log.proofs.steps.stray.Goals as goal

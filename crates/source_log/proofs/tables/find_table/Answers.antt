@@ -1,10 +1,8 @@
 use Rattle.std.proofs.lemmas.Result.{err_from_is_err_and}
+use Rattle.world_store.specs.Words.{short_text}
+use Rattle.site_store.specs.Words.{reads_of_one, get_breaks, memory_after, looks_none}
+use Rattle.repl_model.specs.Words.{defined_table_spelling, IsDefinedTable}
 use Rattle.repl_types.specs.declared.area.Area.TheVariants as areas
-use Rattle.row_codec.specs.Spelling.{short_text}
-use Rattle.repl_definitions.specs.Defined.{defined_table_spelling, IsDefinedTable}
-use Rattle.site_store.specs.Calls.{reads_of_one}
-use Rattle.site_store.specs.one_server.laws.Damage.{get_breaks, memory_after}
-use Rattle.site_store.specs.one_server.laws.Reads.{looks_none}
 use Rattle.source_log.specs.Rules.{rules}
 use Rattle.source_log.proofs.tables.find_table.Goals as goal
 

@@ -1,13 +1,8 @@
 use Rattle.std.proofs.Common.{◌≡◌, Some, ◌∙◌, ap}
 use Rattle.std.proofs.lemmas.Result.{err_from_is_err_and}
+use Rattle.world_store.specs.Words.{log_spelling, b64}
+use Rattle.site_store.specs.Words.{Contents, put_at, Sets, writes_of_one, put_fails, write_fails_on, goes_put, goes_then}
 use Rattle.repl_types.specs.declared.area.Area.TheVariants as areas
-use Rattle.keep_core.specs.Contents.{Contents, put_at}
-use Rattle.row_codec.specs.LogRecords.{log_spelling}
-use Rattle.row_codec.specs.Spelling.{b64}
-use Rattle.site_store.specs.Works.{Sets}
-use Rattle.site_store.specs.Calls.{writes_of_one}
-use Rattle.site_store.specs.one_server.laws.Faults.{put_fails, write_fails_on}
-use Rattle.site_store.specs.one_server.laws.Steps.{goes_put, goes_then}
 use Rattle.source_log.specs.Reading.{with_dropped}
 use Rattle.source_log.proofs.taking.put_end.Goals as goal
 

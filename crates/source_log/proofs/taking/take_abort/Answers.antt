@@ -1,21 +1,16 @@
-use Rattle.std.proofs.Common.{◌≡◌, ◌+◌, ◌<◌, ℕ, List, Some, sym, ap, subst, ◌∙◌}
-use Rattle.std.proofs.lemmas.Bool.{ltb-true}
+use Rattle.std.proofs.Common.{◌≡◌, ◌+◌, ◌<◌, ℕ, List, Some, sym, ap, subst, ◌∙◌, ltb-true}
 use Rattle.std.proofs.lemmas.Result.{err_from_is_err_and}
+use Rattle.world_store.specs.Words.{IsLogRecord, log_spelling, b64, log_storable}
+use Rattle.site_store.specs.Words.{put_at, GoesOn, write_breaks_after, goes_none, saw_then}
+use Rattle.repl_model.specs.Words.{LogRecord, log_limit}
 use Rattle.repl_types.specs.declared.area.Area.TheVariants as areas
-use Rattle.repl_types.specs.declared.record.LogRecord.{LogRecord}
 use Rattle.repl_types.specs.declared.record.LogRecord.TheVariants as records
-use Rattle.keep_core.specs.Contents.{put_at}
-use Rattle.row_codec.specs.LogRecords.{IsLogRecord, log_spelling}
-use Rattle.row_codec.specs.Spelling.{b64}
-use Rattle.repl_model.specs.SoundLogs.{log_limit}
-use Rattle.site_store.specs.one_server.Calls.{GoesOn}
-use Rattle.site_store.specs.one_server.laws.Damage.{write_breaks_after}
-use Rattle.site_store.specs.one_server.laws.Steps.{goes_none, saw_then}
 use Rattle.source_log.specs.Reading.{ArePositions, with_dropped}
 use Rattle.source_log.specs.Rules.{rules}
 use Rattle.source_log.specs.Storing.{TakesRecord}
 use Rattle.source_log.specs.declared.outcome.Outcome.TheVariants as outcomes
 use Rattle.source_log.proofs.EndsTaken.{abort_full, abort_taken}
+use Rattle.row_codec.specs.LogRecords.{HasShortRows}
 use Rattle.source_log.proofs.taking.take_abort.Goals as goal
 
 pub returns-then-not-has_room-clause-ok : goal.returns-then-not-has_room-clause-ok
@@ -39,9 +34,11 @@ returns-clause-ok g c =
     let r = records.Abort tx in
     let typed : IsLogRecord r = subst IsLogRecord c.requires.is c.requires.typed in
     let room : head.last < log_limit = ltb-true head.last log_limit (sym c.has_room.ensures ∙ c.if-not-has_room.false) in
-    let logs = c.laws_of_logs.ensures in
     subst (λ (r : LogRecord). GoesOn kept s0 c.put_end.new.sites c.args.server (TakesRecord head r outcomes.Taken)) (sym c.requires.is)
     (saw_then kept s0 c.positions_of.new.sites c.put_end.new.sites c.args.server (ArePositions tx positions) (λ d e. e ≡ with_dropped tx c.as_slice.result.now (put_at d areas.Log 0 (b64 (head.last + 1)) (Some (log_spelling c.args.logged.now))))
     (TakesRecord head r outcomes.Taken) c.requires.open c.in_ok-positions.ensures.ok c.in_ok-positions.ensures.positions c.in_ok-put_end.ensures.ok
-    (λ d e found puts. abort_taken head tx d logs.log logs.flights logs.others logs.abort positions e typed found room
+    (λ d e found puts. abort_taken head tx d positions e typed found room
     (puts ∙ ap (λ (ps : List ℕ). with_dropped tx ps (put_at d areas.Log 0 (b64 (head.last + 1)) (Some (log_spelling c.args.logged.now)))) c.as_slice.ensures ∙ ap (λ (x : LogRecord). with_dropped tx positions (put_at d areas.Log 0 (b64 (head.last + 1)) (Some (log_spelling x)))) c.requires.is)))
+
+pub put_end-requires-clause-storable : goal.put_end-requires-clause-storable
+put_end-requires-clause-storable g c = log_storable c.args.logged.now c.requires.typed (subst HasShortRows (sym c.requires.is) tt)

@@ -1,24 +1,18 @@
-use Rattle.std.proofs.Common.{◌≡◌, ◌+◌, ◌<◌, ℕ, true, false, List, Some, None, refl, sym, ap, subst, ◌∙◌}
-use Rattle.std.proofs.lemmas.Bool.{ltb-true}
+use Rattle.std.proofs.Common.{◌≡◌, ◌+◌, ◌<◌, ℕ, true, false, List, Some, None, refl, sym, ap, subst, ◌∙◌, ltb-true}
 use Rattle.std.proofs.lemmas.Result.{err_from_is_err_and}
+use Rattle.world_store.specs.Words.{IsLogRecord, log_spelling, b64, short_text, in_flight_spelling, log_storable}
+use Rattle.site_store.specs.Words.{Contents, put_at, GoesOn, write_breaks_after, goes_saw, saw_then}
+use Rattle.repl_model.specs.Words.{LogRecord, DefinedTable, log_limit}
 use Rattle.repl_types.specs.declared.area.Area.TheVariants as areas
-use Rattle.repl_types.specs.declared.record.LogRecord.{LogRecord}
 use Rattle.repl_types.specs.declared.record.LogRecord.TheVariants as records
-use Rattle.keep_core.specs.Contents.{Contents, put_at}
-use Rattle.row_codec.specs.LogRecords.{IsLogRecord, log_spelling}
-use Rattle.row_codec.specs.Spelling.{b64, short_text}
-use Rattle.repl_definitions.specs.declared.defined.DefinedTable.{DefinedTable}
-use Rattle.repl_records.specs.SourceSide.{in_flight_spelling}
-use Rattle.repl_model.specs.SoundLogs.{log_limit}
-use Rattle.site_store.specs.one_server.Calls.{GoesOn}
-use Rattle.site_store.specs.one_server.laws.Damage.{write_breaks_after}
-use Rattle.site_store.specs.one_server.laws.Steps.{goes_saw, saw_then}
 use Rattle.source_log.specs.Fitting.{may_stand}
 use Rattle.source_log.specs.Rules.{rules, flight_key, HasTable, IsKnown, IsTableAt}
 use Rattle.source_log.specs.Storing.{TakesRecord, TakesKnowing}
 use Rattle.source_log.specs.declared.outcome.Outcome.TheVariants as outcomes
 use Rattle.source_log.proofs.ChangesTaken.{change_unknown, change_unfit, change_full, change_taken}
 use Rattle.source_log.proofs.KnownTables.{known_of, known_stays}
+use Rattle.source_log.proofs.MayStand.{short_record}
+use Rattle.row_codec.specs.LogRecords.{HasShortRows}
 use Rattle.source_log.proofs.taking.take_change.Goals as goal
 
 pub returns-in_default-clause-ok : goal.returns-in_default-clause-ok
@@ -84,12 +78,18 @@ returns-clause-ok g c =
     let N = λ (d : Contents). IsKnown known d → IsTableAt name (Some table) d in
     let typed : IsLogRecord r = subst IsLogRecord c.requires.is c.requires.typed in
     let room : head.last < log_limit = ltb-true head.last log_limit (sym c.has_room.ensures ∙ c.if-not-has_room.false) in
-    let logs = c.laws_of_logs.ensures in
     subst (λ (r : LogRecord). GoesOn kept s0 c.put_change.new.sites c.args.server (TakesKnowing known (Some table) head r outcomes.Taken)) (sym c.requires.is)
     (saw_then kept s0 s1 c.put_change.new.sites c.args.server N (λ d e. e ≡ put_at (put_at d areas.Log 0 (b64 (head.last + 1)) (Some (log_spelling c.args.logged.now))) areas.Inflight 0 (flight_key c.args.tx (head.last + 1)) (Some (in_flight_spelling (record {}))))
     (TakesKnowing known (Some table) head r outcomes.Taken) c.requires.open c.in_ok-found.ensures.ok (rw c.in-Some.is at c.in_ok-found.ensures.table) c.in_ok-put_change.ensures.ok
     (λ d e at puts. λ k.
     let has : HasTable d change table = record { stands = ap (λ (n : List ℕ). d areas.Defs 0 (short_text n)) (sym c.table_of.ensures) ∙ (at k).0; fits = (at k).1; may = subst (λ (t : DefinedTable). may_stand t.def change ≡ true) c.get.ensures (sym c.in_ok-may_stand.ensures ∙ c.if-not-branch.false) } in
-    let takes : TakesRecord head r outcomes.Taken d e = change_taken head c.args.tx change d logs.log logs.in_flight logs.change table e typed has room
+    let takes : TakesRecord head r outcomes.Taken d e = change_taken head c.args.tx change d table e typed has room
     (puts ∙ ap (λ (x : LogRecord). put_at (put_at d areas.Log 0 (b64 (head.last + 1)) (Some (log_spelling x))) areas.Inflight 0 (flight_key c.args.tx (head.last + 1)) (Some (in_flight_spelling (record {})))) c.requires.is) in
     (takes, known_stays (Some table) d e (takes.others areas.Defs 0 refl) (known_of change table d has))))
+
+pub put_change-requires-clause-storable : goal.put_change-requires-clause-storable
+put_change-requires-clause-storable g c =
+    let table = c.in-Some.table in
+    let change = c.args.change.now in
+    let may = subst (λ (t : DefinedTable). may_stand t.def change ≡ true) c.get.ensures (sym c.in_ok-may_stand.ensures ∙ c.if-not-branch.false) in
+    log_storable c.args.logged.now c.requires.typed (subst HasShortRows (sym c.requires.is) (short_record table.def c.args.tx change may))

@@ -1,19 +1,9 @@
-use Rattle.std.proofs.Common.{◌≡◌, ◌+◌, ◌<◌, ℕ, List, Some, refl, sym, ap, subst, ◌∙◌, arith}
-use Rattle.std.specs.Prelude.{IfSome}
-use Rattle.std.proofs.lemmas.Bool.{ltb-true}
+use Rattle.std.proofs.Common.{◌≡◌, ◌+◌, ◌<◌, ℕ, List, Some, refl, sym, ap, subst, ◌∙◌, arith, IfSome, ltb-true}
 use Rattle.std.proofs.lemmas.Result.{err_from_is_err_and}
+use Rattle.world_store.specs.Words.{log_spelling, b64, log_storable}
+use Rattle.site_store.specs.Words.{Contents, put_at, sees, GoesOn, breaks_after, write_breaks_after, write_fails_on, looks_then, sees_back, goes_none, goes_then, saw_then, if_both_seen}
+use Rattle.repl_model.specs.Words.{log_limit}
 use Rattle.repl_types.specs.declared.area.Area.TheVariants as areas
-use Rattle.keep_core.specs.Contents.{Contents, put_at}
-use Rattle.row_codec.specs.LogRecords.{log_spelling}
-use Rattle.row_codec.specs.Spelling.{b64}
-use Rattle.repl_model.specs.SoundLogs.{log_limit}
-use Rattle.site_store.specs.Views.{sees}
-use Rattle.site_store.specs.one_server.Calls.{GoesOn}
-use Rattle.site_store.specs.one_server.laws.Damage.{breaks_after, write_breaks_after}
-use Rattle.site_store.specs.one_server.laws.Faults.{write_fails_on}
-use Rattle.site_store.specs.one_server.laws.Reads.{looks_then, sees_back}
-use Rattle.site_store.specs.one_server.laws.Steps.{goes_none, goes_then, saw_then}
-use Rattle.site_store.specs.laws.Passing.{if_both_seen}
 use Rattle.source_log.specs.Making.{MakesAll, AreSteps}
 use Rattle.source_log.specs.Reading.{ArePositions, with_dropped}
 use Rattle.source_log.specs.Rules.{rules, IsKnown}
@@ -24,6 +14,7 @@ use Rattle.source_log.specs.declared.step.Step.{Step}
 use Rattle.source_log.proofs.Commits.{commit_stays, commit_made}
 use Rattle.source_log.proofs.EndsTaken.{commit_late}
 use Rattle.source_log.proofs.KnownTables.{known_stays}
+use Rattle.source_log.proofs.MayStand.{commit_short}
 use Rattle.source_log.proofs.taking.take_commit.Goals as goal
 
 pub returns-then-time-head-clause-ok : goal.returns-then-time-head-clause-ok
@@ -62,11 +53,10 @@ returns-in_default-clause-ok g c =
     let A = λ (ps : List ℕ) (d : Contents). IsKnown before d → AreSteps tx ps steps d × IsKnown now d in
     let saw : IfSome (sees kept s0 server) N = if_both_seen (sees kept s0 server) (ArePositions tx positions) (A c.as_slice.result.now) N (λ d f a. (f, subst (λ (ps : List ℕ). A ps d) c.as_slice.ensures a)) c.in_ok-positions.ensures.positions (sees_back kept s0 s1 server (A c.as_slice.result.now) c.in_ok-positions.ensures.ok c.in_ok-steps.ensures.steps) in
     let outcome = c.in_ok-outcome.outcome in
-    let logs = c.laws_of_logs.ensures in
     let made : GoesOn kept s2 s3 server (MakesAll steps room outcome) = subst (λ (l : List Step). GoesOn kept s2 s3 server (MakesAll l room outcome)) c.as_slice-2.ensures c.in_ok-outcome.ensures.ok in
     saw_then kept s0 s2 s3 server N (MakesAll steps room outcome) (TakesKnowing before now head logged outcome) c.requires.open looks saw made (λ d e n m. λ k.
     let read = n.1 k in
-    let takes = commit_stays logs.flights logs.positions logs.stored logs.stand logs.tables head tx c.args.time logged c.requires.is positions steps c.in_ok-steps.ensures.can (omega (arith, c.if-time-head.false)) room d n.0 read.0 outcome e c.in_default.not-Taken c.has_room.ensures m in
+    let takes = commit_stays head tx c.args.time logged c.requires.is positions steps c.in_ok-steps.ensures.can (omega (arith, c.if-time-head.false)) room d n.0 read.0 outcome e c.in_default.not-Taken c.has_room.ensures m in
     (takes, known_stays now d e (takes.others areas.Defs 0 refl) read.1))
 
 pub returns-in_default-clause-room : goal.returns-in_default-clause-room
@@ -110,8 +100,6 @@ returns-clause-ok g c =
     let A = λ (ps : List ℕ) (d : Contents). IsKnown before d → AreSteps tx ps steps d × IsKnown now d in
     let saw : IfSome (sees kept s0 server) N = if_both_seen (sees kept s0 server) (ArePositions tx positions) (A c.as_slice.result.now) N (λ d f a. (f, subst (λ (ps : List ℕ). A ps d) c.as_slice.ensures a)) c.in_ok-positions.ensures.positions (sees_back kept s0 s1 server (A c.as_slice.result.now) c.in_ok-positions.ensures.ok c.in_ok-steps.ensures.steps) in
     let s4 = c.put_end.new.sites in
-    let logs = c.laws_of_logs.ensures in
-    let turns = c.laws_of_turns.ensures in
     let short : head.last < log_limit = ltb-true head.last log_limit (sym c.has_room.ensures ∙ c.in_ok-outcome.ensures.room c.in-Taken.is) in
     let made : GoesOn kept s2 s3 server (MakesAll steps room outcomes.Taken) = subst (λ (l : List Step). GoesOn kept s2 s3 server (MakesAll l room outcomes.Taken)) c.as_slice-2.ensures (subst (λ (o : Outcome). GoesOn kept s2 s3 server (MakesAll c.as_slice-2.result.now room o)) c.in-Taken.is c.in_ok-outcome.ensures.ok) in
     let P = λ (d e : Contents). N d × MakesAll steps room outcomes.Taken d e in
@@ -119,9 +107,12 @@ returns-clause-ok g c =
     let Q = λ (d e : Contents). e ≡ with_dropped tx c.as_slice-3.result.now (put_at d areas.Log 0 (b64 (head.last + 1)) (Some (log_spelling logged))) in
     goes_then kept s0 s3 s4 server P Q (TakesKnowing before now head logged outcomes.Taken) c.requires.open goes c.in_ok-put_end.ensures.ok (λ d e f p q. λ k.
     let read = p.0.1 k in
-    let takes = commit_made logs.flights logs.positions logs.stored logs.stand logs.tables head tx c.args.time logged c.requires.is positions steps c.in_ok-steps.ensures.can (omega (arith, c.if-time-head.false)) room d p.0.0 read.0 logs.log logs.others turns.stored turns.stand logs.commit e f c.requires.typed short p.1
+    let takes = commit_made head tx c.args.time logged c.requires.is positions steps c.in_ok-steps.ensures.can (omega (arith, c.if-time-head.false)) room d p.0.0 read.0 e f c.requires.typed short p.1
     (q ∙ ap (λ (ps : List ℕ). with_dropped tx ps (put_at e areas.Log 0 (b64 (head.last + 1)) (Some (log_spelling logged)))) c.as_slice-3.ensures) in
     (takes, known_stays now d f (takes.others areas.Defs 0 refl) read.1))
 
 pub returns-clause-room : goal.returns-clause-room
 returns-clause-room g c = λ is. ltb-true c.args.head.now.last log_limit (sym c.has_room.ensures ∙ c.in_ok-outcome.ensures.room c.in-Taken.is)
+
+pub put_end-requires-clause-storable : goal.put_end-requires-clause-storable
+put_end-requires-clause-storable g c = log_storable c.args.logged.now c.requires.typed (commit_short c.args.tx c.args.time c.args.logged.now c.requires.is)

@@ -1,12 +1,9 @@
 use Rattle.std.proofs.Common.{◌≡◌, ℕ, List, ◌∷◌, [], Some, inl, inr, refl, sym, ap, ◌∙◌}
 use Rattle.std.proofs.lemmas.Result.{err_from_is_err_and}
+use Rattle.world_store.specs.Words.{short_text}
+use Rattle.site_store.specs.Words.{reads_of_one, RowIs, write_breaks_after, goes_none, saw_then}
+use Rattle.repl_model.specs.Words.{defined_table_spelling}
 use Rattle.repl_types.specs.declared.area.Area.TheVariants as areas
-use Rattle.row_codec.specs.Spelling.{short_text}
-use Rattle.repl_definitions.specs.Defined.{defined_table_spelling}
-use Rattle.site_store.specs.Calls.{reads_of_one}
-use Rattle.site_store.specs.Records.{RowIs}
-use Rattle.site_store.specs.one_server.laws.Damage.{write_breaks_after}
-use Rattle.site_store.specs.one_server.laws.Steps.{goes_none, saw_then}
 use Rattle.source_log.specs.Making.{with_made}
 use Rattle.source_log.specs.Units.{MakesOwn, table_rules}
 use Rattle.source_log.proofs.UnitTables.{table_fails, table_is_bad}

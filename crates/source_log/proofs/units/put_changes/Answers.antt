@@ -1,11 +1,9 @@
 use Rattle.std.proofs.Common.{◌≡◌, ◌+◌, ℕ, List, ◌∷◌, [], ◌++◌, take, length, refl, sym, ap, subst, ◌∙◌, arith}
 use Rattle.std.proofs.lemmas.List.{take_more, length-take-le}
 use Rattle.std.proofs.lemmas.Result.{err_from_is_err_and}
+use Rattle.site_store.specs.Words.{breaks_on, goes_none, goes_then}
+use Rattle.repl_model.specs.Words.{Placed, In}
 use Rattle.repl_types.specs.declared.area.Area.TheVariants as areas
-use Rattle.repl_types.specs.declared.unit.Placed.{Placed}
-use Rattle.lists.specs.laws.Members.{In}
-use Rattle.site_store.specs.one_server.laws.Damage.{breaks_on}
-use Rattle.site_store.specs.one_server.laws.Steps.{goes_none, goes_then}
 use Rattle.stored_defs.specs.laws.Standing.{all_at_place}
 use Rattle.source_log.specs.Units.{own_change, MayBePut, PutsOwn, PutsChanges, table_rules}
 use Rattle.source_log.proofs.Grown.{in_at}
@@ -14,7 +12,7 @@ use Rattle.source_log.proofs.UnitTables.{tables_shown, bad_of_some}
 use Rattle.source_log.proofs.units.put_changes.Goals as goal
 
 pub changes-init : goal.changes-init
-changes-init g c = goes_none g.K.Keeper.kept c.args.sites.now c.args.server (PutsChanges c.args.last []) c.requires.open (puts_none c.laws_of_logs.ensures.stand c.args.last)
+changes-init g c = goes_none g.K.Keeper.kept c.args.sites.now c.args.server (PutsChanges c.args.last []) c.requires.open (puts_none c.args.last)
 
 pub returns-in_err-put_own-clause-fault : goal.returns-in_err-put_own-clause-fault
 returns-in_err-put_own-clause-fault g c =
@@ -34,8 +32,6 @@ returns-in_err-put_own-clause-fault g c =
 pub changes-preserved : goal.changes-preserved
 changes-preserved g c =
     let kept = g.K.Keeper.kept in
-    let logs = c.laws_of_logs.ensures in
-    let turns = c.laws_of_turns.ensures in
     let last = c.args.last in
     let changes = c.args.changes.now in
     let n = c.changes.done in
@@ -47,4 +43,4 @@ changes-preserved g c =
     let may : MayBePut (own_change placed) = subst (λ (q : Placed). MayBePut (own_change q)) (sym is) (all_at_place (λ (q : Placed). MayBePut (own_change q)) changes n placed c.requires.records lt) in
     goes_then kept c.args.sites.now c.changes.sites c.put_own.new.sites c.args.server (PutsChanges last (take n changes)) (PutsOwn (last + n + 1) placed) (PutsChanges last (take (n + 1) changes)) c.requires.open c.changes.invariant c.in_ok-put_own.ensures.ok
     (λ d e f puts own. subst (λ (l : List Placed). PutsChanges last l d f) more
-    (puts_more logs.log logs.tables turns.stored turns.stand c.laws_of_changes.ensures.typed last (take n changes) placed may (omega (arith, count, lt, c.requires.room)) d e f puts (subst (λ (m : ℕ). PutsOwn (last + m + 1) placed e f) (sym count) own)))
+    (puts_more last (take n changes) placed may (omega (arith, count, lt, c.requires.room)) d e f puts (subst (λ (m : ℕ). PutsOwn (last + m + 1) placed e f) (sym count) own)))

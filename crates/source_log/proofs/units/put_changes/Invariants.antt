@@ -1,5 +1,5 @@
 use Rattle.std.proofs.Common.{take}
-use Rattle.site_store.specs.one_server.Calls.{GoesOn}
+use Rattle.site_store.specs.Words.{GoesOn}
 use Rattle.source_log.specs.Units.{PutsChanges}
 use Rattle.source_log.proofs.units.put_changes.Given as goal
 

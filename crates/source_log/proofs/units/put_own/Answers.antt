@@ -1,14 +1,9 @@
 use Rattle.std.proofs.Common.{◌∷◌, [], Some, ap, subst, ◌∙◌}
 use Rattle.std.proofs.lemmas.Result.{err_from_is_err_and}
+use Rattle.world_store.specs.Words.{log_spelling, b64}
+use Rattle.site_store.specs.Words.{Contents, put_at, Sets, breaks_on, no_memory, goes_put, goes_then}
+use Rattle.repl_model.specs.Words.{LogRecord}
 use Rattle.repl_types.specs.declared.area.Area.TheVariants as areas
-use Rattle.repl_types.specs.declared.record.LogRecord.{LogRecord}
-use Rattle.keep_core.specs.Contents.{Contents, put_at}
-use Rattle.row_codec.specs.LogRecords.{log_spelling}
-use Rattle.row_codec.specs.Spelling.{b64}
-use Rattle.site_store.specs.Works.{Sets}
-use Rattle.site_store.specs.one_server.laws.Damage.{breaks_on}
-use Rattle.site_store.specs.one_server.laws.Faults.{no_memory}
-use Rattle.site_store.specs.one_server.laws.Steps.{goes_put, goes_then}
 use Rattle.source_log.specs.Units.{MakesOwn, PutsOwn, ShowsBadTable, table_rules}
 use Rattle.source_log.proofs.UnitTables.{tables_shown}
 use Rattle.source_log.proofs.units.put_own.Goals as goal

@@ -1,15 +1,10 @@
-use Rattle.std.proofs.Common.{◌≡◌, ◌+◌, ◌<◌, List, None, length, false, refl, sym, ap, subst, ◌∙◌, arith}
-use Rattle.std.specs.Prelude.{nat_le}
+use Rattle.std.proofs.Common.{◌≡◌, ◌+◌, ◌<◌, List, None, length, false, refl, sym, ap, subst, ◌∙◌, arith, nat_le, leb-true}
 use Rattle.std.specs.List.{AllByRecursion}
-use Rattle.std.proofs.lemmas.Bool.{leb-true}
 use Rattle.std.proofs.lemmas.Result.{err_from_is_err_and}
+use Rattle.world_store.specs.Words.{b64}
+use Rattle.site_store.specs.Words.{Contents, IsLastKey, Stops, goes_saw, goes_then, saw_then, looks_open}
+use Rattle.repl_model.specs.Words.{Placed, log_limit}
 use Rattle.repl_types.specs.declared.area.Area.TheVariants as areas
-use Rattle.repl_types.specs.declared.unit.Placed.{Placed}
-use Rattle.keep_core.specs.Contents.{Contents, IsLastKey}
-use Rattle.row_codec.specs.Spelling.{b64}
-use Rattle.repl_model.specs.SoundLogs.{log_limit}
-use Rattle.site_store.specs.one_server.Calls.{Stops}
-use Rattle.site_store.specs.one_server.laws.Steps.{goes_saw, goes_then, saw_then, looks_open}
 use Rattle.source_log.specs.Rules.{EndIs}
 use Rattle.source_log.specs.Units.{own_change, MayBePut, PutsChanges, PutsCommit, AppendsIfRoom, AppendsUnit, ShowsBadTable}
 use Rattle.source_log.proofs.UnitTables.{unit_end_fails, unit_tables_fail, unit_commit_fails}
@@ -27,7 +22,7 @@ returns-then-not-has_room_for-clause-ok g c =
     let unit = c.args.unit.now in
     let full : nat_le (head.last + length unit.changes + 1) log_limit ≡ false = ap (λ (l : List Placed). nat_le (head.last + length l + 1) log_limit) (sym c.as_slice-changes.ensures) ∙ sym c.has_room_for.ensures ∙ c.if-not-has_room_for.true in
     goes_saw g.K.Keeper.kept c.args.sites.now c.read_end.new.sites c.args.server (λ d. EndIs head d × IsLastKey (d areas.Log 0) (b64 head.last)) (AppendsIfRoom unit None) c.requires.open c.in_ok-head.ensures.ok c.in_ok-head.ensures.end
-    (λ d n. (refl, no_room c.laws_of_worlds.ensures.fits unit d head c.in_ok-head.ensures.fits n.0 full))
+    (λ d n. (refl, no_room unit d head c.in_ok-head.ensures.fits n.0 full))
 
 pub put_changes-requires-clause-records : goal.put_changes-requires-clause-records
 put_changes-requires-clause-records g c = subst (AllByRecursion (λ placed. MayBePut (own_change placed))) (sym c.as_slice-changes.ensures) (changes_may c.args.unit.now c.requires.records)
@@ -60,9 +55,6 @@ returns-clause-ok g c =
     let server = c.args.server in
     let head = c.in_ok-head.head in
     let unit = c.args.unit.now in
-    let logs = c.laws_of_logs.ensures in
-    let worlds = c.laws_of_worlds.ensures in
-    let units = c.laws_of_units.ensures in
     let slice = c.as_slice-changes.result.now in
     let same = c.as_slice-changes.ensures in
     let fit = leb-true (head.last + length slice + 1) log_limit (sym c.has_room_for.ensures ∙ c.if-not-has_room_for.false) in
@@ -70,4 +62,4 @@ returns-clause-ok g c =
     let puts = goes_then kept s1 s2 s3 server (PutsChanges head.last slice) (PutsCommit (head.last + length slice + 1) unit.head) (Q slice) (looks_open kept s0 s1 server c.requires.open c.in_ok-head.ensures.ok) c.in_ok-put_changes.ensures.ok c.in_ok-put_commit.ensures.ok (λ d m f p q. (m, p, q)) in
     saw_then kept s0 s1 s3 server (λ d. EndIs head d × IsLastKey (d areas.Log 0) (b64 head.last)) (Q slice) (AppendsUnit unit (head.last + length slice + 1)) c.requires.open c.in_ok-head.ensures.ok c.in_ok-head.ensures.end puts
     (λ d f n q. subst (λ (l : List Placed). head.last + length l < log_limit → Q l d f → AppendsUnit unit (head.last + length l + 1) d f) (sym same)
-    (λ room r. unit_appended logs.log logs.rows worlds.goes_on worlds.fits units.opens units.closes units.leaves logs.commit unit head c.in_ok-head.ensures.fits d r.0 f n.0 room r.1 r.2) (omega (arith, fit)) q)
+    (λ room r. unit_appended unit head c.in_ok-head.ensures.fits d r.0 f n.0 room r.1 r.2) (omega (arith, fit)) q)

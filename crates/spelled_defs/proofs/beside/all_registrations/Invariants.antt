@@ -1,6 +1,4 @@
-use Rattle.std.proofs.Common.{◌≡◌, ◌++◌, drop}
-use Rattle.std.specs.Prelude.{filter}
-use Rattle.std.specs.List.{filter_map}
+use Rattle.std.proofs.Common.{◌≡◌, ◌++◌, drop, filter, filter_map}
 use Rattle.spelled_defs.specs.Spelled.{spelled_registration}
 use Rattle.spelled_defs.specs.Context.{is_other_registration}
 use Rattle.spelled_defs.proofs.beside.all_registrations.Given as goal

@@ -1,5 +1,4 @@
-use Rattle.std.proofs.Common.{◌≡◌, ◌++◌, drop}
-use Rattle.std.specs.List.{filter_map}
+use Rattle.std.proofs.Common.{◌≡◌, ◌++◌, drop, filter_map}
 use Rattle.spelled_defs.specs.Spelled.{column_place}
 use Rattle.spelled_defs.proofs.columns.column_places.Given as goal
 

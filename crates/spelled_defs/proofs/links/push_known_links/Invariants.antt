@@ -1,6 +1,4 @@
-use Rattle.std.proofs.Common.{◌≡◌, ◌++◌, drop}
-use Rattle.std.specs.Prelude.{filter}
-use Rattle.std.specs.List.{flat_map}
+use Rattle.std.proofs.Common.{◌≡◌, ◌++◌, drop, filter, flat_map}
 use Rattle.spelled_defs.specs.Context.{links_of_set, is_other_set}
 use Rattle.spelled_defs.proofs.links.push_known_links.Given as goal
 

@@ -1,5 +1,4 @@
-use Rattle.std.proofs.Common.{◌≡◌, ◌++◌, drop}
-use Rattle.std.specs.List.{flat_map}
+use Rattle.std.proofs.Common.{◌≡◌, ◌++◌, drop, flat_map}
 use Rattle.spelled_defs.specs.Context.{links_of_item}
 use Rattle.spelled_defs.proofs.links.push_text_links.Given as goal
 

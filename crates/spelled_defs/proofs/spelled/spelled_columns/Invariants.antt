@@ -1,5 +1,4 @@
-use Rattle.std.proofs.Common.{◌≡◌, ◌++◌, drop}
-use Rattle.std.specs.List.{filter_map}
+use Rattle.std.proofs.Common.{◌≡◌, ◌++◌, drop, filter_map}
 use Rattle.spelled_defs.specs.Spelled.{spelled_column}
 use Rattle.spelled_defs.proofs.spelled.spelled_columns.Given as goal
 

@@ -1,5 +1,4 @@
-use Rattle.std.proofs.Common.{◌≡◌, ◌++◌, drop}
-use Rattle.std.specs.List.{filter_map}
+use Rattle.std.proofs.Common.{◌≡◌, ◌++◌, drop, filter_map}
 use Rattle.spelled_defs.specs.Spelled.{spelled_member_at}
 use Rattle.spelled_defs.proofs.spelled.spelled_members.Given as goal
 

@@ -1,5 +1,4 @@
-use Rattle.std.proofs.Common.{◌≡◌, ◌∙◌, sym, [], map, string_bytes, refl}
-use Rattle.std.proofs.lemmas.Bool.{true≢false}
+use Rattle.std.proofs.Common.{◌≡◌, ◌∙◌, sym, [], map, string_bytes, refl, true≢false}
 use Rattle.clap.specs.Kinds.{HasKind}
 use Rattle.clap.specs.Simple.{app_of}
 use Rattle.sqlrep.proofs.Asked.{of_sqlrep, nothing_asked, no_mistake, no_text}

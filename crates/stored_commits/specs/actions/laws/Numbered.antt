@@ -1,10 +1,7 @@
 -- Rows under the numbers of the things that they are made of.
-use Rattle.std.proofs.Common.{◌≡◌, ℕ, ◌+◌, ◌^◌, List, [], ◌∷◌, map, refl}
+use Rattle.std.proofs.Common.{◌≡◌, ℕ, ◌+◌, ◌^◌, List, [], ◌∷◌, map, refl, nat_cmp}
 use Rattle.std.specs.List.{enumerate_from}
-use Rattle.std.specs.Ordering.{nat_cmp}
-use Rattle.row_codec.specs.Spelling.{Is32, Is64, b32, b64}
-use Rattle.row_codec.specs.laws.Orders.{whole_order, order32, order64}
-use Rattle.rows_in_order.specs.Numbers.{SpellsInOrder}
+use Rattle.world_store.specs.Words.{Is32, Is64, b32, b64, whole_order, order32, order64, SpellsInOrder}
 
 -- numbers of four bytes are in order
 pub small_in_order : SpellsInOrder b32 (2 ^ 32)

@@ -1,15 +1,9 @@
 -- What sets copy from stays if servers get other rows for their sets.
-use Rattle.std.proofs.Common.{◌≡◌, ℕ, Bool, true, false, cond, List, map, Option, Some, None, refl, ap, ◌∙◌}
+use Rattle.std.proofs.Common.{◌≡◌, ℕ, Bool, true, false, cond, List, map, Option, Some, None, refl, ap, ◌∙◌, bytes_eq}
 use Rattle.std.specs.Option.{option_map, option_map_or, option_and_then}
-use Rattle.std.specs.Str.{bytes_eq}
 use Rattle.std.proofs.Math.Path.{fun_ext}
-use Rattle.repl_definitions.specs.declared.member.Member.{Member}
-use Rattle.repl_definitions.specs.declared.set.SetDef.{SetDef}
-use Rattle.repl_model.specs.SourceAt.{time_at}
-use Rattle.repl_model.specs.World.{SourceSide, TargetSide, Server, World, source_named, server_named}
-use Rattle.repl_model.specs.AfterActions.{with_server}
-use Rattle.world_store.specs.TargetRows.{source_of, source_time}
-use Rattle.lists.specs.laws.Members.{find_image}
+use Rattle.world_store.specs.Words.{source_of, source_time}
+use Rattle.repl_model.specs.Words.{Member, SetDef, time_at, SourceSide, TargetSide, Server, World, source_named, server_named, with_server, find_image}
 
 -- a server with other rows for its sets
 abbrev pub with_sets : (Server → List SourceSide) → (Server → List TargetSide) → Server → Server

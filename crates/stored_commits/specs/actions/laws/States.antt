@@ -1,16 +1,10 @@
 -- The state of a read-only set after a refresh, and after a block.
-use Rattle.std.proofs.Common.{◌≡◌, ℕ, ◌+◌, Bool, true, false, cond, not, [], ◌∷◌, ◌++◌, length, Option, ap, ◌∙◌, arith}
+use Rattle.std.proofs.Common.{◌≡◌, ℕ, ◌+◌, Bool, true, false, cond, not, [], ◌∷◌, ◌++◌, length, Option, ap, ◌∙◌, arith, length-append}
 use Rattle.std.proofs.lemmas.Bool.{lt-ltb, not-true}
-use Rattle.std.proofs.lemmas.List.{length-append}
 use Rattle.std.proofs.lemmas.List.Sums.{fold-append}
+use Rattle.world_store.specs.Words.{has_points, source_time, state_of}
+use Rattle.repl_model.specs.Words.{Entry, Trail, refresh, block, point_after, synchpoint, base_after, base_of, replica_point, TargetSide, World, KnownSet, known_sets, is_replica_set, read_only_sets, with_entry, refreshed, In, in_filter}
 use Rattle.repl_records.specs.declared.set_state.SetState.TheVariants as states
-use Rattle.repl_model.specs.Trails.{Entry, Trail, refresh, block, point_after, synchpoint, base_after, base_of, replica_point}
-use Rattle.repl_model.specs.World.{TargetSide, World, KnownSet, known_sets}
-use Rattle.repl_model.specs.Rules.{is_replica_set}
-use Rattle.repl_model.specs.SoundDefinitions.{read_only_sets}
-use Rattle.repl_model.specs.AfterActions.{with_entry, refreshed}
-use Rattle.world_store.specs.TargetRows.{has_points, source_time, state_of}
-use Rattle.lists.specs.laws.Members.{In, in_filter}
 use Rattle.stored_commits.specs.actions.ActedServers.{with_step, with_refresh}
 use Rattle.stored_commits.specs.actions.StoredSteps.{refreshed_state, block_state}
 use Rattle.stored_commits.specs.actions.laws.Sources.{time_stays}

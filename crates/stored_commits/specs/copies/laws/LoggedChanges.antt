@@ -1,27 +1,15 @@
 -- The changes of a log's units: what holds of each change of the log holds of them, and those of a sound log fit
 -- their tables.
-use Rattle.std.proofs.Common.{◌≡◌, ℕ, ◌+◌, Bool, true, false, cond, ◌&&◌, ◌||◌, List, [], ◌∷◌, map, Option, Some, None, inl, inr, sym, ap, ◌∙◌}
+use Rattle.std.proofs.Common.{◌≡◌, ℕ, ◌+◌, Bool, true, false, cond, ◌&&◌, ◌||◌, List, [], ◌∷◌, map, Option, Some, None, inl, inr, sym, ap, ◌∙◌, bytes_eq}
 use Rattle.std.specs.Prelude.{◌==◌, nat_lt, filter, IfSome, IsTrue, ⊤}
 use Rattle.std.specs.List.{AllByRecursion, enumerate_from, list_any}
 use Rattle.std.specs.Option.{option_map_or}
-use Rattle.std.specs.Str.{bytes_eq}
 use Rattle.std.proofs.lemmas.Bool.{and_parts, or_cases, or_left, or_right}
-use Rattle.repl_types.specs.laws.Lists.{all_weaker, all_filter}
-use Rattle.repl_types.specs.declared.record.Change.{Change}
-use Rattle.repl_types.specs.declared.record.LogRecord.{LogRecord}
+use Rattle.world_store.specs.Words.{IsLogRecord}
+use Rattle.repl_model.specs.Words.{all_weaker, all_filter, Change, LogRecord, TableDef, Placed, Unit, table_named, change_fits, is_change_applicable, is_signal, is_signal_applicable, LogIsSound, record_fits, table_of, At, positions, last_end, change_of, changes_up_to, unit_at, units, Server, tables_of, registered_of, at_each, at_one, each_given, same_name}
 use Rattle.repl_types.specs.declared.record.LogRecord.TheVariants as records
-use Rattle.repl_types.specs.declared.table.TableDef.{TableDef}
-use Rattle.repl_types.specs.declared.unit.Placed.{Placed}
-use Rattle.repl_types.specs.declared.unit.Unit.{Unit}
-use Rattle.row_codec.specs.LogRecords.{IsLogRecord}
-use Rattle.repl_model.specs.Applicable.{table_named, change_fits, is_change_applicable, is_signal, is_signal_applicable}
-use Rattle.repl_model.specs.SoundLogs.{LogIsSound, record_fits}
-use Rattle.repl_model.specs.Tables.{table_of}
-use Rattle.repl_model.specs.Units.{At, positions, last_end, change_of, changes_up_to, unit_at, units}
-use Rattle.repl_model.specs.World.{Server, tables_of, registered_of}
-use Rattle.lists.specs.laws.Members.{at_each, at_one, each_given}
-use Rattle.repl_model.specs.laws.GrowingServers.{same_name}
-use Rattle.stored_commits.specs.records.SourceTables.{HasRows, TypedChangesHaveRows, Suits}
+use Rattle.stored_commits.specs.records.SourceTables.{HasRows, Suits}
+use Rattle.stored_commits.specs.laws.StoredRows.{typed_rows}
 
 module _ (P : Change → Type 0) where
   -- it holds of a record's change, if the record is one
@@ -85,11 +73,11 @@ abbrev pub Fits : TableDef → Change → Type 0
 Fits def change = HasRows change × Suits def change
 
 -- so has that of a record of a sound log, if the table is one that is found by its name
-record_has : TypedChangesHaveRows → (server : Server) (def : TableDef) → table_named def.name (tables_of server) ≡ Some def → (r : LogRecord) → IsLogRecord r → IsTrue (record_fits server r) → RecordHas (Fits def) r
-record_has typed server def found (records.Change tx change) is fit = (typed tx change is, change_suits server def (tx == 0) change found fit)
-record_has typed server def found (records.Commit tx time authid origin) is fit = tt
-record_has typed server def found (records.Abort tx) is fit = tt
+record_has : (server : Server) (def : TableDef) → table_named def.name (tables_of server) ≡ Some def → (r : LogRecord) → IsLogRecord r → IsTrue (record_fits server r) → RecordHas (Fits def) r
+record_has server def found (records.Change tx change) is fit = (typed_rows tx change is, change_suits server def (tx == 0) change found fit)
+record_has server def found (records.Commit tx time authid origin) is fit = tt
+record_has server def found (records.Abort tx) is fit = tt
 
 -- and each change of the units of a sound log
-pub units_fit : TypedChangesHaveRows → (server : Server) (def : TableDef) → LogIsSound server → table_named def.name (tables_of server) ≡ Some def → AllByRecursion (UnitHas (Fits def)) (units server.log)
-units_fit typed server def sound found = units_have (Fits def) server.log (at_each (RecordHas (Fits def)) server.log (λ r j. record_has typed server def found r (at_one IsLogRecord server.log r sound.typed j) (at_one (λ s. IsTrue (record_fits server s)) server.log r sound.fits j)))
+pub units_fit : (server : Server) (def : TableDef) → LogIsSound server → table_named def.name (tables_of server) ≡ Some def → AllByRecursion (UnitHas (Fits def)) (units server.log)
+units_fit server def sound found = units_have (Fits def) server.log (at_each (RecordHas (Fits def)) server.log (λ r j. record_has server def found r (at_one IsLogRecord server.log r sound.typed j) (at_one (λ s. IsTrue (record_fits server s)) server.log r sound.fits j)))

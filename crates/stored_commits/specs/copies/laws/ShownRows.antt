@@ -1,17 +1,9 @@
 -- What the after-images of a change row show of the row that they are of: its registered columns, and its key.
-use Rattle.std.proofs.Common.{◌≡◌, ℕ, zero, suc, ◌+◌, ◌≤◌, ◌<◌, Bool, true, false, cond, not, ◌||◌, List, [], ◌∷◌, length, get_or, inl, inr, refl, ap, ◌∙◌, arith}
-use Rattle.std.specs.Prelude.{◌==◌}
+use Rattle.std.proofs.Common.{◌≡◌, ℕ, zero, suc, ◌+◌, ◌≤◌, ◌<◌, Bool, true, false, cond, not, ◌||◌, List, [], ◌∷◌, length, get_or, inl, inr, refl, ap, ◌∙◌, arith, ◌==◌, eqb-true}
 use Rattle.std.specs.List.{AllByRecursion, position_or_len, range_with_len}
-use Rattle.std.proofs.lemmas.Bool.{eqb-true}
 use Rattle.std.proofs.lemmas.List.FromFn.{get_or-map-range_with_len}
-use Rattle.repl_types.specs.Value.{Values, images}
+use Rattle.repl_model.specs.Words.{Values, images, CdRow, all_places, is_among, are_among, SourceTable, imaged_row, key_of, In, at_one, passes_at, some_passes}
 use Rattle.repl_types.specs.declared.value.Value.TheVariants.{Null}
-use Rattle.repl_types.specs.declared.change_row.CdRow.{CdRow}
-use Rattle.repl_model.specs.Rules.{all_places}
-use Rattle.lists.specs.Lists.{is_among, are_among}
-use Rattle.repl_model.specs.Selection.{SourceTable, imaged_row}
-use Rattle.repl_model.specs.Tables.{key_of}
-use Rattle.lists.specs.laws.Members.{In, at_one, passes_at, some_passes}
 use Rattle.stored_commits.specs.copies.ChangedCopies.{image_of, key_after}
 
 -- the image of a column among the registered ones is its value

@@ -1,25 +1,12 @@
 -- Rows of a table of the source that stand under their keys: they can be spelled, and are in the order of the keys.
-use Rattle.std.proofs.Common.{◌≡◌, ℕ, ◌<◌, Bool, true, false, cond, List, [], ◌∷◌, ◌++◌, length, map, get_or, refl, sym, subst, ◌∙◌, arith}
-use Rattle.std.specs.Prelude.{T, ◌&&◌, Some}
+use Rattle.std.proofs.Common.{◌≡◌, ℕ, ◌<◌, Bool, true, false, cond, List, [], ◌∷◌, ◌++◌, length, map, get_or, refl, sym, subst, ◌∙◌, arith, suc, zero, T, ◌&&◌, Some, is_lt}
 use Rattle.std.specs.FinMap.{entries, entries_sorted}
 use Rattle.std.specs.FinMap.Entries.{below_all, is_sorted}
 use Rattle.std.specs.List.{AllByRecursion}
-use Rattle.std.specs.Ordering.{is_lt}
-use Rattle.std.specs.declared.cmp.Ordering.{Ordering}
-use Rattle.std.specs.declared.cmp.Ordering.TheVariants.{Less, Equal, Greater}
-use Rattle.repl_types.specs.Value.{Values, key_cmp, images}
-use Rattle.repl_types.specs.declared.table.TableDef.{TableDef}
-use Rattle.repl_types.specs.declared.value.Value.{Value}
+use Rattle.world_store.specs.Words.{IsKey, IsRow, key_spelling, row_spelling, value_spelling, one_whole, order_key, one_key, one_row, source_row_spelling, table_from_rows, AllAfter, IsRising, SpellsApart, all_some, is_less}
+use Rattle.repl_model.specs.Words.{Values, key_cmp, images, TableDef, Value, all_weaker, Rows, IsValue}
 use Rattle.repl_types.specs.declared.value.Value.TheVariants.{Null, Int, Text}
-use Rattle.repl_types.specs.laws.Lists.{all_weaker}
 use Rattle.keep_core.specs.Contents.{same_key}
-use Rattle.row_codec.specs.Spelling.{IsKey, IsRow, key_spelling, row_spelling, value_spelling}
-use Rattle.row_codec.specs.laws.Ones.{one_whole}
-use Rattle.row_codec.specs.laws.Values.{order_key, one_key, one_row}
-use Rattle.repl_records.specs.SourceSide.{source_row_spelling}
-use Rattle.rows_in_order.specs.Rows.{table_from_rows, AllAfter, IsRising, SpellsApart}
-use Rattle.rows_in_order.specs.laws.Found.{all_some}
-use Rattle.repl_model.specs.Tables.{Rows}
 use Rattle.stored_commits.specs.records.SourceTables.{stored_row, StandsUnderKey, RowsStand, KeysOfRowsFit}
 
 -- a row under its key
@@ -32,12 +19,6 @@ Entry = Values × Values
 both_pass : (a b : Bool) → T (a && b) → T a × T b
 both_pass true b e = (tt, e)
 both_pass false b e = absurd e
-
--- a test for less
-is_less : (o : Ordering) → T (is_lt o) → o ≡ Less
-is_less Less e = refl
-is_less Equal e = absurd e
-is_less Greater e = absurd e
 
 -- entries whose keys are above one are after it
 above_after : (key : Values) (es : List Entry) → IsKey key → AllByRecursion (λ (e : Entry). IsKey e.0) es → T (below_all key_cmp key es) → AllAfter key_spelling (key_spelling key) es
@@ -63,6 +44,23 @@ some_byte (place ∷ places) row some = by_value (get_or row place Null) (key_sp
     by_value (Int n) rest = omega arith
     by_value (Text t) rest = omega arith
 
+-- ---- keys of rows
+
+-- a value of a row of values is one
+value_at : (row : Values) (place : ℕ) → AllByRecursion IsValue row → IsValue (get_or row place Null)
+value_at [] place all = tt
+value_at (v ∷ row) zero all = all.0
+value_at (v ∷ row) (suc place) all = value_at row place all.1
+
+-- so the values of its key are
+images_fit : (places : List ℕ) (row : Values) → AllByRecursion IsValue row → IsKey (images places row)
+images_fit [] row all = tt
+images_fit (place ∷ places) row all = (value_at row place all, images_fit places row all)
+
+-- the key of a row of values can be spelled
+pub key_fits : KeysOfRowsFit
+key_fits def row fits = images_fit def.key row fits.1
+
 -- ---- tables
 
 -- the stored table of entries is made of them
@@ -74,10 +72,10 @@ table_of_entries (e ∷ es) = λ i k. cond (same_key (key_spelling e.0) k) (Some
 pub rows_apart : SpellsApart (λ (e : Entry). IsKey e.0 × IsRow e.1) key_spelling row_spelling
 rows_apart r s fr fs keys values = λ i. (one_key r.0 s.0 fr.0 fs.0 keys i, one_whole IsRow row_spelling one_row r.1 s.1 fr.1 fs.1 values i)
 
-module _ (keys : KeysOfRowsFit) (def : TableDef) (rows : Rows) (stand : RowsStand def rows) where
+module _ (def : TableDef) (rows : Rows) (stand : RowsStand def rows) where
   -- rows that stand under their keys can be spelled
   pub standing_fit : AllByRecursion (λ e. IsKey e.0 × IsRow e.1) (entries rows)
-  standing_fit = all_weaker (StandsUnderKey def) (λ (e : Entry). IsKey e.0 × IsRow e.1) (entries rows) (λ e s. (subst IsKey (sym s.own) (keys def e.1 s.row), s.row)) stand
+  standing_fit = all_weaker (StandsUnderKey def) (λ (e : Entry). IsKey e.0 × IsRow e.1) (entries rows) (λ e s. (subst IsKey (sym s.own) (key_fits def e.1 s.row), s.row)) stand
 
   -- their keys rise
   pub standing_rise : IsRising key_spelling (entries rows)

@@ -1,16 +1,10 @@
-use Rattle.std.proofs.Common.{◌≡◌, ◌<◌, ◌+◌, ℕ, List, ◌∷◌, [], ◌++◌, length, length-append, sym, ap, subst, arith}
-use Rattle.std.specs.Prelude.{Option, Some, None, IfSome}
+use Rattle.std.proofs.Common.{◌≡◌, ◌<◌, ◌+◌, ℕ, List, ◌∷◌, [], ◌++◌, length, length-append, sym, ap, subst, arith, Option, Some, None, IfSome}
 use Rattle.std.proofs.lemmas.Result.{err_from_is_err_and}
-use Rattle.repl_types.specs.laws.Lists.{all_append}
-use Rattle.keep_core.specs.Contents.{Contents, IsNextKey, IsLastKey}
-use Rattle.site_store.specs.Views.{sees}
-use Rattle.site_store.specs.Records.{after_key}
-use Rattle.site_store.specs.Calls.{reads_of_one}
-use Rattle.site_store.specs.Damage.{Damages}
-use Rattle.site_store.specs.laws.Counts.{stays_then}
+use Rattle.world_store.specs.Words.{definition_limit}
+use Rattle.site_store.specs.Words.{Contents, IsNextKey, IsLastKey, sees, after_key, reads_of_one, Damages, stays_then, reads_more, reads_within, any_seen, if_seen, if_both_seen, stays_none, stays_sees, stays_within}
+use Rattle.repl_model.specs.Words.{all_append}
 use Rattle.stored_defs.specs.Reading.{HasRecords, AllStand, table_rules}
-use Rattle.world_store.specs.SpelledRows.{definition_limit}
-use Rattle.site_store.specs.laws.Passing.{reads_more, reads_within, any_seen, if_seen, if_both_seen, stays_none, stays_sees, stays_within, no_memory}
+use Rattle.site_store.specs.laws.Passing.{no_memory}
 use Rattle.stored_defs.proofs.ReadingRows.{HasReadTo, reads_start, reads_on, reads_last, reads_full, reads_fail, stands_on_key}
 use Rattle.stored_defs.proofs.reading.read_records.Goals as goal
 

@@ -1,7 +1,6 @@
 use Rattle.std.proofs.Common.{◌≡◌, length, IfSome}
 use Rattle.std.specs.List.{AllByRecursion}
-use Rattle.site_store.specs.Views.{sees}
-use Rattle.site_store.specs.Calls.{reads_of_one, Stays}
+use Rattle.site_store.specs.Words.{sees, reads_of_one, Stays}
 use Rattle.stored_defs.specs.Reading.{AllStand}
 use Rattle.stored_defs.proofs.ReadingRows.{HasReadTo}
 use Rattle.stored_defs.proofs.reading.read_records.Given as goal

@@ -1,15 +1,9 @@
 use Rattle.std.proofs.Common.{◌≡◌, ap, arith}
+use Rattle.world_store.specs.Words.{capture_spelling, IsCapture, single_spelling, CaptureState}
+use Rattle.site_store.specs.Words.{reads_of_one, Damages, sees, get_breaks}
 use Rattle.repl_types.specs.declared.area.Area.TheVariants as areas
-use Rattle.repl_records.specs.Capture.{capture_spelling, IsCapture}
-use Rattle.repl_records.specs.RecordKeys.{single_spelling}
-use Rattle.repl_records.specs.declared.capture.CaptureState.{CaptureState}
-use Rattle.site_store.specs.Calls.{reads_of_one}
-use Rattle.site_store.specs.Damage.{Damages}
-use Rattle.site_store.specs.Views.{sees}
-use Rattle.site_store.specs.one_server.laws.Damage.{get_breaks}
 use Rattle.subs_sets.specs.Rules.{captured_rules, source_rules}
 use Rattle.subs_sets.proofs.JoinedRules.{captured_breaks}
-use Rattle.subs_sets.proofs.Looking.{looked}
 use Rattle.subs_sets.proofs.NoDamage.{stops_closed}
 use Rattle.subs_sets.proofs.StoredCapture.{capture_is}
 use Rattle.subs_sets.proofs.captured.captured_point.Goals as goal

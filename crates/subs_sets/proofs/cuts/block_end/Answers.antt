@@ -1,9 +1,7 @@
-use Rattle.std.proofs.Common.{◌≡◌, ◌+◌, sym, ◌∙◌}
-use Rattle.std.specs.Prelude.{min}
+use Rattle.std.proofs.Common.{◌≡◌, ◌+◌, sym, ◌∙◌, min}
 use Rattle.std.proofs.lemmas.Result.{err_from_is_err_and}
-use Rattle.site_store.specs.one_server.laws.Damage.{breaks_after}
-use Rattle.site_store.specs.one_server.laws.Reads.{looks_then}
-use Rattle.lists.specs.laws.Numbered.{at_place_in}
+use Rattle.site_store.specs.Words.{breaks_after, looks_then}
+use Rattle.repl_model.specs.Words.{at_place_in}
 use Rattle.subs_sets.specs.Cuts.{captured_after, first_unit}
 use Rattle.subs_sets.specs.Rules.{source_rules}
 use Rattle.subs_sets.proofs.BlockCuts.{no_block, begins_with, ends_there, ends_before, goes_past}

@@ -1,6 +1,6 @@
 use Rattle.std.proofs.Common.{◌≡◌, ◌-◌, ◌≤◌, ◌^◌}
-use Rattle.repl_model.specs.Trails.{synchpoint}
-use Rattle.site_store.specs.one_server.Calls.{Looks}
+use Rattle.site_store.specs.Words.{Looks}
+use Rattle.repl_model.specs.Words.{synchpoint}
 use Rattle.set_places.specs.Members.{ForSource}
 use Rattle.set_places.specs.Reading.{ReadsOnly}
 use Rattle.subs_sets.specs.Rules.{is_read}

@@ -1,13 +1,8 @@
 use Rattle.std.proofs.Common.{◌^◌}
 use Rattle.std.proofs.lemmas.Result.{err_from_is_err_and}
+use Rattle.world_store.specs.Words.{Is64, b64, uow_spelling, IsUow, key_less}
+use Rattle.site_store.specs.Words.{reads_of_one, sees, numbers_in_order, next_breaks}
 use Rattle.repl_types.specs.declared.area.Area.TheVariants as areas
-use Rattle.row_codec.specs.Spelling.{Is64, b64}
-use Rattle.repl_records.specs.Capture.{uow_spelling, IsUow}
-use Rattle.rows_in_order.specs.laws.ByNumber.{key_less}
-use Rattle.site_store.specs.Calls.{reads_of_one}
-use Rattle.site_store.specs.Views.{sees}
-use Rattle.site_store.specs.laws.Numbers.{numbers_in_order}
-use Rattle.site_store.specs.one_server.laws.Damage.{next_breaks}
 use Rattle.subs_sets.specs.Rules.{captured_rules}
 use Rattle.subs_sets.proofs.JoinedRules.{captured_breaks}
 use Rattle.subs_sets.proofs.NextUnits.{unit_read, none_read}

@@ -1,8 +1,7 @@
 use Rattle.std.proofs.Common.{◌≡◌, sym, ◌∙◌}
 use Rattle.std.proofs.lemmas.Result.{err_from_is_err_and}
-use Rattle.repl_model.specs.NextActions.{uow_gap}
-use Rattle.site_store.specs.one_server.laws.Damage.{breaks_after}
-use Rattle.site_store.specs.one_server.laws.Reads.{looks_then}
+use Rattle.site_store.specs.Words.{breaks_after, looks_then}
+use Rattle.repl_model.specs.Words.{uow_gap}
 use Rattle.subs_sets.specs.Gaps.{gap_of_found}
 use Rattle.subs_sets.specs.Rules.{source_rules}
 use Rattle.subs_sets.proofs.FirstGaps.{member_has_gap, table_has_gap}

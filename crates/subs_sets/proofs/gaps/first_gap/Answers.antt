@@ -1,13 +1,11 @@
-use Rattle.std.proofs.Common.{◌≡◌, take_all, refl, sym, ap, ◌∙◌, arith}
-use Rattle.std.specs.List.{filter_map}
+use Rattle.std.proofs.Common.{◌≡◌, take_all, refl, sym, ap, ◌∙◌, arith, filter_map}
 use Rattle.std.proofs.lemmas.Result.{err_from_is_err_and}
-use Rattle.repl_model.specs.NextActions.{member_gap}
-use Rattle.site_store.specs.one_server.laws.Damage.{breaks_after}
-use Rattle.site_store.specs.one_server.laws.Reads.{looks_none, looks_then}
+use Rattle.repl_model.specs.Words.{member_gap, at_within}
+use Rattle.site_store.specs.Words.{breaks_after, looks_none, looks_then}
 use Rattle.subs_sets.specs.Gaps.{gap_of_found, first_of, AtMember}
 use Rattle.subs_sets.specs.Rules.{source_rules}
 use Rattle.subs_sets.proofs.Looking.{for_source_back, reads_then}
-use Rattle.subs_sets.proofs.MemberLists.{at_within, nothing_more, first_given}
+use Rattle.subs_sets.proofs.MemberLists.{nothing_more, first_given}
 use Rattle.subs_sets.proofs.MemberGaps.{as_many, none_found, some_found}
 use Rattle.subs_sets.proofs.gaps.first_gap.Goals as goal
 

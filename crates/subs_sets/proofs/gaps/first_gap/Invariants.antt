@@ -1,7 +1,6 @@
-use Rattle.std.proofs.Common.{◌≡◌, [], take}
-use Rattle.std.specs.List.{filter_map}
-use Rattle.repl_model.specs.NextActions.{member_gap}
-use Rattle.site_store.specs.one_server.Calls.{Looks}
+use Rattle.std.proofs.Common.{◌≡◌, [], take, filter_map}
+use Rattle.site_store.specs.Words.{Looks}
+use Rattle.repl_model.specs.Words.{member_gap}
 use Rattle.set_places.specs.Members.{ForSource}
 use Rattle.set_places.specs.Reading.{ReadsOnly}
 use Rattle.subs_sets.specs.Rules.{is_read}

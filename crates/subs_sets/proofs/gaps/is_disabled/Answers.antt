@@ -1,11 +1,8 @@
 use Rattle.std.proofs.Common.{take_all, refl, sym, ap, ◌∙◌, arith}
 use Rattle.std.specs.List.{list_any}
 use Rattle.std.proofs.lemmas.Result.{err_from_is_err_and}
-use Rattle.repl_model.specs.NextActions.{is_disabled}
-use Rattle.site_store.specs.one_server.laws.Damage.{breaks_after}
-use Rattle.site_store.specs.one_server.laws.Reads.{looks_none, looks_then}
-use Rattle.lists.specs.laws.Numbered.{at_place_in}
-use Rattle.lists.specs.laws.Members.{any_from}
+use Rattle.site_store.specs.Words.{breaks_after, looks_none, looks_then}
+use Rattle.repl_model.specs.Words.{is_disabled, at_place_in, any_from}
 use Rattle.set_places.specs.Members.{IsRegistrationOf}
 use Rattle.subs_sets.specs.Rules.{source_rules}
 use Rattle.subs_sets.proofs.JoinedRules.{member_breaks}

@@ -1,7 +1,7 @@
 use Rattle.std.proofs.Common.{◌≡◌, false, take}
 use Rattle.std.specs.List.{list_any}
-use Rattle.repl_model.specs.NextActions.{is_disabled}
-use Rattle.site_store.specs.one_server.Calls.{Looks}
+use Rattle.site_store.specs.Words.{Looks}
+use Rattle.repl_model.specs.Words.{is_disabled}
 use Rattle.set_places.specs.Members.{ForSource}
 use Rattle.set_places.specs.Reading.{ReadsOnly}
 use Rattle.subs_sets.specs.Rules.{is_read}

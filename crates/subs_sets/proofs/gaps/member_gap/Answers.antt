@@ -1,14 +1,8 @@
 use Rattle.std.proofs.Common.{None, Some, refl, sym, ◌∙◌}
 use Rattle.std.proofs.lemmas.Result.{err_from_is_err_and}
+use Rattle.world_store.specs.Words.{b32, registration_state_spelling, IsRegistrationState}
+use Rattle.site_store.specs.Words.{reads_of_one, RowIs, sees, needed_breaks, breaks_after, memory_after, looks_then, sees_back, sees_on, if_seen}
 use Rattle.repl_types.specs.declared.area.Area.TheVariants as areas
-use Rattle.row_codec.specs.Spelling.{b32}
-use Rattle.repl_records.specs.Capture.{registration_state_spelling, IsRegistrationState}
-use Rattle.site_store.specs.Calls.{reads_of_one}
-use Rattle.site_store.specs.Records.{RowIs}
-use Rattle.site_store.specs.Views.{sees}
-use Rattle.site_store.specs.one_server.laws.Damage.{needed_breaks, breaks_after, memory_after}
-use Rattle.site_store.specs.one_server.laws.Reads.{looks_then, sees_back, sees_on}
-use Rattle.site_store.specs.laws.Passing.{if_seen}
 use Rattle.set_places.specs.Members.{HasRegistration}
 use Rattle.subs_sets.specs.Rules.{captured_rules, source_rules}
 use Rattle.subs_sets.proofs.JoinedRules.{member_breaks, captured_breaks}

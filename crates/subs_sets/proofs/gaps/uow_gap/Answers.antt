@@ -1,7 +1,7 @@
 use Rattle.std.proofs.Common.{◌≡◌, ◌∙◌, rules}
-use Rattle.site_store.specs.one_server.laws.Reads.{looks_none}
+use Rattle.site_store.specs.Words.{looks_none}
 use Rattle.subs_sets.proofs.FirstGaps.{pruned_gap}
-use Rattle.subs_sets.proofs.MemberGaps.{source_name}
+use Rattle.set_places.specs.laws.Standing.{source_name}
 use Rattle.subs_sets.proofs.gaps.uow_gap.Goals as goal
 
 pub returns-then-floor-point-clause-ok : goal.returns-then-floor-point-clause-ok

@@ -1,16 +1,9 @@
-use Rattle.std.proofs.Common.{◌≡◌, cond, ap, ◌∙◌, arith}
-use Rattle.std.specs.Prelude.{nat_lt}
+use Rattle.std.proofs.Common.{◌≡◌, cond, ap, ◌∙◌, arith, nat_lt}
 use Rattle.std.proofs.lemmas.Result.{err_from_is_err_and}
+use Rattle.world_store.specs.Words.{capture_spelling, IsCapture, single_spelling, CaptureState}
+use Rattle.site_store.specs.Words.{reads_of_one, sees, get_breaks, breaks_after, looks_then}
+use Rattle.repl_model.specs.Words.{reports, idles, by_gap, gap_of, synchpoint, base_of}
 use Rattle.repl_types.specs.declared.area.Area.TheVariants as areas
-use Rattle.repl_records.specs.Capture.{capture_spelling, IsCapture}
-use Rattle.repl_records.specs.RecordKeys.{single_spelling}
-use Rattle.repl_records.specs.declared.capture.CaptureState.{CaptureState}
-use Rattle.repl_model.specs.NextActions.{reports, idles, by_gap, gap_of}
-use Rattle.repl_model.specs.Trails.{synchpoint, base_of}
-use Rattle.site_store.specs.Calls.{reads_of_one}
-use Rattle.site_store.specs.Views.{sees}
-use Rattle.site_store.specs.one_server.laws.Damage.{get_breaks, breaks_after}
-use Rattle.site_store.specs.one_server.laws.Reads.{looks_then}
 use Rattle.subs_sets.specs.Actions.{action_of}
 use Rattle.subs_sets.specs.Rules.{captured_rules, source_rules}
 use Rattle.subs_sets.proofs.ActionCases.{reports_or_idles, as_gap_says}

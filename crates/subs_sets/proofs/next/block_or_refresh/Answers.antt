@@ -1,6 +1,5 @@
 use Rattle.std.proofs.lemmas.Result.{err_from_is_err_and}
-use Rattle.site_store.specs.one_server.laws.Damage.{breaks_after}
-use Rattle.site_store.specs.one_server.laws.Reads.{looks_then}
+use Rattle.site_store.specs.Words.{breaks_after, looks_then}
 use Rattle.subs_sets.specs.Rules.{source_rules}
 use Rattle.subs_sets.proofs.next.block_or_refresh.Goals as goal
 

@@ -1,10 +1,8 @@
 use Rattle.std.proofs.Common.{◌≡◌, Bool, true, not, ◌||◌, ap, ap₂, ◌∙◌}
 use Rattle.std.proofs.lemmas.Bool.{or_left, or_right}
 use Rattle.std.proofs.lemmas.Result.{err_from_is_err_and}
-use Rattle.repl_model.specs.NextActions.{refresh_by_signal}
-use Rattle.repl_model.specs.Trails.{synchpoint, base_of}
-use Rattle.site_store.specs.one_server.laws.Damage.{breaks_after}
-use Rattle.site_store.specs.one_server.laws.Reads.{looks_then}
+use Rattle.site_store.specs.Words.{breaks_after, looks_then}
+use Rattle.repl_model.specs.Words.{refresh_by_signal, synchpoint, base_of}
 use Rattle.set_places.specs.laws.Standing.{source_revealed, target_revealed}
 use Rattle.subs_sets.specs.Actions.{action_of, once_refreshed}
 use Rattle.subs_sets.specs.Rules.{source_rules}

@@ -1,5 +1,5 @@
 use Rattle.std.proofs.Common.{◌≡◌}
-use Rattle.site_store.specs.Damage.{Damages}
+use Rattle.site_store.specs.Words.{Damages}
 use Rattle.subs_sets.specs.Rules.{state_rules}
 use Rattle.subs_sets.proofs.NoDamage.{stops_closed}
 use Rattle.subs_sets.proofs.states.read_only_state.Goals as goal

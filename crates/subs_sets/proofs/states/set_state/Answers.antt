@@ -1,4 +1,4 @@
-use Rattle.site_store.specs.Views.{sees}
+use Rattle.site_store.specs.Words.{sees}
 use Rattle.subs_sets.proofs.StoredStates.{state_is}
 use Rattle.subs_sets.proofs.states.set_state.Goals as goal
 

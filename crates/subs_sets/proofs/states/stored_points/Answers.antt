@@ -1,15 +1,9 @@
-use Rattle.std.proofs.Common.{◌≡◌, Some, true, not, sym, ap, subst, ◌∙◌}
-use Rattle.std.specs.Prelude.{IfSome}
+use Rattle.std.proofs.Common.{◌≡◌, Some, true, not, sym, ap, subst, ◌∙◌, IfSome}
+use Rattle.world_store.specs.Words.{b32, state_spelling, IsState, SetState}
+use Rattle.site_store.specs.Words.{sees, unfit_breaks, if_both_seen}
+use Rattle.repl_model.specs.Words.{SetDef, is_replica_set}
 use Rattle.repl_types.specs.declared.area.Area.TheVariants as areas
-use Rattle.row_codec.specs.Spelling.{b32}
-use Rattle.repl_definitions.specs.declared.set.SetDef.{SetDef}
-use Rattle.repl_records.specs.SetState.{state_spelling, IsState}
-use Rattle.repl_records.specs.declared.set_state.SetState.{SetState}
 use Rattle.repl_records.specs.declared.set_state.SetState.TheVariants as states
-use Rattle.repl_model.specs.Rules.{is_replica_set}
-use Rattle.site_store.specs.Views.{sees}
-use Rattle.site_store.specs.one_server.laws.Damage.{unfit_breaks}
-use Rattle.site_store.specs.laws.Passing.{if_both_seen}
 use Rattle.set_places.specs.Places.{HasTargetRow}
 use Rattle.subs_sets.specs.Rules.{state_rules}
 use Rattle.subs_sets.specs.States.{HasState}

@@ -1,9 +1,7 @@
 use Rattle.std.proofs.lemmas.Result.{err_from_is_err_and}
+use Rattle.world_store.specs.Words.{b32, state_spelling, IsState}
+use Rattle.site_store.specs.Words.{reads_of_one, get_breaks}
 use Rattle.repl_types.specs.declared.area.Area.TheVariants as areas
-use Rattle.row_codec.specs.Spelling.{b32}
-use Rattle.repl_records.specs.SetState.{state_spelling, IsState}
-use Rattle.site_store.specs.Calls.{reads_of_one}
-use Rattle.site_store.specs.one_server.laws.Damage.{get_breaks}
 use Rattle.subs_sets.specs.Rules.{state_rules}
 use Rattle.subs_sets.proofs.states.stored_state.Goals as goal
 

@@ -1,10 +1,7 @@
 use Rattle.std.proofs.lemmas.Result.{err_from_is_err_and}
+use Rattle.world_store.specs.Words.{b64, entry_spelling, IsEntry}
+use Rattle.site_store.specs.Words.{reads_of_one, sees, get_breaks}
 use Rattle.repl_types.specs.declared.area.Area.TheVariants as areas
-use Rattle.row_codec.specs.Spelling.{b64}
-use Rattle.repl_records.specs.Trail.{entry_spelling, IsEntry}
-use Rattle.site_store.specs.Calls.{reads_of_one}
-use Rattle.site_store.specs.Views.{sees}
-use Rattle.site_store.specs.one_server.laws.Damage.{get_breaks}
 use Rattle.subs_sets.specs.Rules.{state_rules}
 use Rattle.subs_sets.proofs.StoredEntries.{entry_is, fits_alone}
 use Rattle.subs_sets.proofs.states.trail_entry.Goals as goal

@@ -1,7 +1,7 @@
 use Rattle.std.proofs.Common.{◌≡◌, ◌+◌, ◌-◌, ◌^◌, ◌<◌, length, refl, arith}
 use Rattle.std.proofs.lemmas.Result.{err_from_is_err_and}
+use Rattle.site_store.specs.Words.{no_access, writes_of_one}
 use Rattle.repl_types.specs.declared.area.Area.TheVariants as areas
-use Rattle.site_store.specs.Calls.{no_access, writes_of_one}
 use Rattle.set_places.specs.laws.Commits.{commits_step}
 use Rattle.target_steps.specs.Steps.{TakesAll, PutsTargets, PutsSomeTargets}
 use Rattle.target_steps.proofs.StepReads.{reads_more, reads_still, counts_within}

@@ -29,7 +29,7 @@ pub returns-in_err-more-clause-undamaged : goal.returns-in_err-more-clause-undam
 returns-in_err-more-clause-undamaged g c =
     let within : c.loop-member.member < length c.args.set.now.at_source.def.members = omega (arith, ap length c.as_slice.ensures) in
     let p = err_from_is_err_and c.from_residual.result c.from_residual.ensures.1 in
-    rw (p.1, p.2) (take_undamaged g.K.Keeper.kept g.T.Targets.takes g.T.Targets.shows c.args.sites.now c.args.set.now c.args.step c.requires.open c.requires.closed c.loop-member.sites c.loop-member.member c.loop-member.counts c.loop-member.invariant.0 c.laws_of_targets.ensures g.met.T.Targets.unnumbered within c.in_err-more.field-0.0 c.in_err-more.ensures.undamaged)
+    rw (p.1, p.2) (take_undamaged g.K.Keeper.kept g.T.Targets.takes g.T.Targets.shows c.args.sites.now c.args.set.now c.args.step c.requires.open c.requires.closed c.loop-member.sites c.loop-member.member c.loop-member.counts c.loop-member.invariant.0 g.met.T.Targets.unnumbered within c.in_err-more.field-0.0 c.in_err-more.ensures.undamaged)
 
 pub returns-in_err-more-clause-reads : goal.returns-in_err-more-clause-reads
 returns-in_err-more-clause-reads g c = reads_more c.args.step g.K.Keeper.kept c.args.sites.now c.loop-member.sites c.take.new.sites c.loop-member.invariant.1 c.in_err-more.ensures.reads
@@ -37,13 +37,13 @@ returns-in_err-more-clause-reads g c = reads_more c.args.step g.K.Keeper.kept c.
 pub loop-member-preserved : goal.loop-member-preserved
 loop-member-preserved g c =
     let within : c.loop-member.member < length c.args.set.now.at_source.def.members = omega (arith, ap length c.as_slice.ensures) in (
-      goes_more g.K.Keeper.kept g.T.Targets.takes g.T.Targets.shows c.args.sites.now c.args.set.now c.args.step c.requires.open c.requires.closed c.loop-member.sites c.loop-member.member c.loop-member.counts c.loop-member.invariant.0 c.laws_of_targets.ensures g.met.T.Targets.unnumbered within c.take.new.sites c.in_ok-more.more c.sum-counts.result c.sum-counts.ensures c.in_ok-more.ensures.ok,
+      goes_more g.K.Keeper.kept g.T.Targets.takes g.T.Targets.shows c.args.sites.now c.args.set.now c.args.step c.requires.open c.requires.closed c.loop-member.sites c.loop-member.member c.loop-member.counts c.loop-member.invariant.0 g.met.T.Targets.unnumbered within c.take.new.sites c.in_ok-more.more c.sum-counts.result c.sum-counts.ensures c.in_ok-more.ensures.ok,
       reads_more c.args.step g.K.Keeper.kept c.args.sites.now c.loop-member.sites c.take.new.sites c.loop-member.invariant.1 c.in_ok-more.ensures.reads,
       counts_more c.args.step g.K.Keeper.kept c.args.sites.now c.loop-member.sites c.take.new.sites c.loop-member.member c.loop-member.counts c.in_ok-more.more c.sum-counts.result c.sum-counts.ensures c.loop-member.invariant.2 c.in_ok-more.ensures.counted,
     )
 
 pub returns-clause-ok : goal.returns-clause-ok
-returns-clause-ok g c = goes_all g.K.Keeper.kept g.T.Targets.takes g.T.Targets.shows c.args.sites.now c.args.set.now c.args.step c.requires.open c.requires.closed c.laws_of_targets.ensures g.met.T.Targets.unnumbered c.loop-member.sites c.loop-member.counts c.loop-member.member (omega (arith, ap length c.as_slice.ensures)) c.loop-member.invariant.0
+returns-clause-ok g c = goes_all g.K.Keeper.kept g.T.Targets.takes g.T.Targets.shows c.args.sites.now c.args.set.now c.args.step c.requires.open c.requires.closed g.met.T.Targets.unnumbered c.loop-member.sites c.loop-member.counts c.loop-member.member (omega (arith, ap length c.as_slice.ensures)) c.loop-member.invariant.0
 
 pub returns-clause-counted : goal.returns-clause-counted
 returns-clause-counted g c =

@@ -1,4 +1,4 @@
-use Rattle.site_store.specs.one_server.Calls.{GoesOn}
+use Rattle.site_store.specs.Words.{GoesOn}
 use Rattle.target_steps.specs.Taking.{ReadsForStep, CountsReads}
 use Rattle.target_steps.proofs.TakeSteps.{TakesFirst}
 use Rattle.target_steps.proofs.putting.take_members.Given as goal

@@ -1,5 +1,5 @@
 use Rattle.std.proofs.Common.{refl}
-use Rattle.repl_model.specs.Units.{units}
+use Rattle.repl_model.specs.Words.{units}
 use Rattle.world_commits.specs.captures.Captures.{uncaptured}
 use Rattle.world_commits.proofs.captures.worked_capture.Goals as goal
 

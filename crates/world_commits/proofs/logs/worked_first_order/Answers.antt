@@ -1,15 +1,8 @@
-use Rattle.std.proofs.Common.{◌&&◌, true, [], ◌∷◌, Option, codes, refl, ap, arith}
-use Rattle.std.specs.Prelude.{pos, IsTrue, is_none}
+use Rattle.std.proofs.Common.{◌&&◌, true, [], ◌∷◌, Option, codes, refl, ap, arith, pos, IsTrue, is_none}
 use Rattle.std.specs.FinMap.{get-empty}
-use Rattle.repl_types.specs.Value.{Values, key_cmp}
+use Rattle.repl_model.specs.Words.{Values, key_cmp, applies, units, source_at, change_fits, is_applicable, tables_of, order, orders_insert, user_commit}
 use Rattle.repl_types.specs.declared.value.Value.TheVariants.{Int}
 use Rattle.row_codec.specs.Spelling.{IsRow}
-use Rattle.repl_model.specs.Tables.{applies}
-use Rattle.repl_model.specs.Units.{units}
-use Rattle.repl_model.specs.SourceAt.{source_at}
-use Rattle.repl_model.specs.Applicable.{change_fits, is_applicable}
-use Rattle.repl_model.specs.World.{tables_of}
-use Rattle.repl_model.specs.WorkedOrders.{order, orders_insert, user_commit}
 use Rattle.world_commits.specs.logs.WorkedRecords.{new_server}
 use Rattle.world_commits.proofs.logs.worked_first_order.Goals as goal
 

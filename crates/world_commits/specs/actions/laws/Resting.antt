@@ -1,9 +1,6 @@
 -- How many actions a read-only set still makes at most.
-use Rattle.std.proofs.Common.{ℕ, ◌+◌, ◌<◌, ◌≤◌, Bool, true, false, cond, ◌||◌, Option, Some, None, arith}
-use Rattle.std.specs.Prelude.{nat_lt, nat_le}
-use Rattle.repl_model.specs.Trails.{synchpoint, base_of}
-use Rattle.repl_model.specs.World.{KnownSet}
-use Rattle.repl_model.specs.NextActions.{Gap, gap_of, is_new}
+use Rattle.std.proofs.Common.{ℕ, ◌+◌, ◌<◌, ◌≤◌, Bool, true, false, cond, ◌||◌, Option, Some, None, arith, nat_lt, nat_le}
+use Rattle.repl_model.specs.Words.{synchpoint, base_of, KnownSet, Gap, gap_of, is_new}
 use Rattle.world_commits.specs.actions.Resting.{refresh_steps, report_steps, steps_by_gap, steps_left}
 
 -- a count of actions of a set is within the bounds

@@ -1,19 +1,7 @@
 -- A read-only set and its source, and what its signal makes of the world.
-use Rattle.std.proofs.Common.{◌≡◌, ℕ, ◌+◌, Bool, true, false, cond, not, List, [], ◌∷◌, length, map, Some, inl, inr, refl, sym, ap, ap₂, ◌∙◌}
-use Rattle.std.specs.Str.{bytes_eq}
-use Rattle.std.proofs.lemmas.List.{length-append}
+use Rattle.std.proofs.Common.{◌≡◌, ℕ, ◌+◌, Bool, true, false, cond, not, List, [], ◌∷◌, length, map, Some, inl, inr, refl, sym, ap, ap₂, ◌∙◌, bytes_eq, length-append}
 use Rattle.std.proofs.lemmas.Simd.{map-map}
-use Rattle.repl_types.specs.declared.record.LogRecord.{LogRecord}
-use Rattle.repl_model.specs.World.{Server, World, KnownSet, server_named, known_sets}
-use Rattle.repl_model.specs.Rules.{is_replica_set}
-use Rattle.repl_model.specs.SoundDefinitions.{read_only_sets}
-use Rattle.repl_model.specs.Sound.{IsSound}
-use Rattle.repl_model.specs.Longer.{with_more, grown_server, grown}
-use Rattle.repl_model.specs.NextActions.{signals}
-use Rattle.repl_model.specs.AfterActions.{with_server, with_source_side, signal_records, signalled, after_action}
-use Rattle.lists.specs.laws.Members.{In, only_one, in_filter, found_in}
-use Rattle.repl_model.specs.laws.GrowingServers.{same_name, name_itself}
-use Rattle.repl_model.specs.laws.KnownSets.{StandsIn, known_stands, source_in}
+use Rattle.repl_model.specs.Words.{LogRecord, Server, World, KnownSet, server_named, known_sets, is_replica_set, read_only_sets, IsSound, with_more, grown_server, grown, signals, with_server, with_source_side, signal_records, signalled, after_action, In, only_one, in_filter, found_in, same_name, name_itself, StandsIn, known_stands, source_in}
 
 -- ---- the set and its source
 

@@ -1,21 +1,11 @@
 -- Servers that have captured units: what changes of them, and what stays.
-use Rattle.std.proofs.Common.{◌≡◌, ℕ, Bool, true, false, cond, not, ◌&&◌, List, [], ◌∷◌, map, Option, Some, None, refl, sym, ap, subst, ◌∙◌, map-id}
-use Rattle.std.specs.List.{filter_map, fold}
-use Rattle.std.specs.Option.{option_map, option_and_then}
-use Rattle.std.specs.Str.{bytes_eq}
+use Rattle.std.proofs.Common.{◌≡◌, ℕ, Bool, true, false, cond, not, ◌&&◌, List, [], ◌∷◌, map, Option, Some, None, refl, sym, ap, subst, ◌∙◌, map-id, filter_map, fold, option_map, option_and_then, bytes_eq}
 use Rattle.std.proofs.lemmas.Iterator.Adapters.{option_map_id}
 use Rattle.std.proofs.lemmas.Simd.{map-map}
 use Rattle.std.proofs.Math.Path.{fun_ext}
-use Rattle.repl_types.specs.declared.record.Change.{Change}
+use Rattle.repl_model.specs.Words.{Change, TableDef, Placed, Unit, table_after, Registered, ServerTable, SourceSide, TargetSide, Server, World, KnownSet, tables_of, registered_of, server_table, as_source, source_named, server_named, source_side, known_from, known_sets, find_image, given_images, listed_images}
 use Rattle.repl_types.specs.declared.record.Change.TheVariants.{Insert, Update, Delete, Start, Stop}
-use Rattle.repl_types.specs.declared.table.TableDef.{TableDef}
-use Rattle.repl_types.specs.declared.unit.Placed.{Placed}
-use Rattle.repl_types.specs.declared.unit.Unit.{Unit}
-use Rattle.repl_model.specs.SourceAt.{table_after}
-use Rattle.repl_model.specs.World.{Registered, ServerTable, SourceSide, TargetSide, Server, World, KnownSet, tables_of, registered_of, server_table, as_source, source_named, server_named, source_side, known_from, known_sets}
-use Rattle.lists.specs.laws.Members.{find_image}
 use Rattle.world_commits.specs.captures.Captures.{registered_after_change, registered_after, with_registration, with_unit, with_units, captured_server, captured}
-use Rattle.lists.specs.laws.Images.{given_images, listed_images}
 
 -- ---- the states of a server
 
@@ -145,30 +135,6 @@ name_stays us server = ap (λ (s : Server). s.name) (by_states us server)
 pub log_stays : (us : List Unit) (server : Server) → (with_units us server).log ≡ server.log
 log_stays us server = ap (λ (s : Server). s.log) (by_states us server)
 
--- the sets stay at their sources
-pub source_sets_stay : (us : List Unit) (server : Server) → (with_units us server).source_sets ≡ server.source_sets
-source_sets_stay us server = ap (λ (s : Server). s.source_sets) (by_states us server)
-
--- the sets stay at their targets
-pub target_sets_stay : (us : List Unit) (server : Server) → (with_units us server).target_sets ≡ server.target_sets
-target_sets_stay us server = ap (λ (s : Server). s.target_sets) (by_states us server)
-
--- the tables stay as they are after the log
-pub tables_of_stay : (us : List Unit) (server : Server) → tables_of (with_units us server) ≡ tables_of server
-tables_of_stay us server = ap tables_of (by_states us server) ∙ tables_stay (states_after us server) server
-
--- the registered table of a name stays the same source
-pub source_named_stays : (name : List ℕ) (us : List Unit) (server : Server) → source_named name (with_units us server) ≡ source_named name server
-source_named_stays name us server = ap (source_named name) (by_states us server) ∙ source_stays name (states_after us server) server
-
--- the table of a name is the one before, with its registration in the states after the units
-pub table_after_units : (name : List ℕ) (us : List Unit) (server : Server) → server_table name (with_units us server) ≡ option_map (with_registration (in_states (states_after us server))) (server_table name server)
-table_after_units name us server = ap (server_table name) (by_states us server) ∙ table_in_states name (states_after us server) server
-
--- the registrations are those before, in the states after the units
-pub registered_of_after : (us : List Unit) (server : Server) → registered_of (with_units us server) ≡ map (in_states (states_after us server)) (registered_of server)
-registered_of_after us server = ap registered_of (by_states us server) ∙ registered_in_states (states_after us server) server
-
 -- ---- worlds whose servers are in other states
 
 -- a server in the states that are given for it
@@ -233,7 +199,3 @@ holds_captured P name us = subst P (sym (fun_ext (captured_by_states name us)))
 -- the server of a name is the one before, as it has captured
 pub named_captured : (name : List ℕ) (us : List Unit) (of : List ℕ) (world : World) → server_named of (captured name us world) ≡ option_map (captured_server name us) (server_named of world)
 named_captured name us of world = holds_captured (λ g. server_named of (map g world) ≡ option_map g (server_named of world)) name us (named_changed (capturing name us) of world)
-
--- the known sets are those before, with their servers as they have captured
-pub sets_captured : (name : List ℕ) (us : List Unit) (world : World) → known_sets (captured name us world) ≡ map (set_by (captured_server name us)) (known_sets world)
-sets_captured name us world = holds_captured (λ g. known_sets (map g world) ≡ map (set_by g) (known_sets world)) name us (sets_changed (capturing name us) world)

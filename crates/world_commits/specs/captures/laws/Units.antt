@@ -3,12 +3,8 @@ use Rattle.std.proofs.Common.{◌≡◌, ℕ, ◌+◌, ◌≤◌, ◌<◌, Bool,
 use Rattle.std.specs.Prelude.{nat_lt, filter, ⊤}
 use Rattle.std.specs.List.{AllByRecursion, filter_map, enumerate_from}
 use Rattle.std.proofs.lemmas.Bool.{cond-false, lt-ltb, le-ltb, ltb-true, ltb-false}
-use Rattle.repl_types.specs.laws.Lists.{filter_all}
-use Rattle.repl_types.specs.declared.record.LogRecord.{LogRecord}
+use Rattle.repl_model.specs.Words.{filter_all, LogRecord, Unit, unit_at, units, In, in_filter}
 use Rattle.repl_types.specs.declared.record.LogRecord.TheVariants as records
-use Rattle.repl_types.specs.declared.unit.Unit.{Unit}
-use Rattle.repl_model.specs.Units.{unit_at, units}
-use Rattle.lists.specs.laws.Members.{In, in_filter}
 
 -- the seqs of units rise, from above a point on
 abbrev pub Rise : ℕ → List Unit → Type 0

@@ -1,13 +1,7 @@
 -- Servers whose logs are made longer: what their tables are, and which server of a world gets further records.
-use Rattle.std.proofs.Common.{◌≡◌, ℕ, Bool, true, false, cond, List, [], ◌++◌, map, Option, Some, None, refl, sym, ap, append-nil}
-use Rattle.std.specs.Option.{option_map, option_and_then}
-use Rattle.std.specs.Str.{bytes_eq}
+use Rattle.std.proofs.Common.{◌≡◌, ℕ, Bool, true, false, cond, List, [], ◌++◌, map, Option, Some, None, refl, sym, ap, append-nil, option_map, option_and_then, bytes_eq}
 use Rattle.std.proofs.Math.Path.{fun_ext}
-use Rattle.repl_types.specs.declared.record.LogRecord.{LogRecord}
-use Rattle.repl_types.specs.declared.table.TableDef.{TableDef}
-use Rattle.repl_model.specs.SourceAt.{table_after}
-use Rattle.repl_model.specs.World.{Registered, ServerTable, Server, World, tables_of, as_source, server_table, source_named}
-use Rattle.repl_model.specs.Longer.{lengthened, with_more, grown_server, grown}
+use Rattle.repl_model.specs.Words.{LogRecord, TableDef, table_after, Registered, ServerTable, Server, World, tables_of, as_source, server_table, source_named, lengthened, with_more, grown_server, grown}
 
 -- ---- tables
 

@@ -1,6 +1,5 @@
 use Rattle.std.proofs.Common.{refl}
-use Rattle.repl_model.specs.Units.{units}
-use Rattle.repl_model.specs.World.{restart_after}
+use Rattle.repl_model.specs.Words.{units, restart_after}
 use Rattle.world_store.proofs.worked_rows.worked_capture_rows.Goals as goal
 
 pub returns-clause-uow : goal.returns-clause-uow

@@ -1,6 +1,5 @@
 use Rattle.std.proofs.Common.{refl}
-use Rattle.repl_model.specs.Units.{units}
-use Rattle.repl_model.specs.ChangeRows.{change_rows, changes_between}
+use Rattle.repl_model.specs.Words.{units, change_rows, changes_between}
 use Rattle.world_store.proofs.worked_rows.worked_change_data.Goals as goal
 
 pub returns-clause-active : goal.returns-clause-active

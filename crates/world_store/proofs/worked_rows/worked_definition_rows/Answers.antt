@@ -1,5 +1,5 @@
 use Rattle.std.proofs.Common.{refl}
-use Rattle.repl_model.specs.Summaries.{by_key}
+use Rattle.repl_model.specs.Words.{by_key}
 use Rattle.world_store.proofs.worked_rows.worked_definition_rows.Goals as goal
 
 pub returns-clause-tables : goal.returns-clause-tables

@@ -1,6 +1,5 @@
 use Rattle.std.proofs.Common.{refl}
-use Rattle.repl_model.specs.Units.{units}
-use Rattle.repl_model.specs.Summaries.{by_key}
+use Rattle.repl_model.specs.Words.{units, by_key}
 use Rattle.world_store.proofs.worked_rows.worked_log_rows.Goals as goal
 
 pub returns-clause-head : goal.returns-clause-head

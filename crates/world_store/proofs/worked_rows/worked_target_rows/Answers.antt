@@ -1,8 +1,5 @@
 use Rattle.std.proofs.Common.{refl}
-use Rattle.repl_model.specs.Units.{units}
-use Rattle.repl_model.specs.SourceAt.{time_at}
-use Rattle.repl_model.specs.ChangeRows.{change_rows, changes_between}
-use Rattle.repl_model.specs.MemberCopies.{user_copy}
+use Rattle.repl_model.specs.Words.{units, time_at, change_rows, changes_between, user_copy}
 use Rattle.world_store.proofs.worked_rows.worked_target_rows.Goals as goal
 
 pub returns-clause-copy : goal.returns-clause-copy

@@ -1,6 +1,6 @@
 use Rattle.std.proofs.Common.{refl}
+use Rattle.repl_model.specs.Words.{user_copy}
 use Rattle.row_codec.specs.Spelling.{b16, b64}
-use Rattle.repl_model.specs.MemberCopies.{user_copy}
 use Rattle.world_store.proofs.worked_rows.worked_target_table.Goals as goal
 
 pub returns-clause-key : goal.returns-clause-key

@@ -1,6 +1,5 @@
-use Rattle.std.proofs.Common.{sym, subst}
-use Rattle.std.specs.Prelude.{IfErr}
-use Rattle.site_store.specs.Damage.{IsNoDamage}
+use Rattle.std.proofs.Common.{sym, subst, IfErr}
+use Rattle.site_store.specs.Words.{IsNoDamage}
 use Rattle.target_steps.specs.declared.step.Step.{Step}
 use Rattle.target_steps.specs.Taking.{ForMember}
 use Rattle.apply_copies.specs.Copies.{is_user_copy}

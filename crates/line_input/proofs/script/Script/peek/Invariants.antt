@@ -1,5 +1,4 @@
-use Rattle.std.proofs.Common.{◌≡◌, ◌≤◌, ◌+◌, None}
-use Rattle.std.specs.Option.{IfSome}
+use Rattle.std.proofs.Common.{◌≡◌, ◌≤◌, ◌+◌, None, IfSome}
 use Rattle.line_input.specs.Input.{budget}
 use Rattle.line_input.specs.Script.{next_kind, line_number, line_text, lines_left, total_left, pending, waiting, HasOneSource, IsLineOf}
 use Rattle.line_input.proofs.script.Script.peek.Given as goal

@@ -1,7 +1,7 @@
 -- Each step of the machine, from what the calls ensure.
 use Rattle.std.proofs.Common.{◌∙◌}
 use Rattle.repl_defs.specs.Grammar.{factor, term, whole}
-use Rattle.repl_defs.proofs.ExpressionReader.{leaf_reads, leaf_fails, nested_read, nested_fails, unclosed_fails, times_read, times_fails, sign_read, sign_fails, fails_at, read_at, passed_on}
+use Rattle.repl_defs.specs.laws.ExpressionReader.{leaf_reads, leaf_fails, nested_read, nested_fails, unclosed_fails, times_read, times_fails, sign_read, sign_fails, fails_at, read_at, passed_on}
 use Rattle.repl_defs.proofs.reader.Reader.+expression.Goals as goal
 
 pub expression-returns-in_err-right-clause-refused : goal.expression-returns-in_err-right-clause-refused

@@ -1,8 +1,8 @@
 -- Each step of the machine, from what the calls ensure.
 use Rattle.std.proofs.Common.{◌∙◌}
 use Rattle.repl_defs.specs.Grammar.{atom, conjunction, disjunction}
-use Rattle.repl_defs.proofs.PredicateReader.{atom_read, atom_never, nested_read, nested_fails, unclosed_fails, and_read, and_fails, or_read, or_fails, predicate_fails_at, predicate_read_at}
-use Rattle.repl_defs.proofs.ExpressionReader.{passed_on}
+use Rattle.repl_defs.specs.laws.PredicateReader.{atom_read, atom_never, nested_read, nested_fails, unclosed_fails, and_read, and_fails, or_read, or_fails, predicate_fails_at, predicate_read_at}
+use Rattle.repl_defs.specs.laws.ExpressionReader.{passed_on}
 use Rattle.repl_defs.proofs.reader.Reader.+predicate.Goals as goal
 
 pub atom-returns-then-not-open-clause-ok : goal.atom-returns-then-not-open-clause-ok

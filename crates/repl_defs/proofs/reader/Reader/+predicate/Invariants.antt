@@ -1,6 +1,5 @@
 -- Each call of a method has fewer tokens left, or is of a smaller part of a predicate.
-use Rattle.std.proofs.Common.{◌≡◌, ◌+◌, ◌*◌, false, length}
-use Rattle.std.specs.Prelude.{codes}
+use Rattle.std.proofs.Common.{◌≡◌, ◌+◌, ◌*◌, false, length, codes}
 use Rattle.repl_defs.specs.Grammar.{conjunction, disjunction}
 use Rattle.repl_defs.specs.Reading.{word_follows}
 use Rattle.repl_defs.specs.ReadingPredicates.{IsPredicateReadSoFar}

@@ -1,9 +1,9 @@
 -- What the right operand makes of the comparison.
 use Rattle.std.proofs.Common.{sym, ap, ◌∙◌}
 use Rattle.repl_defs.specs.ReadingPredicates.{comparable}
-use Rattle.repl_defs.proofs.PredicateReader.{right_completes}
-use Rattle.repl_defs.proofs.PredicateSteps.{right_fails, right_unfit}
-use Rattle.repl_defs.proofs.ExpressionReader.{passed_on}
+use Rattle.repl_defs.specs.laws.PredicateReader.{right_completes}
+use Rattle.repl_defs.specs.laws.PredicateSteps.{right_fails, right_unfit}
+use Rattle.repl_defs.specs.laws.ExpressionReader.{passed_on}
 use Rattle.repl_defs.proofs.reader.Reader.compared.Goals as goal
 
 pub returns-in_err-right-clause-refused : goal.returns-in_err-right-clause-refused

@@ -1,6 +1,6 @@
 -- The kinds of a column, an integer and a text.
 use Rattle.std.proofs.Common.{sym, ◌∙◌}
-use Rattle.repl_model.specs.laws.Kinds.{kind_column, kind_int, kind_text}
+use Rattle.repl_model.specs.Words.{kind_column, kind_int, kind_text}
 use Rattle.repl_defs.proofs.reader.Reader.leaf.Goals as goal
 
 pub returns-in-Some-clause-kind : goal.returns-in-Some-clause-kind

@@ -1,6 +1,6 @@
 -- Each word that the machine takes, from what the calls ensure.
-use Rattle.repl_defs.proofs.PredicateReader.{null_tested, not_null_tested, untested}
-use Rattle.repl_defs.proofs.PredicateSteps.{column_fails}
+use Rattle.repl_defs.specs.laws.PredicateReader.{null_tested, not_null_tested, untested}
+use Rattle.repl_defs.specs.laws.PredicateSteps.{column_fails}
 use Rattle.repl_defs.proofs.reader.Reader.null_test.Goals as goal
 
 pub returns-then-not-word-clause-refused : goal.returns-then-not-word-clause-refused

@@ -1,5 +1,5 @@
 -- What the look-up finds is the place that the word names.
-use Rattle.repl_defs.proofs.Names.{place_found}
+use Rattle.repl_defs.specs.laws.Names.{place_found}
 use Rattle.repl_defs.proofs.reader.Reader.place.Goals as goal
 
 pub returns : goal.returns

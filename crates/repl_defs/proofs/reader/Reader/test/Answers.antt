@@ -1,9 +1,9 @@
 -- What follows the operand that an atom begins with.
 use Rattle.std.proofs.Common.{sym, ap, ◌∙◌}
 use Rattle.repl_defs.specs.ReadingPredicates.{comparison_at}
-use Rattle.repl_defs.proofs.PredicateReader.{left_completes, left_never, null_completes, null_never, value_never}
-use Rattle.repl_defs.proofs.PredicateSteps.{left_fails}
-use Rattle.repl_defs.proofs.ExpressionReader.{passed_on}
+use Rattle.repl_defs.specs.laws.PredicateReader.{left_completes, left_never, null_completes, null_never, value_never}
+use Rattle.repl_defs.specs.laws.PredicateSteps.{left_fails}
+use Rattle.repl_defs.specs.laws.ExpressionReader.{passed_on}
 use Rattle.repl_defs.proofs.reader.Reader.test.Goals as goal
 use Rattle.repl_defs.proofs.reader.Reader.test.Goals.{in-Column, in-Value}
 

@@ -1,7 +1,7 @@
 -- A predicate that is read up to the end.
 use Rattle.std.proofs.Common.{[]}
-use Rattle.repl_defs.proofs.ExpressionReader.{passed_on}
-use Rattle.repl_defs.proofs.TextsRead.{no_predicate, predicate_unfinished, predicate_read}
+use Rattle.repl_defs.specs.laws.ExpressionReader.{passed_on}
+use Rattle.repl_defs.specs.laws.TextsRead.{no_predicate, predicate_unfinished, predicate_read}
 use Rattle.repl_defs.proofs.reader.Reader.whole_predicate.Goals as goal
 
 pub returns-in_err-predicate-clause-refused : goal.returns-in_err-predicate-clause-refused

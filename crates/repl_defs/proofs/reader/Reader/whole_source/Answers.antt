@@ -1,7 +1,7 @@
 -- A function of rows, or an expression that is read up to the end and has a kind.
 use Rattle.std.proofs.Common.{[]}
-use Rattle.repl_defs.proofs.ExpressionReader.{passed_on}
-use Rattle.repl_defs.proofs.TextsRead.{summary_read, no_source, expression_unfinished, plain_read, kind_refused}
+use Rattle.repl_defs.specs.laws.ExpressionReader.{passed_on}
+use Rattle.repl_defs.specs.laws.TextsRead.{summary_read, no_source, expression_unfinished, plain_read, kind_refused}
 use Rattle.repl_defs.proofs.reader.Reader.whole_source.Goals as goal
 use Rattle.repl_defs.proofs.reader.Reader.whole_source.Goals.{then-not-is_empty-via-then-not-is_empty, then-not-is_empty-via-else-not-is_empty+then-is_none}
 

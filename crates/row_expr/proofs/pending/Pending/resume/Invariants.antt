@@ -1,5 +1,5 @@
 use Rattle.std.proofs.Common.{◌≡◌, ◌≤◌, length}
-use Rattle.repl_types.specs.Value.{Values}
+use Rattle.repl_model.specs.Words.{Values}
 use Rattle.row_expr.specs.PendingPredicates.{left_sizes, whole_truth}
 use Rattle.row_expr.proofs.pending.Pending.resume.Given as goal
 

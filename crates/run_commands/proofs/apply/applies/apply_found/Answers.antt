@@ -1,6 +1,5 @@
 use Rattle.std.proofs.Common.{◌≡◌, ℕ, ◌<◌, List, length, sym, subst}
-use Rattle.site_store.specs.Views.{names}
-use Rattle.site_store.specs.one_server.laws.Reads.{looks_none}
+use Rattle.site_store.specs.Words.{names, looks_none}
 use Rattle.subs_sets.specs.Rules.{source_rules}
 use Rattle.apply_cycle.specs.AtServers.{captured_undamaged}
 use Rattle.run_commands.specs.apply.StepEvents.{apply_events}

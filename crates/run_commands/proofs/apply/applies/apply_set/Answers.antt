@@ -1,5 +1,5 @@
 use Rattle.std.proofs.Common.{ℕ, ◌<◌, length, refl}
-use Rattle.site_store.specs.Views.{names}
+use Rattle.site_store.specs.Words.{names}
 use Rattle.stored_defs.specs.Rules.{rules as stored_rules}
 use Rattle.set_places.specs.laws.Staying.{placed_before}
 use Rattle.run_commands.specs.apply.StepEvents.{apply_events}

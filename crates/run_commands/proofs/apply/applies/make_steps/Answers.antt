@@ -1,10 +1,9 @@
 use Rattle.std.proofs.Common.{◌≡◌, ◌∙◌, ◌≤◌, refl, sym, subst, arith}
 use Rattle.std.proofs.lemmas.Result.{err_from_is_err_and}
-use Rattle.repl_model.specs.World.{World}
+use Rattle.world_store.specs.Words.{Stands}
+use Rattle.site_store.specs.Words.{names, held, keeps_itself, keeps_then}
+use Rattle.repl_model.specs.Words.{World}
 use Rattle.run_core.specs.Runs.{last_world}
-use Rattle.site_store.specs.Views.{names, held}
-use Rattle.site_store.specs.laws.Counts.{keeps_itself, keeps_then}
-use Rattle.world_store.specs.Stands.{Stands}
 use Rattle.run_commands.specs.parts.laws.Composing.{part_err, part_ended}
 use Rattle.run_commands.specs.parts.laws.Exits.{if_err_also}
 use Rattle.run_commands.specs.parts.laws.Parts.{output_reads, later_cause}
@@ -109,7 +108,7 @@ loop-steps-preserved g c =
       applies = λ w stands.
           let at = inv.applies w stands in
           let one = came (last_world w at.done) at.stands in
-          made_more (Stands (names s0)) number id c.args.most w t c.loop-steps.steps c.loop-steps-test.true (held kept s1) u at (held kept s2) u2 c.next_actions_come_to_rest.ensures (λ h x there. there.sound) one.0 (sym c.in-Made.is ∙ one.1);
+          made_more (Stands (names s0)) number id c.args.most w t c.loop-steps.steps c.loop-steps-test.true (held kept s1) u at (held kept s2) u2 (λ h x there. there.sound) one.0 (sym c.in-Made.is ∙ one.1);
       told = one_more t u u2 c.loop-steps.steps line.0 inv.told line.1 line.2;
       servers = keeps_then kept s0 s1 s2 inv.servers part.servers;
       counts = omega (arith, inv.counts, part.counts);

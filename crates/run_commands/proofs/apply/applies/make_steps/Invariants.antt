@@ -1,8 +1,7 @@
 use Rattle.std.proofs.Common.{◌≤◌}
-use Rattle.repl_model.specs.World.{World}
-use Rattle.site_store.specs.Calls.{KeepsServers}
-use Rattle.site_store.specs.Views.{names, held}
-use Rattle.world_store.specs.Stands.{Stands}
+use Rattle.world_store.specs.Words.{Stands}
+use Rattle.site_store.specs.Words.{KeepsServers, names, held}
+use Rattle.repl_model.specs.Words.{World}
 use Rattle.run_commands.specs.apply.Progress.{TakesSteps}
 use Rattle.run_commands.proofs.Applying.{Applies}
 use Rattle.run_commands.proofs.apply.applies.make_steps.Given as goal

@@ -1,12 +1,8 @@
 use Rattle.std.proofs.Common.{◌≡◌, ◌∙◌, ℕ, List, true, ap, subst, sym, arith}
-use Rattle.repl_types.specs.declared.fault.Fault.{Fault}
-use Rattle.keep_core.specs.Revealed.{Takes, TakesPrefix}
-use Rattle.lists.specs.laws.Numbered.{at_place_in}
-use Rattle.repl_model.specs.NextActions.{next_action}
-use Rattle.repl_model.specs.World.{World, KnownSet}
+use Rattle.world_store.specs.Words.{Stands}
+use Rattle.site_store.specs.Words.{Takes, TakesPrefix, names, held}
+use Rattle.repl_model.specs.Words.{Fault, at_place_in, next_action, World, KnownSet}
 use Rattle.run_core.specs.Runs.{Event, Went, Stopped, is_refused}
-use Rattle.site_store.specs.Views.{names, held}
-use Rattle.world_store.specs.Stands.{Stands}
 use Rattle.set_places.specs.Places.{IsPlacedAs}
 use Rattle.apply_cycle.specs.Stepping.{HasFailed}
 use Rattle.run_commands.specs.apply.Progress.{TakesStep, is_refusal, line_told, progress_told}
@@ -16,9 +12,10 @@ use Rattle.run_commands.specs.parts.laws.Exits.{if_err_also, ok_also}
 use Rattle.run_commands.specs.parts.laws.Parts.{output_reads}
 use Rattle.run_commands.proofs.Applying.{not_replicas}
 use Rattle.run_commands.proofs.FoundSets.{is_read_only, takes_each, may_have_made}
-use Rattle.run_commands.proofs.Outcomes.{refuses_step, source_name, told_step, began_told, wrote_refusal, began_refusal, failed_step}
+use Rattle.run_commands.proofs.Outcomes.{refuses_step, told_step, began_told, wrote_refusal, began_refusal, failed_step}
 use Rattle.run_commands.proofs.StepDamage.{step_reads, step_cause}
 use Rattle.run_commands.proofs.ToldSteps.{told_line}
+use Rattle.set_places.specs.laws.Standing.{source_name}
 use Rattle.run_commands.proofs.apply.steps.make_found.Goals as goal
 
 pub step-requires-clause-read_only : goal.step-requires-clause-read_only

@@ -1,8 +1,8 @@
 use Rattle.std.proofs.Common.{◌≡◌, ◌∙◌, ℕ, ◌<◌, length, ap, refl, sym}
-use Rattle.repl_model.specs.World.{World}
-use Rattle.site_store.specs.Views.{names, held}
+use Rattle.world_store.specs.Words.{Stands}
+use Rattle.site_store.specs.Words.{names, held}
+use Rattle.repl_model.specs.Words.{World}
 use Rattle.stored_defs.specs.Rules.{rules as stored_rules}
-use Rattle.world_store.specs.Stands.{Stands}
 use Rattle.run_commands.specs.apply.Progress.{TakesStep, is_refusal, progress_of, step_of}
 use Rattle.run_commands.specs.apply.StepEvents.{outcome}
 use Rattle.run_commands.specs.parts.laws.Composing.{answered, part_as, part_looked, part_refused, reads_failed}

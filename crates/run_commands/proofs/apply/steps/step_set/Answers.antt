@@ -1,8 +1,8 @@
 use Rattle.std.proofs.Common.{◌∙◌, [], true, false, ap, refl, sym}
+use Rattle.world_store.specs.Words.{Stands}
+use Rattle.site_store.specs.Words.{names, held}
 use Rattle.repl_types.specs.declared.fault.Stepped.TheVariants as steps
 use Rattle.reply_text.specs.Steps.{step_line}
-use Rattle.site_store.specs.Views.{names, held}
-use Rattle.world_store.specs.Stands.{Stands}
 use Rattle.run_commands.specs.apply.Progress.{is_refusal}
 use Rattle.run_commands.specs.apply.StepEvents.{outcome, step_events}
 use Rattle.run_commands.specs.parts.laws.Composing.{part_as, part_err, part_gives, part_replied, part_then}

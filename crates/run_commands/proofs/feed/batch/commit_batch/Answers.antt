@@ -1,13 +1,11 @@
-use Rattle.std.proofs.Common.{◌≡◌, ◌∙◌, ℕ, List, ap, refl, rules, subst, sym}
-use Rattle.std.specs.Prelude.{None, slice_index_or, is_none}
-use Rattle.repl_types.specs.declared.call_errors.AppendError.{AppendError}
+use Rattle.std.proofs.Common.{◌≡◌, ◌∙◌, ℕ, List, ap, refl, rules, subst, sym, None, slice_index_or, is_none}
+use Rattle.world_store.specs.Words.{Stands}
+use Rattle.site_store.specs.Words.{names, held}
+use Rattle.repl_model.specs.Words.{AppendError, World}
 use Rattle.repl_types.specs.declared.call_errors.AppendError.TheVariants as errors
 use Rattle.repl_types.specs.declared.refusal.Refusal.TheVariants as refusals
-use Rattle.repl_model.specs.World.{World}
-use Rattle.site_store.specs.Views.{names, held}
 use Rattle.source_log.specs.Appending.{HasNotAppended, BlamesOrStops}
 use Rattle.source_log.specs.Rules.{ShowsDamage}
-use Rattle.world_store.specs.Stands.{Stands}
 use Rattle.run_commands.specs.feed.FeedEvents.{batch_events}
 use Rattle.run_commands.specs.parts.Parts.{WritesRefusal}
 use Rattle.run_commands.specs.parts.Refusing.{refused}

@@ -1,8 +1,5 @@
-use Rattle.std.proofs.Common.{◌≡◌, ◌∙◌, ℕ, true, false, refl, ap, arith}
-use Rattle.std.specs.Prelude.{Option, Some, None, is_some, is_none, not}
-use Rattle.std.specs.Option.{MatchOption}
-use Rattle.site_store.specs.Servers.{HasNone, IsPlace}
-use Rattle.site_store.specs.Views.{names}
+use Rattle.std.proofs.Common.{◌≡◌, ◌∙◌, ℕ, true, false, refl, ap, arith, Option, Some, None, is_some, is_none, not, MatchOption}
+use Rattle.site_store.specs.Words.{HasNone, IsPlace, names}
 use Rattle.run_commands.specs.parts.laws.Composing.{answered, no_value, nothing_to_do, part_as, part_refused}
 use Rattle.run_commands.specs.feed.FeedEvents.{begin_events}
 use Rattle.run_commands.specs.feed.Feeds.{new_feed}

@@ -1,5 +1,4 @@
-use Rattle.std.proofs.Common.{refl}
-use Rattle.std.specs.Prelude.{Some, None, is_none}
+use Rattle.std.proofs.Common.{refl, Some, None, is_none}
 use Rattle.run_commands.specs.parts.laws.Composing.{part_err, part_failed, part_gives, err_value}
 use Rattle.run_commands.proofs.feed.lines.commit_waiting.Goals as goal
 

@@ -1,5 +1,4 @@
-use Rattle.std.proofs.Common.{◌∙◌, ◌+◌, ◌≤◌, Err, length, ap, subst, sym}
-use Rattle.std.specs.Prelude.{Option, IfSome, is_none}
+use Rattle.std.proofs.Common.{◌∙◌, ◌+◌, ◌≤◌, Err, length, ap, subst, sym, Option, IfSome, is_none}
 use Rattle.run_commands.specs.parts.laws.Composing.{no_memory, part_as}
 use Rattle.run_commands.specs.parts.laws.Exits.{ok_also}
 use Rattle.run_commands.specs.feed.FeedEvents.{feed_line_events}

@@ -1,5 +1,4 @@
-use Rattle.std.proofs.Common.{◌≡◌, ◌∙◌, true, false, refl, sym, ap, subst, arith}
-use Rattle.std.specs.Prelude.{Some, is_none}
+use Rattle.std.proofs.Common.{◌≡◌, ◌∙◌, true, false, refl, sym, ap, subst, arith, Some, is_none}
 use Rattle.run_commands.specs.parts.laws.Composing.{no_memory, nothing_to_do, part_as, part_err, err_value}
 use Rattle.run_commands.specs.parts.laws.Exits.{ok_also}
 use Rattle.run_commands.specs.feed.FeedEvents.{batch_events, record_events}

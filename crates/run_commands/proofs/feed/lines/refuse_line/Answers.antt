@@ -1,5 +1,4 @@
-use Rattle.std.proofs.Common.{refl}
-use Rattle.std.specs.Prelude.{None, is_none}
+use Rattle.std.proofs.Common.{refl, None, is_none}
 use Rattle.run_commands.specs.parts.Refusing.{refused}
 use Rattle.run_commands.specs.parts.laws.Composing.{answered, err_value, part_err, part_refused}
 use Rattle.run_commands.proofs.BodyLines.{batch_fails, batch_refused, batch_then}

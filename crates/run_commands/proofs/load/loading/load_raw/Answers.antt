@@ -1,8 +1,7 @@
 use Rattle.std.proofs.Common.{◌≡◌, ◌∙◌, true, false, refl, sym, subst, arith}
-use Rattle.repl_types.specs.declared.fault.Fault.{Fault}
-use Rattle.repl_model.specs.World.{World}
-use Rattle.site_store.specs.Views.{names, held}
-use Rattle.world_store.specs.Stands.{Stands}
+use Rattle.world_store.specs.Words.{Stands}
+use Rattle.site_store.specs.Words.{names, held}
+use Rattle.repl_model.specs.Words.{Fault, World}
 use Rattle.load_defs.specs.Loading.{HasNotLoaded}
 use Rattle.run_commands.specs.load.LoadEvents.{has_carried_out_sets, raw_events}
 use Rattle.run_commands.specs.parts.laws.Composing.{part_as, part_refused, part_written}

@@ -1,5 +1,5 @@
-use Rattle.std.proofs.Common.{Err, ap, refl}
-use Rattle.std.specs.Prelude.{Some}
+use Rattle.std.proofs.Common.{Err, ap, refl, Some}
+use Rattle.load_laws.specs.laws.Read.{reads_whole}
 use Rattle.run_commands.specs.load.LoadEvents.{load_text_events}
 use Rattle.run_commands.specs.parts.laws.Composing.{no_memory, part_as, part_refused}
 use Rattle.run_commands.proofs.LoadEvents.{read_events, unread_events}
@@ -7,6 +7,9 @@ use Rattle.run_commands.proofs.load.loading.load_text.Goals as goal
 
 pub returns-in_default : goal.returns-in_default
 returns-in_default g c = rw c.in_default.is (part_refused (λ refused. refused) c.requires refl c.refuse.ensures)
+
+pub load_raw-requires-clause-raw : goal.load_raw-requires-clause-raw
+load_raw-requires-clause-raw g c = reads_whole c.in-Some.text c.in-Ok.raw (rw c.as_slice.ensures at c.in-Ok.ensures.ok)
 
 pub returns-in-Ok : goal.returns-in-Ok
 returns-in-Ok g c =

@@ -1,6 +1,5 @@
-use Rattle.std.proofs.Common.{true, subst}
-use Rattle.std.specs.Prelude.{Some}
-use Rattle.repl_types.specs.declared.refusal.Refusal.{Refusal}
+use Rattle.std.proofs.Common.{true, subst, Some}
+use Rattle.repl_model.specs.Words.{Refusal}
 use Rattle.repl_types.specs.declared.refusal.Refusal.TheVariants as refusals
 use Rattle.run_core.specs.Runs.{lines_of}
 use Rattle.run_commands.specs.parts.Parts.{WritesRefusal}

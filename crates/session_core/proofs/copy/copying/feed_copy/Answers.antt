@@ -1,8 +1,7 @@
-use Rattle.std.proofs.Common.{List, [], ℕ, subst, arith}
-use Rattle.std.specs.Prelude.{Some, codes}
-use Rattle.repl_model.specs.World.{World}
+use Rattle.std.proofs.Common.{List, [], ℕ, subst, arith, Some, codes}
+use Rattle.site_store.specs.Words.{keeps_then}
+use Rattle.repl_model.specs.Words.{World}
 use Rattle.run_core.specs.Runs.{Event}
-use Rattle.site_store.specs.laws.Counts.{keeps_then}
 use Rattle.run_commands.specs.parts.Parts.{IsPart}
 use Rattle.run_commands.specs.parts.laws.Exits.{if_err_also}
 use Rattle.session_core.specs.copy.CopyEvents.{shown_events, fed_events}

@@ -1,18 +1,14 @@
 -- Laws of what is refused as an input is fed: proofs, and nothing to believe.
-use Rattle.std.proofs.Common.{◌≡◌, ◌∙◌, ℕ, ◌+◌, List, [], ◌∷◌, ◌++◌, length, Bool, true, false, ◌||◌, refl, sym, ap, subst}
-use Rattle.std.specs.Prelude.{Option, Some, None, is_some, nat_lt, if◌then◌else◌}
+use Rattle.std.proofs.Common.{◌≡◌, ◌∙◌, ℕ, ◌+◌, List, [], ◌∷◌, ◌++◌, length, Bool, true, false, ◌||◌, refl, sym, ap, subst, Option, Some, None, is_some, nat_lt, if◌then◌else◌}
 use Rattle.std.specs.Option.{option_map, option_map_or}
 use Rattle.std.specs.Str.Lines.{lines}
-use Rattle.repl_types.specs.declared.call_errors.AppendError.{AppendError}
+use Rattle.repl_model.specs.Words.{AppendError, LogRecord, Refusal, Server, World, server_named}
 use Rattle.repl_types.specs.declared.call_errors.AppendError.TheVariants as errors
 use Rattle.line_input.specs.Limits.{line_limit}
 use Rattle.log_text.specs.Records.{record_of}
-use Rattle.repl_types.specs.declared.record.LogRecord.{LogRecord}
-use Rattle.repl_types.specs.declared.refusal.Refusal.{Refusal}
 use Rattle.repl_types.specs.declared.refusal.Refusal.TheVariants as refusals
 use Rattle.reply_text.specs.Replies.{reply_line}
 use Rattle.reply_text.specs.declared.reply.Reply.TheVariants as replies
-use Rattle.repl_model.specs.World.{Server, World, server_named}
 use Rattle.run_core.specs.Runs.{Event, writes, last_world, is_refused}
 use Rattle.run_core.specs.laws.Runs.{refused_append}
 use Rattle.run_commands.specs.parts.Refusing.{refused}

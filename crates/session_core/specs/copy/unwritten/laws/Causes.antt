@@ -1,12 +1,9 @@
 -- Laws of why a part of a run ends it, beside other parts: proofs, and nothing to believe.
-use Rattle.std.proofs.Common.{ℕ, List, arith}
-use Rattle.std.specs.Prelude.{Option}
-use Rattle.keep_core.specs.Kept.{Kept}
-use Rattle.repl_model.specs.World.{World}
-use Rattle.site_store.specs.Calls.{KeepsServers}
-use Rattle.site_store.specs.Views.{names, held}
+use Rattle.std.proofs.Common.{ℕ, List, arith, Option}
+use Rattle.world_store.specs.Words.{Stands}
+use Rattle.site_store.specs.Words.{Kept, KeepsServers, names, held}
 use Rattle.site_store.specs.declared.sites.Sites.{Sites}
-use Rattle.world_store.specs.Stands.{Stands}
+use Rattle.repl_model.specs.Words.{World}
 use Rattle.run_commands.specs.parts.Causes.{BlamesStreams, BlamesServers, PartHasCause}
 use Rattle.run_commands.specs.parts.ExitStatus.{status_of_error}
 use Rattle.run_commands.specs.parts.laws.Parts.{met_later}

@@ -1,8 +1,7 @@
 -- Laws of a sink that keeps the lines of what happened: proofs, and nothing to believe.
-use Rattle.std.proofs.Common.{◌≡◌, ℕ, List, []}
-use Rattle.std.specs.Prelude.{Option, Some}
+use Rattle.std.proofs.Common.{◌≡◌, ℕ, List, [], Option, Some}
 use Rattle.std.proofs.lemmas.Option.{same_Some}
-use Rattle.keep_core.specs.Contents.{Contents}
+use Rattle.site_store.specs.Words.{Contents}
 use Rattle.run_core.specs.Runs.{Event, lines_of, Went}
 
 -- a sink that had no bytes has the lines of what happened

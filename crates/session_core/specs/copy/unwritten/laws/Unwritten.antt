@@ -1,16 +1,11 @@
 -- Laws of parts of a run whose lines aren't written: proofs, and nothing to believe.
-use Rattle.std.proofs.Common.{◌≡◌, ◌∙◌, ℕ, List, [], ◌∷◌, ◌++◌, Bool, false, refl, sym, ap, subst, arith}
-use Rattle.std.specs.Prelude.{Option, Ok, Err}
-use Rattle.keep_core.specs.Contents.{Contents}
-use Rattle.keep_core.specs.Kept.{Kept}
-use Rattle.keep_core.specs.Revealed.{Takes}
-use Rattle.keep_core.specs.laws.Revealed.{takes_nothing}
-use Rattle.repl_model.specs.World.{World}
+use Rattle.std.proofs.Common.{◌≡◌, ◌∙◌, ℕ, List, [], ◌∷◌, ◌++◌, Bool, false, refl, sym, ap, subst, arith, Option, Ok, Err}
+use Rattle.world_store.specs.Words.{Stands}
+use Rattle.site_store.specs.Words.{Contents, Kept, Takes, takes_nothing, names, held}
+use Rattle.site_store.specs.declared.sites.Sites.{Sites}
+use Rattle.repl_model.specs.Words.{World}
 use Rattle.run_core.specs.Runs.{Event, commits, writes, refuses, last_world, lines_of, is_refused, Went, Stopped}
 use Rattle.run_core.specs.laws.Runs.{no_part}
-use Rattle.site_store.specs.Views.{names, held}
-use Rattle.site_store.specs.declared.sites.Sites.{Sites}
-use Rattle.world_store.specs.Stands.{Stands}
 use Rattle.run_commands.specs.parts.Parts.{IsPart}
 use Rattle.run_commands.specs.declared.parts.run_error.RunError.{RunError}
 use Rattle.session_core.specs.copy.unwritten.laws.Causes.{cause_unwritten}

@@ -1,6 +1,5 @@
-use Rattle.std.proofs.Common.{ℕ, List, get_or, ap, ◌∙◌, arith}
+use Rattle.std.proofs.Common.{ℕ, List, get_or, ap, ◌∙◌, arith, None}
 use Rattle.std.proofs.lemmas.List.{with_items_is}
-use Rattle.std.specs.Prelude.{None}
 use Rattle.site_store.specs.declared.site.Site.{Site}
 use Rattle.site_store.specs.Servers.{names_of, held_of, work_of, faults_of, reads_of, writes_of}
 use Rattle.site_store.proofs.sites.Sites.rollback_all.Goals as goal

@@ -1,7 +1,7 @@
 -- What the operator makes, and of which kind it is.
 use Rattle.std.proofs.Common.{◌≡◌, refl}
 use Rattle.repl_defs.specs.ReadingExpressions.{joined_by}
-use Rattle.repl_defs.proofs.TreeKinds.{kind_joined}
+use Rattle.repl_defs.specs.laws.TreeKinds.{kind_joined}
 use Rattle.repl_defs.proofs.reader.expression.Operator.join.Goals as goal
 use Rattle.repl_defs.proofs.reader.expression.Operator.join.Goals.{in-Add, in-Sub, in-Mul, in-Concat}
 

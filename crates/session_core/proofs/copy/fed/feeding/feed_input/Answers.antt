@@ -1,11 +1,9 @@
-use Rattle.std.proofs.Common.{◌∙◌, ◌≤◌, ◌+◌, ◌||◌, Bool, Err, refl, sym, subst, arith}
-use Rattle.std.proofs.lemmas.Bool.{true≢false}
+use Rattle.std.proofs.Common.{◌∙◌, ◌≤◌, ◌+◌, ◌||◌, Bool, Err, refl, sym, subst, arith, true≢false}
+use Rattle.world_store.specs.Words.{Stands}
+use Rattle.site_store.specs.Words.{names, held, keeps_then}
 use Rattle.line_input.specs.Input.{left_of, total_of, ReadsLine}
 use Rattle.line_input.specs.Limits.{input_limit}
 use Rattle.line_input.specs.declared.input.Next.{Next}
-use Rattle.site_store.specs.Views.{names, held}
-use Rattle.site_store.specs.laws.Counts.{keeps_then}
-use Rattle.world_store.specs.Stands.{Stands}
 use Rattle.run_commands.specs.parts.laws.Parts.{later_cause}
 use Rattle.session_core.specs.copy.unwritten.laws.Causes.{part_blamed}
 use Rattle.session_core.specs.Reading.{ReadsAll}

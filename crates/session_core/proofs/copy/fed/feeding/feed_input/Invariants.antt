@@ -1,11 +1,9 @@
-use Rattle.std.proofs.Common.{◌≡◌, ◌≤◌, ◌<◌, ◌+◌, length}
-use Rattle.std.specs.Option.{option_map, IfSome}
+use Rattle.std.proofs.Common.{◌≡◌, ◌≤◌, ◌<◌, ◌+◌, length, option_map, IfSome}
+use Rattle.world_store.specs.Words.{Stands}
+use Rattle.site_store.specs.Words.{KeepsServers, names, held}
+use Rattle.repl_model.specs.Words.{World}
 use Rattle.line_input.specs.Limits.{input_limit}
 use Rattle.line_input.specs.Input.{left_of, total_of, budget, NothingAfterEnd}
-use Rattle.repl_model.specs.World.{World}
-use Rattle.site_store.specs.Calls.{KeepsServers}
-use Rattle.site_store.specs.Views.{names, held}
-use Rattle.world_store.specs.Stands.{Stands}
 use Rattle.run_commands.specs.feed.Feeds.{IsFeed}
 use Rattle.session_core.specs.copy.fed.Feeding.{GoesOn}
 use Rattle.session_core.proofs.copy.fed.feeding.feed_input.Given as goal

@@ -1,0 +1,143 @@
+-- The names of tables and of sets differ once accepted definitions are loaded.
+use Rattle.std.proofs.Common.{List, ◌≡◌, ◌≤◌, Bool, not, true, ◌&&◌, ◌++◌, Option, Some, None, sym, ap, ap₂, subst, ◌∙◌, filter, is_none, is_some, count_by, filter_map, bytes_eq}
+use Rattle.std.proofs.lemmas.Bool.{and_parts, and_from, false≢true, leb-true}
+use Rattle.repl_model.specs.Words.{SetDef, ServerTable, SourceSide, TargetSide, Server, World, server_table, same_set, source_side, target_side, all_differ, In, passes_at, in_map, in_filter, embeds_differ, differ_images, same_name, name_itself, same_id, id_itself, not_not}
+use Rattle.repl_commands.specs.declared.written.RawDefs.{RawDefs}
+use Rattle.repl_commands.specs.declared.written.RawSet.{RawSet}
+use Rattle.repl_commands.specs.declared.written.RawTable.{RawTable}
+use Rattle.spelled_defs.specs.Spelled.{spelled_table, spelled_set}
+use Rattle.spelled_defs.specs.declared.defs.Defs.{Defs}
+use Rattle.spelled_defs.specs.declared.defs.TableAt.{TableAt}
+use Rattle.checked_defs.specs.Rules.{names_table, names_raw_set, table_stands_once, set_stands_once}
+use Rattle.checked_defs.specs.Broken.{table_breaks, set_breaks}
+use Rattle.checked_defs.specs.declared.rule.Rule.TheVariants.{Once}
+use Rattle.load_laws.specs.rules.laws.Kept.{rule_kept}
+use Rattle.load_laws.specs.worlds.Loads.{new_tables, fresh_source, fresh_target, new_sources, new_targets, register}
+use Rattle.load_laws.specs.rules.Accepted.{Accepted, context_in}
+use Rattle.load_laws.specs.rules.StaysSound.{HoldsLoaded}
+use Rattle.load_laws.specs.laws.PartsOfSound.{TableNamesDiffer, SourceNamesDiffer, TargetNamesDiffer}
+use Rattle.load_laws.specs.rules.laws.Lists.{embeds_given, embeds_kept, counted_differ, differ_together, found_some}
+use Rattle.load_laws.specs.rules.laws.Items.{table_spelled, set_spelled}
+use Rattle.load_laws.specs.laws.Servers.{each_loaded, server_rules}
+use Rattle.load_laws.specs.laws.Loaded.{none_there}
+
+-- two tables have one name at one server
+abbrev same_table : TableAt → TableAt → Bool
+same_table a b = bytes_eq a.server b.server && bytes_eq a.def.name b.def.name
+
+-- each table of a text has its name alone
+item_once : (raw : RawDefs) (w : World) (defs : Defs) → Accepted raw w defs → (item : RawTable) → In item raw.tables → count_by (names_table item.server item.name) raw.tables ≤ 1
+unfolding table_breaks
+item_once raw w defs accepted item i =
+    let kept = passes_at (λ (t : RawTable). not (table_breaks raw (context_in w raw) Once t)) raw.tables item (rule_kept raw (context_in w raw) accepted.kept Once).tables i in
+    leb-true (count_by (names_table item.server item.name) raw.tables) 1 (and_parts _ _ (and_parts _ _ (and_parts _ _ (and_parts _ _ (not_not (table_stands_once raw (context_in w raw) item) kept)).0).0).0).0
+
+-- no two tables of accepted definitions have one name at one server
+tables_once : (raw : RawDefs) (w : World) (defs : Defs) → Accepted raw w defs → all_differ same_table defs.tables ≡ true
+tables_once raw w defs accepted = subst (λ (d : Defs). all_differ same_table d.tables ≡ true) (sym accepted.spelled)
+    (embeds_differ (λ t item. spelled_table item ≡ Some t) same_table (λ a b. names_table a.server a.name b)
+    (λ x z y v p q e. ap₂ same_table (sym (table_spelled y x p)) (sym (table_spelled v z q)) ∙ e)
+    (filter_map spelled_table raw.tables) raw.tables (embeds_given spelled_table raw.tables)
+    (counted_differ (λ a b. names_table a.server a.name b) (λ item. and_from (bytes_eq item.server item.server) (bytes_eq item.name item.name) (name_itself item.server) (name_itself item.name)) raw.tables (item_once raw w defs accepted)))
+
+-- two tables of a server have one name
+abbrev same_named : ServerTable → ServerTable → Bool
+same_named a b = bytes_eq a.def.name b.def.name
+
+-- the names of the tables of a server differ
+pub table_names_differ : HoldsLoaded TableNamesDiffer
+table_names_differ raw w defs sound accepted = each_loaded (λ s. all_differ same_named s.tables ≡ true) defs w (λ s i.
+    differ_images (register defs s) same_named (s.tables ++ new_tables defs s)
+    ∙ differ_together same_named s.tables (new_tables defs s) (server_rules w s sound i).differ (new_differ s) (apart s))
+  where
+    is_new : Server → TableAt → Bool
+    is_new s t = bytes_eq t.server s.name && is_none (server_table t.def.name s)
+
+    at_server : (s : Server) (t : TableAt) → is_new s t ≡ true → t.server ≡ s.name
+    at_server s t e = same_name t.server s.name (and_parts (bytes_eq t.server s.name) (is_none (server_table t.def.name s)) e).0
+
+    new_differ : (s : Server) → all_differ same_named (new_tables defs s) ≡ true
+    new_differ s = differ_images (λ (t : TableAt). record { def = t.def; registered = None }) same_named (filter (is_new s) defs.tables)
+        ∙ embeds_differ (λ y x. (y ≡ x) × (is_new s x ≡ true)) (λ a b. bytes_eq a.def.name b.def.name) same_table
+        (λ x z y v p q e. and_from (bytes_eq y.server v.server) (bytes_eq y.def.name v.def.name) (ap₂ bytes_eq (at_server s y p.1) (at_server s v q.1) ∙ name_itself s.name) (ap₂ (λ (a b : TableAt). bytes_eq a.def.name b.def.name) (sym p.0) (sym q.0) ∙ e))
+        (filter (is_new s) defs.tables) defs.tables (embeds_kept (is_new s) defs.tables) (tables_once raw w defs accepted)
+
+    apart : (s : Server) (x y : ServerTable) → In x s.tables → In y (new_tables defs s) → same_named x y ≡ true → ⊥
+    apart s x y i j e =
+        let r = in_map (λ (t : TableAt). record { def = t.def; registered = None }) (filter (is_new s) defs.tables) y j in
+        let k = in_filter (is_new s) defs.tables r.0 r.1 in
+        let none = none_there (server_table r.0.def.name s) (and_parts (bytes_eq r.0.server s.name) (is_none (server_table r.0.def.name s)) k.1).1 in
+        let name : x.def.name ≡ r.0.def.name = same_name x.def.name y.def.name e ∙ ap (λ (t : ServerTable). t.def.name) r.2 in
+        false≢true (sym (ap (λ (o : Option ServerTable). is_some o) none) ∙ found_some (λ (t : ServerTable). bytes_eq r.0.def.name t.def.name) s.tables x i (ap (bytes_eq r.0.def.name) name ∙ name_itself r.0.def.name))
+
+-- ---- sets
+
+-- two sets have one name
+abbrev same_def : SetDef → SetDef → Bool
+same_def a b = same_set a.id b.id
+
+-- each set of a text has its name alone
+set_once : (raw : RawDefs) (w : World) (defs : Defs) → Accepted raw w defs → (item : RawSet) → In item raw.sets → count_by (names_raw_set item.qual item.name) raw.sets ≤ 1
+unfolding set_breaks
+set_once raw w defs accepted item i =
+    leb-true (count_by (names_raw_set item.qual item.name) raw.sets) 1 (not_not (set_stands_once raw item)
+    (passes_at (λ (set : RawSet). not (set_breaks raw Once set)) raw.sets item (rule_kept raw (context_in w raw) accepted.kept Once).sets i))
+
+-- no two accepted sets have one name
+pub sets_once : (raw : RawDefs) (w : World) (defs : Defs) → Accepted raw w defs → all_differ same_def defs.sets ≡ true
+sets_once raw w defs accepted = subst (λ (d : Defs). all_differ same_def d.sets ≡ true) (sym accepted.spelled)
+    (embeds_differ (λ def item. spelled_set tables item ≡ Some def) same_def (λ a b. names_raw_set a.qual a.name b)
+    (λ x z y v p q e. ap₂ same_def (sym (set_spelled tables y x p)) (sym (set_spelled tables v z q)) ∙ e)
+    (filter_map (spelled_set tables) raw.sets) raw.sets (embeds_given (spelled_set tables) raw.sets)
+    (counted_differ (λ a b. names_raw_set a.qual a.name b) (λ item. and_from (bytes_eq item.qual item.qual) (bytes_eq item.name item.name) (name_itself item.qual) (name_itself item.name)) raw.sets (set_once raw w defs accepted)))
+  where
+    tables : List TableAt
+    tables = (context_in w raw).tables
+
+-- the names of the sets at their sources differ
+pub source_names_differ : HoldsLoaded SourceNamesDiffer
+source_names_differ raw w defs sound accepted = each_loaded (λ s. all_differ same_row s.source_sets ≡ true) defs w (λ s i.
+    differ_together same_row s.source_sets (new_sources defs s) (server_rules w s sound i).source_names (new_differ s) (apart s))
+  where
+    same_row : SourceSide → SourceSide → Bool
+    same_row a b = same_set a.def.id b.def.id
+
+    is_new : Server → SetDef → Bool
+    is_new s def = bytes_eq def.source s.name && is_none (source_side def.id s)
+
+    new_differ : (s : Server) → all_differ same_row (new_sources defs s) ≡ true
+    new_differ s = differ_images fresh_source same_row (filter (is_new s) defs.sets)
+        ∙ embeds_differ (λ y x. (y ≡ x) × (is_new s x ≡ true)) same_def same_def (λ x z y v p q e. ap₂ same_def (sym p.0) (sym q.0) ∙ e)
+        (filter (is_new s) defs.sets) defs.sets (embeds_kept (is_new s) defs.sets) (sets_once raw w defs accepted)
+
+    apart : (s : Server) (x y : SourceSide) → In x s.source_sets → In y (new_sources defs s) → same_row x y ≡ true → ⊥
+    apart s x y i j e =
+        let r = in_map fresh_source (filter (is_new s) defs.sets) y j in
+        let k = in_filter (is_new s) defs.sets r.0 r.1 in
+        let none = none_there (source_side r.0.id s) (and_parts (bytes_eq r.0.source s.name) (is_none (source_side r.0.id s)) k.1).1 in
+        let name : x.def.id ≡ r.0.id = same_id x.def.id y.def.id e ∙ ap (λ (side : SourceSide). side.def.id) r.2 in
+        false≢true (sym (ap (λ (o : Option SourceSide). is_some o) none) ∙ found_some (λ (side : SourceSide). same_set r.0.id side.def.id) s.source_sets x i (ap (same_set r.0.id) name ∙ id_itself r.0.id))
+
+-- the names of the sets at their targets differ
+pub target_names_differ : HoldsLoaded TargetNamesDiffer
+target_names_differ raw w defs sound accepted = each_loaded (λ s. all_differ same_row s.target_sets ≡ true) defs w (λ s i.
+    differ_together same_row s.target_sets (new_targets defs s) (server_rules w s sound i).target_names (new_differ s) (apart s))
+  where
+    same_row : TargetSide → TargetSide → Bool
+    same_row a b = same_set a.def.id b.def.id
+
+    is_new : Server → SetDef → Bool
+    is_new s def = bytes_eq def.target s.name && is_none (target_side def.id s)
+
+    new_differ : (s : Server) → all_differ same_row (new_targets defs s) ≡ true
+    new_differ s = differ_images fresh_target same_row (filter (is_new s) defs.sets)
+        ∙ embeds_differ (λ y x. (y ≡ x) × (is_new s x ≡ true)) same_def same_def (λ x z y v p q e. ap₂ same_def (sym p.0) (sym q.0) ∙ e)
+        (filter (is_new s) defs.sets) defs.sets (embeds_kept (is_new s) defs.sets) (sets_once raw w defs accepted)
+
+    apart : (s : Server) (x y : TargetSide) → In x s.target_sets → In y (new_targets defs s) → same_row x y ≡ true → ⊥
+    apart s x y i j e =
+        let r = in_map fresh_target (filter (is_new s) defs.sets) y j in
+        let k = in_filter (is_new s) defs.sets r.0 r.1 in
+        let none = none_there (target_side r.0.id s) (and_parts (bytes_eq r.0.target s.name) (is_none (target_side r.0.id s)) k.1).1 in
+        let name : x.def.id ≡ r.0.id = same_id x.def.id y.def.id e ∙ ap (λ (side : TargetSide). side.def.id) r.2 in
+        false≢true (sym (ap (λ (o : Option TargetSide). is_some o) none) ∙ found_some (λ (side : TargetSide). same_set r.0.id side.def.id) s.target_sets x i (ap (same_set r.0.id) name ∙ id_itself r.0.id))

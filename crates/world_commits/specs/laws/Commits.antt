@@ -1,0 +1,105 @@
+-- The last commit of a log, and the units that a block takes.
+use Rattle.std.proofs.Common.{◌≡◌, ℕ, ◌<◌, ◌≤◌, Bool, true, ◌&&◌, ◌⊎◌, inl, inr, List, [], ◌∷◌, map, Option, Some, refl, sym, ap, subst, arith, ◌==◌, nat_lt, nat_le, filter, fold}
+use Rattle.std.specs.List.{enumerate_from, last_or}
+use Rattle.std.specs.Option.{option_map_or}
+use Rattle.std.proofs.lemmas.Bool.{and_parts, and_from, or_cases, lt-ltb, le-leb, ltb-true, eqb-true, eq-eqb}
+use Rattle.repl_model.specs.Words.{LogRecord, Unit, SetDef, units, last_seq, last_commit, units_between, is_seq, is_seq_or_zero, is_within, first_cut, In, any_from, some_passes, in_filter, kept_by, in_map, numbered_in}
+use Rattle.world_commits.specs.captures.laws.Units.{Rise, units_rise}
+
+-- ---- the last commit
+
+-- the seq of the last of some units, or else n
+abbrev last_from : ℕ → List Unit → ℕ
+last_from n us = fold (λ last u. u.head.seq) n us
+
+-- seqs that rise don't fall below where they begin
+none_below : (n : ℕ) (us : List Unit) → Rise n us → n ≤ last_from n us
+none_below n [] rise = omega arith
+none_below n (u ∷ us) rise = omega (arith, rise.0, none_below u.head.seq us rise.1)
+
+-- no unit of some that rise stands after the last
+none_after_last : (n : ℕ) (us : List Unit) (u : Unit) → Rise n us → In u us → u.head.seq ≤ last_from n us
+none_after_last n [] u rise i = absurd i
+none_after_last n (v ∷ vs) u rise (inl same) = subst (λ (w : Unit). w.head.seq ≤ last_from v.head.seq vs) (sym same) (none_below v.head.seq vs rise.1)
+none_after_last n (v ∷ vs) u rise (inr i) = none_after_last v.head.seq vs u rise.1 i
+
+-- the last is one of them
+last_is_unit : (n : ℕ) (u : Unit) (us : List Unit) → (v : Unit) × In v (u ∷ us) × (v.head.seq ≡ last_from n (u ∷ us))
+last_is_unit n u [] = (u, inl refl, refl)
+last_is_unit n u (w ∷ ws) = let r = last_is_unit u.head.seq w ws in (r.0, inr r.1, r.2)
+
+-- if there is one
+last_of_some : (us : List Unit) (u : Unit) → In u us → (v : Unit) × In v us × (v.head.seq ≡ last_seq us)
+last_of_some [] u i = absurd i
+last_of_some (v ∷ vs) u i = last_is_unit 0 v vs
+
+-- a unit of a log whose seq is this one shows that it is a seq
+unit_has_seq : (log : List LogRecord) (point : ℕ) (u : Unit) → In u (units log) → u.head.seq ≡ point → is_seq log point ≡ true
+unit_has_seq log point u i e = any_from (λ (v : Unit). v.head.seq == point) (units log) u i (eq-eqb u.head.seq point e)
+
+-- no seq is above the last commit
+pub seq_up_to_last : (log : List LogRecord) (point : ℕ) → is_seq log point ≡ true → point ≤ last_commit log
+seq_up_to_last log point e =
+    let u = some_passes (λ (v : Unit). v.head.seq == point) (units log) e in
+    subst (λ (n : ℕ). n ≤ last_commit log) (eqb-true u.0.head.seq point u.2) (none_after_last 0 (units log) u.0 (units_rise log) u.1)
+
+-- the last commit is a seq, if there is one
+pub last_is_seq : (log : List LogRecord) (point : ℕ) → is_seq log point ≡ true → is_seq log (last_commit log) ≡ true
+last_is_seq log point e =
+    let u = some_passes (λ (v : Unit). v.head.seq == point) (units log) e in
+    let last = last_of_some (units log) u.0 u.1 in
+    unit_has_seq log (last_commit log) last.0 last.1 last.2
+
+-- a seq or 0 is a seq, if it is above a number
+pub seq_above : (log : List LogRecord) (low point : ℕ) → low < point → is_seq_or_zero log point ≡ true → is_seq log point ≡ true
+seq_above log low point above e = by_case (or_cases (point == 0) (is_seq log point) e)
+  where
+    by_case : (◌≡◌ (point == 0) true) ⊎ (is_seq log point ≡ true) → is_seq log point ≡ true
+    by_case (inl zero) = absurd (omega (arith, above, eqb-true point 0 zero))
+    by_case (inr seq) = seq
+
+-- a seq or 0 isn't above the last commit
+pub seq_or_zero_up_to_last : (log : List LogRecord) (point : ℕ) → is_seq_or_zero log point ≡ true → point ≤ last_commit log
+seq_or_zero_up_to_last log point e = by_case (or_cases (point == 0) (is_seq log point) e)
+  where
+    by_case : (◌≡◌ (point == 0) true) ⊎ (is_seq log point ≡ true) → point ≤ last_commit log
+    by_case (inl zero) = omega (arith, eqb-true point 0 zero)
+    by_case (inr seq) = seq_up_to_last log point seq
+
+-- ---- what a block takes
+
+-- the last of a list, or else another element, is one of both
+last_in : {X : Type 0} (x : X) (xs : List X) → (y : X) × In y (x ∷ xs) × (last_or (Some x) xs ≡ Some y)
+last_in x [] = (x, inl refl, refl)
+last_in x (z ∷ zs) = let r = last_in z zs in (r.0, inr r.1, r.2)
+
+-- the last of the units that one block takes is one of those that come next
+cut_is_unit : (def : SetDef) (first : Unit) (us : List Unit) → (u : Unit) × In u (first ∷ us) × (first_cut def (first ∷ us) ≡ Some u)
+cut_is_unit def first us = let last = last_in first (map (λ r. r.1) numbered) in (last.0, by_place last.0 last.1, last.2)
+  where
+    numbered : List (ℕ × Unit)
+    numbered = filter (is_within def first) (enumerate_from 1 (first ∷ us))
+
+    by_place : (u : Unit) → In u (first ∷ map (λ r. r.1) numbered) → In u (first ∷ us)
+    by_place u (inl is) = inl is
+    by_place u (inr i) =
+        let r = in_map (λ (p : ℕ × Unit). p.1) numbered u i in
+        subst (λ (v : Unit). In v (first ∷ us)) (sym r.2) (numbered_in 1 (first ∷ us) r.0 (in_filter (is_within def first) (enumerate_from 1 (first ∷ us)) r.0 r.1).0)
+
+-- so it is if there is one
+cut_of_some : (def : SetDef) (us : List Unit) (u : Unit) → In u us → (v : Unit) × In v us × (first_cut def us ≡ Some v)
+cut_of_some def [] u i = absurd i
+cut_of_some def (v ∷ vs) u i = cut_is_unit def v vs
+
+-- a block of the units after one point and up to another ends at a seq above the first, if the other is a seq above it
+pub cut_above : (def : SetDef) (log : List LogRecord) (low high : ℕ) → low < high → is_seq log high ≡ true → let point = option_map_or (λ u. u.head.seq) (first_cut def (units_between low high log)) 0 in (low < point) × (is_seq log point ≡ true)
+cut_above def log low high above e =
+    let u = some_passes (λ (v : Unit). v.head.seq == high) (units log) e in
+    let at : u.0.head.seq ≡ high = eqb-true u.0.head.seq high u.2 in
+    let cut = cut_of_some def (units_between low high log) u.0 (kept_by is_between (units log) u.0 u.1 (and_from (nat_lt low u.0.head.seq) (nat_le u.0.head.seq high) (lt-ltb low u.0.head.seq (omega (arith, at, above))) (le-leb u.0.head.seq high (omega (arith, at))))) in
+    let kept = in_filter is_between (units log) cut.0 cut.1 in
+    subst (λ (point : ℕ). (low < point) × (is_seq log point ≡ true)) (ap (λ (o : Option Unit). option_map_or (λ v. v.head.seq) o 0) (sym cut.2))
+    (ltb-true low cut.0.head.seq (and_parts (nat_lt low cut.0.head.seq) (nat_le cut.0.head.seq high) kept.1).0, unit_has_seq log cut.0.head.seq cut.0 kept.0 refl)
+  where
+    is_between : Unit → Bool
+    is_between u = nat_lt low u.head.seq && nat_le u.head.seq high

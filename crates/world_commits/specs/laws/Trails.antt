@@ -1,0 +1,212 @@
+-- A world stays sound with the actions of a read-only set that make its trail longer.
+use Rattle.std.proofs.Common.{◌≡◌, ℕ, ◌<◌, ◌≤◌, Bool, true, false, cond, ◌||◌, List, [], ◌∷◌, ◌++◌, map, Option, Some, None, refl, sym, ap, subst, ◌∙◌, arith, ◌==◌, nat_lt, nat_le, fold}
+use Rattle.std.specs.List.{list_any}
+use Rattle.std.proofs.lemmas.Bool.{true≢false, and_parts, and_from, or_right, or_parts, cond-true, cond-false, leb-false}
+use Rattle.std.proofs.lemmas.List.Sums.{fold-append}
+use Rattle.std.proofs.lemmas.Simd.{map-map}
+use Rattle.std.proofs.Math.Path.{fun_ext}
+use Rattle.repl_model.specs.Words.{LogRecord, last_commit, Entry, Trail, refresh, block, load, settle, point_after, synchpoint, base_after, base_of, TargetSide, Server, World, KnownSet, same_set, known_sets, read_only_sets, is_seq, is_seq_or_zero, NumbersAreSound, is_base, GoesOn, SignalsAreSound, TrailIsSound, IsSound, block_end, Gap, gap_of, signals, refreshes, blocks, reports, idles, refuses, is_new, refresh_by_signal, by_gap, next_action, with_server, with_target_side, refreshed, is_base_aggregate, base_point, refresh_entry, block_entry, after_action, In, at_one, source_in}
+use Rattle.world_commits.specs.actions.laws.Signals.{is_one_known, set_stands}
+use Rattle.world_commits.specs.laws.Commits.{seq_up_to_last, last_is_seq, seq_above, seq_or_zero_up_to_last, cut_above}
+use Rattle.world_commits.specs.laws.TargetSides.{target_side_sound}
+
+-- ---- trails
+
+-- the point that is reached by a trail from a point on
+abbrev reached_from : ℕ → Trail → ℕ
+reached_from point trail = fold (λ before e. point_after e) point trail
+
+-- a trail goes on after another that goes on
+goes_further : (log : List LogRecord) (point base : ℕ) (trail more : Trail) → GoesOn log point base trail → GoesOn log (reached_from point trail) (fold base_after base trail) more → GoesOn log point base (trail ++ more)
+goes_further log point base [] more h further = further
+goes_further log point base (refresh p q ∷ trail) more h further = (h.0, h.1, h.2, goes_further log p p trail more h.3 further)
+goes_further log point base (block low high q ∷ trail) more h further = (h.0, h.1, h.2, h.3, goes_further log high base trail more h.4 further)
+goes_further log point base (load m f rows ∷ trail) more h further = absurd h
+goes_further log point base (settle m f rejected applied ∷ trail) more h further = absurd h
+
+-- the point that is reached is a seq or 0
+reaches_seq : (log : List LogRecord) (point base : ℕ) (trail : Trail) → GoesOn log point base trail → is_seq_or_zero log point ≡ true → is_seq_or_zero log (reached_from point trail) ≡ true
+reaches_seq log point base [] h seq = seq
+reaches_seq log point base (refresh p q ∷ trail) h seq = reaches_seq log p p trail h.3 (or_right (p == 0) (is_seq log p) (and_parts (is_seq log p) (is_base log q) h.2).0)
+reaches_seq log point base (block low high q ∷ trail) h seq = reaches_seq log high base trail h.4 (or_right (high == 0) (is_seq log high) (and_parts (is_seq log high) (is_base log q) h.3).0)
+reaches_seq log point base (load m f rows ∷ trail) h seq = absurd h
+reaches_seq log point base (settle m f rejected applied ∷ trail) h seq = absurd h
+
+-- the point of the last refresh doesn't fall
+base_rises : (log : List LogRecord) (point base : ℕ) (trail : Trail) → GoesOn log point base trail → base ≤ fold base_after base trail
+base_rises log point base [] h = omega arith
+base_rises log point base (refresh p q ∷ trail) h = omega (arith, h.1, base_rises log p p trail h.3)
+base_rises log point base (block low high q ∷ trail) h = base_rises log high base trail h.4
+base_rises log point base (load m f rows ∷ trail) h = absurd h
+base_rises log point base (settle m f rejected applied ∷ trail) h = absurd h
+
+-- a set that was refreshed has a refresh above 0
+base_above_zero : (log : List LogRecord) (trail : Trail) → GoesOn log 0 0 trail → is_new trail ≡ false → 0 < base_of trail
+base_above_zero log [] h e = absurd (true≢false e)
+base_above_zero log (refresh p q ∷ trail) h e = omega (arith, h.1, base_rises log p p trail h.3)
+base_above_zero log (block low high q ∷ trail) h e = omega (arith, h.2)
+base_above_zero log (load m f rows ∷ trail) h e = absurd h
+base_above_zero log (settle m f rejected applied ∷ trail) h e = absurd h
+
+-- base aggregates are read at a seq, if there is one
+base_is_seq : (k : KnownSet) → is_seq k.source.log (last_commit k.source.log) ≡ true → is_base k.source.log (base_point k) ≡ true
+base_is_seq k e = by_test (list_any (λ member. is_base_aggregate member.kind) k.at_source.def.members)
+  where
+    by_test : (b : Bool) → is_base k.source.log (cond b (Some (last_commit k.source.log)) None) ≡ true
+    by_test true = e
+    by_test false = refl
+
+-- ---- what is next
+
+-- a set whose next action is a refresh has a signal after the last one
+signal_before : (k : KnownSet) → next_action k ≡ refreshes → base_of k.at_target.trail < k.at_source.signal
+signal_before k e = by_signal (nat_le k.at_source.signal (base_of k.at_target.trail)) refl
+    (by_tests (is_new k.at_target.trail || k.at_target.flag) (nat_le k.source.captured (synchpoint k.at_target.trail)) (nat_lt k.at_source.mark (synchpoint k.at_target.trail)) (gap_of k) e)
+  where
+    by_disabled : (gap : Gap) (b : Bool) → cond b (refuses gap.place) (refresh_by_signal k) ≡ refreshes → refresh_by_signal k ≡ refreshes
+    by_disabled gap true now = absurd cc
+    by_disabled gap false now = now
+
+    by_tests : (a b c : Bool) (gap : Option Gap) → cond a (refresh_by_signal k) (cond b (cond c reports idles) (by_gap k gap)) ≡ refreshes → refresh_by_signal k ≡ refreshes
+    by_tests true b c gap now = now
+    by_tests false true true gap now = absurd cc
+    by_tests false true false gap now = absurd cc
+    by_tests false false c None now = absurd cc
+    by_tests false false c (Some gap) now = by_disabled gap gap.disabled now
+
+    by_signal : (b : Bool) → nat_le k.at_source.signal (base_of k.at_target.trail) ≡ b → cond b signals refreshes ≡ refreshes → base_of k.at_target.trail < k.at_source.signal
+    by_signal true above now = absurd cc
+    by_signal false above now = leb-false k.at_source.signal (base_of k.at_target.trail) above
+
+-- What is known of a set whose next action is a block up to a point: it was refreshed, no refresh was asked for, its
+-- source has captured units that its targets haven't taken, it has no gap, and the block ends at the point.
+pub record BlocksNext (k : KnownSet) (upto : ℕ) : Type 0 where
+  pub old : is_new k.at_target.trail ≡ false
+  pub calm : k.at_target.flag ≡ false
+  pub ahead : synchpoint k.at_target.trail < k.source.captured
+  pub gap : gap_of k ≡ None
+  pub ends : block_end k ≡ upto
+
+-- if the next action is a block, this is known
+pub block_is_next : (k : KnownSet) (upto : ℕ) → next_action k ≡ blocks upto → BlocksNext k upto
+block_is_next k upto e = by_tests (is_new k.at_target.trail || k.at_target.flag) (nat_le k.source.captured (synchpoint k.at_target.trail)) (nat_lt k.at_source.mark (synchpoint k.at_target.trail)) (gap_of k) refl refl refl e
+  where
+    no_signal : {A : Type 0} (b : Bool) → cond b signals refreshes ≡ blocks upto → A
+    no_signal true now = absurd cc
+    no_signal false now = absurd cc
+
+    no_refresh : {A : Type 0} → refresh_by_signal k ≡ blocks upto → A
+    no_refresh now = no_signal (nat_le k.at_source.signal (base_of k.at_target.trail)) now
+
+    by_disabled : {A : Type 0} (gap : Gap) (b : Bool) → cond b (refuses gap.place) (refresh_by_signal k) ≡ blocks upto → A
+    by_disabled gap true now = absurd cc
+    by_disabled gap false now = no_refresh now
+
+    same_end : (n : ℕ) → blocks n ≡ blocks upto → n ≡ upto
+    same_end n now = cc
+
+    by_tests : (a b c : Bool) (gap : Option Gap) → (is_new k.at_target.trail || k.at_target.flag) ≡ a → nat_le k.source.captured (synchpoint k.at_target.trail) ≡ b → gap_of k ≡ gap
+        → cond a (refresh_by_signal k) (cond b (cond c reports idles) (by_gap k gap)) ≡ blocks upto → BlocksNext k upto
+    by_tests true b c gap old ahead is now = no_refresh now
+    by_tests false true true gap old ahead is now = absurd cc
+    by_tests false true false gap old ahead is now = absurd cc
+    by_tests false false c None old ahead is now = record {
+      old = (or_parts (is_new k.at_target.trail) k.at_target.flag old).0;
+      calm = (or_parts (is_new k.at_target.trail) k.at_target.flag old).1;
+      ahead = leb-false k.source.captured (synchpoint k.at_target.trail) ahead;
+      gap = is;
+      ends = same_end (block_end k) now;
+    }
+    by_tests false false c (Some gap) old ahead is now = by_disabled gap gap.disabled now
+
+-- the block then ends at a seq above the point that the targets have reached
+pub block_ends_above : (k : KnownSet) (upto : ℕ) → NumbersAreSound k.source → BlocksNext k upto → (synchpoint k.at_target.trail < upto) × (is_seq k.source.log upto ≡ true)
+block_ends_above k upto numbers known = subst (λ (point : ℕ). (synchpoint k.at_target.trail < point) × (is_seq k.source.log point ≡ true)) known.ends
+    (cut_above k.at_source.def k.source.log (synchpoint k.at_target.trail) k.source.captured known.ahead
+    (seq_above k.source.log (synchpoint k.at_target.trail) k.source.captured known.ahead numbers.captured))
+
+-- ---- one more entry
+
+-- the trail of a known set is sound
+trail_at : (world : World) (k : KnownSet) → IsSound world → In k (read_only_sets (known_sets world)) → TrailIsSound k
+trail_at world k sound i = at_one TrailIsSound (read_only_sets (known_sets world)) k sound.trails i
+
+-- the targets have reached a seq or 0
+synchpoint_is_seq : (k : KnownSet) → TrailIsSound k → is_seq_or_zero k.source.log (synchpoint k.at_target.trail) ≡ true
+synchpoint_is_seq k h = reaches_seq k.source.log 0 0 k.at_target.trail h.goes refl
+
+-- with one more entry the targets have reached its point
+pub reached_with : (trail : Trail) (entry : Entry) → synchpoint (trail ++ entry ∷ []) ≡ point_after entry
+reached_with trail entry = fold-append (λ (before : ℕ) (e : Entry). point_after e) 0 trail (entry ∷ [])
+
+-- a target with two changes of one side in turn is the one with both
+pub both_changes : (world : World) (k : KnownSet) (entry : Entry) → with_server k.target.name (refreshed k.at_target.def entry) world
+    ≡ with_server k.target.name (with_target_side k.at_target.def.id (λ side. record side { flag = false; trail = side.trail ++ entry ∷ [] })) world
+both_changes world k entry = ap (λ (f : Server → Server). with_server k.target.name f world) (fun_ext by_server)
+  where
+    with_flag : TargetSide → TargetSide
+    with_flag side = record side { flag = false }
+
+    with_trail : TargetSide → TargetSide
+    with_trail side = record side { trail = side.trail ++ entry ∷ [] }
+
+    if_its : (TargetSide → TargetSide) → TargetSide → TargetSide
+    if_its f side = cond (same_set k.at_target.def.id side.def.id) (f side) side
+
+    by_test : (side : TargetSide) (b : Bool) → same_set k.at_target.def.id side.def.id ≡ b → if_its with_flag (cond b (with_trail side) side) ≡ cond b (with_flag (with_trail side)) side
+    by_test side true e = cond-true (same_set k.at_target.def.id side.def.id) (with_flag (with_trail side)) (with_trail side) e
+    by_test side false e = cond-false (same_set k.at_target.def.id side.def.id) (with_flag side) side e
+
+    by_server : (server : Server) → refreshed k.at_target.def entry server ≡ with_target_side k.at_target.def.id (λ side. with_flag (with_trail side)) server
+    by_server server = ap (λ (sides : List TargetSide). record server { target_sets = sides })
+        (map-map (if_its with_flag) (if_its with_trail) server.target_sets
+        ∙ ap (λ (f : TargetSide → TargetSide). map f server.target_sets) (fun_ext (λ side. by_test side (same_set k.at_target.def.id side.def.id) refl)))
+
+-- a world stays sound with a refresh of a read-only set, if that is its next action
+pub refresh_sound : (world : World) (k : KnownSet) → IsSound world → In k (read_only_sets (known_sets world)) → next_action k ≡ refreshes → IsSound (after_action world k refreshes)
+refresh_sound world k sound i next = subst IsSound (sym (both_changes world k (refresh_entry k)))
+    (target_side_sound world k sound i (λ side. record side { flag = false; trail = side.trail ++ refresh_entry k ∷ [] }) (record { def = λ side. refl; signal = λ side. refl })
+    (goes_further k.source.log 0 0 k.at_target.trail (refresh_entry k ∷ []) trail.goes
+    (behind, omega (arith, signal, above), and_from (is_seq k.source.log (last_commit k.source.log)) (is_base k.source.log (base_point k)) last (base_is_seq k last), tt))
+    (subst (λ (n : ℕ). k.at_source.mark ≤ n) (sym (reached_with k.at_target.trail (refresh_entry k))) (omega (arith, trail.mark, behind))))
+  where
+    trail : TrailIsSound k
+    trail = trail_at world k sound i
+
+    signal : base_of k.at_target.trail < k.at_source.signal
+    signal = signal_before k next
+
+    signal_is_seq : is_seq k.source.log k.at_source.signal ≡ true
+    signal_is_seq = seq_above k.source.log (base_of k.at_target.trail) k.at_source.signal signal (at_one SignalsAreSound (known_sets world) k sound.signals (is_one_known world k i)).0
+
+    above : k.at_source.signal ≤ last_commit k.source.log
+    above = seq_up_to_last k.source.log k.at_source.signal signal_is_seq
+
+    last : is_seq k.source.log (last_commit k.source.log) ≡ true
+    last = last_is_seq k.source.log k.at_source.signal signal_is_seq
+
+    behind : synchpoint k.at_target.trail ≤ last_commit k.source.log
+    behind = seq_or_zero_up_to_last k.source.log (synchpoint k.at_target.trail) (synchpoint_is_seq k trail)
+
+-- a world stays sound with a block of a read-only set, if that is its next action
+pub block_sound : (world : World) (k : KnownSet) (upto : ℕ) → IsSound world → In k (read_only_sets (known_sets world)) → next_action k ≡ blocks upto → IsSound (after_action world k (blocks upto))
+block_sound world k upto sound i next = target_side_sound world k sound i (λ side. record side { trail = side.trail ++ block_entry k upto ∷ [] }) (record { def = λ side. refl; signal = λ side. refl })
+    (goes_further k.source.log 0 0 k.at_target.trail (block_entry k upto ∷ []) trail.goes
+    (refl, reaches.0, base_above_zero k.source.log k.at_target.trail trail.goes known.old, and_from (is_seq k.source.log upto) (is_base k.source.log (cond (upto == k.source.captured) (base_point k) None)) reaches.1 (read_at (upto == k.source.captured)), tt))
+    (subst (λ (n : ℕ). k.at_source.mark ≤ n) (sym (reached_with k.at_target.trail (block_entry k upto))) (omega (arith, trail.mark, reaches.0)))
+  where
+    trail : TrailIsSound k
+    trail = trail_at world k sound i
+
+    known : BlocksNext k upto
+    known = block_is_next k upto next
+
+    numbers : NumbersAreSound k.source
+    numbers = at_one NumbersAreSound world k.source sound.numbers (source_in world k (set_stands world k i))
+
+    reaches : (synchpoint k.at_target.trail < upto) × (is_seq k.source.log upto ≡ true)
+    reaches = block_ends_above k upto numbers known
+
+    read_at : (b : Bool) → is_base k.source.log (cond b (base_point k) None) ≡ true
+    read_at true = base_is_seq k (last_is_seq k.source.log upto reaches.1)
+    read_at false = refl
