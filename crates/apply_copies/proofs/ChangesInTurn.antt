@@ -1,11 +1,11 @@
 -- A target takes change rows, one after another: proofs.
-use Rattle.std.proofs.Common.{◌≡◌, ℕ, ◌+◌, ◌^◌, ◌<◌, ◌≤◌, Bool, true, false, cond, List, [], ◌∷◌, ◌++◌, length, map, append_assoc, append-nil, length-append, inl, inr, refl, sym, ap, subst, ◌∙◌, arith, ◌&&◌, nat_lt, nat_le, filter, Option, Some, None, IfSome}
+use Rattle.std.proofs.Common.{◌≡◌, ℕ, ◌+◌, ◌^◌, ◌<◌, ◌≤◌, Bool, true, false, cond, List, [], ◌∷◌, ◌++◌, length, map, append-nil, length-append, inl, inr, refl, sym, ap, subst, ◌∙◌, arith, ◌&&◌, nat_lt, nat_le, filter, Option, Some, None, IfSome}
 use Rattle.std.specs.List.{AllByRecursion}
 use Rattle.std.proofs.lemmas.Bool.{le-leb, lt-leb}
 use Rattle.std.proofs.lemmas.List.{length-map, map-append}
 use Rattle.std.proofs.lemmas.List.Elements.{filter-append}
 use Rattle.std.proofs.lemmas.List.Sums.{count_by-le-length, sum_by-append}
-use Rattle.world_store.specs.Words.{IsChangeRow, change_row_spelling, IsChangeKey, change_key_spelling, CdKey, ChangeRow, is_before, rows_after, AllAfter, NextRow, after_first, after_next, fits_next, no_row, RowFits, count_op, is_insert, is_update, is_delete, filter_few}
+use Rattle.world_store.specs.Words.{IsChangeRow, change_row_spelling, IsChangeKey, change_key_spelling, CdKey, ChangeRow, is_before, rows_after, NextRow, after_first, fits_next, no_row, RowFits, count_op, is_insert, is_update, is_delete, filter_few}
 use Rattle.site_store.specs.Words.{Contents, Table, IsLastKey, IsNextKey, ShownBefore, any_seen, if_seen, if_both_seen}
 use Rattle.repl_model.specs.Words.{Area, CdRow, Op, all_append, all_filter, all_weaker, filter_all, filter_alike, filter_none, Counts, Member, SourceTable}
 use Rattle.repl_types.specs.declared.area.Area.TheVariants as areas
@@ -18,8 +18,10 @@ use Rattle.apply_copies.specs.Changing.{one_more, counted, start_of, NextIs, Non
 use Rattle.apply_copies.specs.Loading.{is_target}
 use Rattle.apply_copies.specs.Rules.{target_rules}
 use Rattle.target_steps.specs.Taking.{counts_of}
-use Rattle.apply_copies.specs.laws.ChangesUndamaged.{changes_apart}
-use Rattle.apply_copies.proofs.ChangeKeys.{units_rise, starts_at}
+use Rattle.cd_tables.specs.laws.ChangeKeys.{changes_apart, units_above}
+use Rattle.cd_tables.specs.laws.InOrder.{filter_and}
+use Rattle.apply_copies.proofs.ChangeKeys.{starts_at}
+use Rattle.apply_copies.proofs.CopiedRows.{done_next}
 
 -- ---- counts
 
@@ -47,15 +49,6 @@ counted_more changes change op is few = by_op op is
     by_op D e = λ i. record { rows = 0; inserts = same is_insert (ap is_insert e) i; updates = same is_update (ap is_update e) i; deletes = more is_delete (ap is_delete e) i }
 
 -- ---- rows in turn
-
--- a filter by two tests is one of what the other keeps
-filter_and : {X : Type 0} (q p : X → Bool) (xs : List X) → filter (λ x. q x && p x) xs ≡ filter p (filter q xs)
-filter_and q p [] = refl
-filter_and {X} q p (x ∷ xs) = pick (q x) (filter_and q p xs)
-  where
-    pick : (s : Bool) → filter (λ y. q y && p y) xs ≡ filter p (filter q xs) → cond (s && p x) (x ∷ filter (λ y. q y && p y) xs) (filter (λ y. q y && p y) xs) ≡ filter p (cond s (x ∷ filter q xs) (filter q xs))
-    pick true rest = ap (λ (l : List X). cond (p x) (x ∷ l) l) rest
-    pick false rest = rest
 
 module _ (source : SourceTable) (member : Member) where
   -- change rows and one more
@@ -89,14 +82,11 @@ module _ (source : SourceTable) (member : Member) where
         r : CdKey × ChangeRow
         r = stored_change change
 
-        here : NextRow change_key_spelling rows (change_key_spelling after) r
-        here = first_left after change fits next
-
         back : List (CdKey × ChangeRow)
         back = rows_after change_key_spelling (change_key_spelling r.0) rows
 
         split : rows_after change_key_spelling (change_key_spelling (start_of low)) rows ≡ (part.done ++ r ∷ []) ++ back
-        split = part.split ∙ ap (λ (l : List (CdKey × ChangeRow)). part.done ++ l) (after_first change_key_spelling rows (change_key_spelling after) r here ∙ ap (λ (l : List (CdKey × ChangeRow)). r ∷ l) (sym (after_next change_key_spelling rows (change_key_spelling after) r here))) ∙ sym (append_assoc part.done (r ∷ []) back)
+        split = done_next change_key_spelling rows part.done (change_key_spelling after) r (first_left after change fits next) part.split
 
         mapped : map change_of (part.done ++ r ∷ []) ≡ map change_of part.done ++ change ∷ []
         mapped = map-append change_of part.done (r ∷ [])
@@ -111,21 +101,16 @@ module _ (source : SourceTable) (member : Member) where
     left_late : (after : CdKey) → NoneIs table after upto s → AllByRecursion (λ r. nat_le r.0.commitseq upto ≡ false) (rows_after change_key_spelling (change_key_spelling after) rows)
     left_late after none = elim none [
       | inl last ↦ subst (AllByRecursion late) (sym (filter_none (λ (r : CdKey × ChangeRow). is_before (change_key_spelling after) (change_key_spelling r.0)) rows (no_row change_key_spelling change_row_spelling rows (change_key_spelling after) (subst (λ (t : Table). IsLastKey t (change_key_spelling after)) has.is last)))) tt
-      | inr next ↦ let at = first_left after next.0 next.1 next.2 in subst (AllByRecursion late) (sym (after_first change_key_spelling rows (change_key_spelling after) (stored_change next.0) at)) (above next.0.commitseq next.3, behind next.0 next.1 next.3 at.back (subst (AllByRecursion fits) (after_first change_key_spelling rows (change_key_spelling after) (stored_change next.0) at) (all_filter fits (λ (r : CdKey × ChangeRow). is_before (change_key_spelling after) (change_key_spelling r.0)) rows has.are.fit)).1 at.later)
+      | inr next ↦
+          let row = stored_change next.0 in
+          let at = first_left after next.0 next.1 next.2 in
+          let split = after_first change_key_spelling rows (change_key_spelling after) row at in
+          let fit = subst (AllByRecursion (RowFits IsChangeKey IsChangeRow)) split (all_filter (RowFits IsChangeKey IsChangeRow) (λ (r : CdKey × ChangeRow). is_before (change_key_spelling after) (change_key_spelling r.0)) rows has.are.fit) in
+          subst (AllByRecursion late) (sym split) (all_weaker (λ (r : CdKey × ChangeRow). upto < r.0.commitseq) late (row ∷ at.back) (λ r lt. lt-leb r.0.commitseq upto lt) (next.3, units_above upto row.0 next.1.0 next.3 at.back fit.1 at.later))
     ]
       where
-        fits : CdKey × ChangeRow → Type 0
-        fits = RowFits IsChangeKey IsChangeRow
-
         late : CdKey × ChangeRow → Type 0
         late r = nat_le r.0.commitseq upto ≡ false
-
-        above : (seq : ℕ) → upto < seq → nat_le seq upto ≡ false
-        above seq lt = lt-leb seq upto lt
-
-        behind : (change : CdRow) → ChangeRowFits change → upto < change.commitseq → (back : List (CdKey × ChangeRow)) → AllByRecursion fits back → AllAfter change_key_spelling (change_key_spelling (stored_change change).0) back → AllByRecursion late back
-        behind change fit lt [] all after = tt
-        behind change fit lt (q ∷ qs) all after = (above q.0.commitseq (omega (arith, lt, units_rise (stored_change change).0 q.0 fit.0 all.0.0 after.0)), behind change fit lt qs all.1 after.1)
 
     -- so the rows that were taken are those of the interval
     part_all : (after : CdKey) (counts : Counts) (t u : Table) → IsChangeKey (start_of low) → NoneIs table after upto s → IsPart low upto rows after counts t u → (u ≡ with_changes source member (rows_between low upto rows) t) × (counts ≡ counts_of (rows_between low upto rows))

@@ -3,10 +3,11 @@ use Rattle.std.proofs.Common.{◌≡◌, ℕ, ◌+◌, ◌-◌, ◌^◌, ◌≤�
 use Rattle.std.proofs.lemmas.Bool.Decides.{nat_tests}
 use Rattle.std.proofs.lemmas.List.{map-append}
 use Rattle.std.proofs.lemmas.List.Elements.{filter-append}
-use Rattle.world_store.specs.Words.{IsKey, IsRow, key_spelling, row_spelling, copy_spelling, CopyRow, is_before, table_from_rows, rows_after, AllBefore, AllAfter, IsRising, NextRow, after_all, after_first, after_next, fits_next, no_row, written_last, RowFits, no_rows, filter_few}
+use Rattle.world_store.specs.Words.{IsKey, IsRow, key_spelling, row_spelling, copy_spelling, CopyRow, is_before, table_from_rows, rows_after, AllBefore, IsRising, NextRow, after_all, after_first, after_next, fits_next, no_row, written_last, RowFits, no_rows, filter_few}
 use Rattle.site_store.specs.Words.{Contents, Table, IsNextKey, IsLastKey, set_key, put_at, ShownBefore, adds_put, shown_before, any_seen, if_seen, if_both_seen}
-use Rattle.repl_model.specs.Words.{same_area, bytes_cmp, Values, Area, all_filter, filter_none, Member, is_selected, target_row}
+use Rattle.repl_model.specs.Words.{same_area, bytes_cmp, Values, Area, all_filter, each_image, filter_none, Member, is_selected, target_row}
 use Rattle.repl_types.specs.declared.area.Area.TheVariants as areas
+use Rattle.rows_in_order.specs.laws.Changed.{rising_split}
 use Rattle.stored_commits.specs.records.laws.StandingRows.{rows_apart}
 use Rattle.apply_copies.specs.Copying.{CanBeCopied, LoadsSelected, LoadsRow, HasRows, selected, copied, LoadsNext, LoadsAll}
 use Rattle.apply_copies.specs.Loading.{is_target}
@@ -31,14 +32,12 @@ module _ (number : ℕ) (member : Member) (key row : Values) where
 
 -- ---- rows in turn
 
--- of rows that rise those before one are before its key
-front_before : (front : List (Values × Values)) (row : Values × Values) (back : List (Values × Values)) → IsRising key_spelling (front ++ row ∷ back) → AllBefore key_spelling (key_spelling row.0) front
-front_before [] row back rise = tt
-front_before (r ∷ rs) row back rise = (later rs rise.0, front_before rs row back rise.1)
-  where
-    later : (qs : List (Values × Values)) → AllAfter key_spelling (key_spelling r.0) (qs ++ row ∷ back) → bytes_cmp (key_spelling r.0) (key_spelling row.0) ≡ Less
-    later [] after = after.0
-    later (q ∷ qs) after = later qs after.1
+-- rows that are done up to a key are, with the next row, done up to its key
+pub done_next : {A X : Type 0} (key : A → List ℕ) {all : List (A × X)} (rows done : List (A × X)) (after : List ℕ) (row : A × X) → NextRow key rows after row → all ≡ done ++ rows_after key after rows → all ≡ (done ++ row ∷ []) ++ rows_after key (key row.0) rows
+done_next {A} {X} key rows done after row next split =
+    split
+    ∙ ap (λ (l : List (A × X)). done ++ l) (after_first key rows after row next ∙ ap (λ (l : List (A × X)). row ∷ l) (sym (after_next key rows after row next)))
+    ∙ sym (append_assoc done (row ∷ []) (rows_after key (key row.0) rows))
 
 module _ (member : Member) where
   -- the row that a row makes, under its key
@@ -57,11 +56,7 @@ module _ (member : Member) where
 
   -- rows of a copy are before the keys that their rows are before
   copied_before : (k : List ℕ) (rows : List (Values × Values)) → AllBefore key_spelling k rows → AllBefore key_spelling k (copied member rows)
-  copied_before k rows before = each (selected member rows) (all_filter (λ (r : Values × Values). bytes_cmp (key_spelling r.0) k ≡ Less) (λ (r : Values × Values). is_selected member r.1) rows before)
-    where
-      each : (rs : List (Values × Values)) → AllBefore key_spelling k rs → AllBefore key_spelling k (map copy_of rs)
-      each [] all = tt
-      each (r ∷ rs) all = (all.0, each rs all.1)
+  copied_before k rows before = each_image (λ (r : Values × CopyRow). bytes_cmp (key_spelling r.0) k ≡ Less) copy_of (selected member rows) (all_filter (λ (r : Values × Values). bytes_cmp (key_spelling r.0) k ≡ Less) (λ (r : Values × Values). is_selected member r.1) rows before)
 
   -- Of rows those up to a key were copied, which are so many of the copy.
   pub record IsPart (rows : List (Values × Values)) (after : List ℕ) (put : ℕ) (t : Table) : Type 0 where
@@ -83,14 +78,14 @@ module _ (member : Member) where
       back : List (Values × Values)
       back = rows_after key_spelling (key_spelling key) rows
 
-      at : rows ≡ part.done ++ r ∷ back
-      at = part.split ∙ ap (λ (l : List (Values × Values)). part.done ++ l) (after_first key_spelling rows after r here ∙ ap (λ (l : List (Values × Values)). r ∷ l) (sym (after_next key_spelling rows after r here)))
-
       split : rows ≡ (part.done ++ r ∷ []) ++ back
-      split = at ∙ sym (append_assoc part.done (r ∷ []) back)
+      split = done_next key_spelling rows part.done after r here part.split
+
+      at : rows ≡ part.done ++ r ∷ back
+      at = split ∙ append_assoc part.done (r ∷ []) back
 
       before : AllBefore key_spelling (key_spelling key) (copied member part.done)
-      before = copied_before (key_spelling key) part.done (front_before part.done r back (subst (IsRising key_spelling) at has.rises))
+      before = copied_before (key_spelling key) part.done (rising_split key_spelling part.done r back (subst (IsRising key_spelling) at has.rises)).0
 
       few : length part.done + 1 ≤ length rows
       few = let long : length rows ≡ length part.done + length (r ∷ back) = ap length at ∙ length-append part.done (r ∷ back) in omega (arith, long)

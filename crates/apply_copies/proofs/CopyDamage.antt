@@ -1,14 +1,15 @@
 -- A step of a copy shows no damage of the source of copies that wasn't shown before: proofs.
-use Rattle.std.proofs.Common.{◌≡◌, ℕ, zero, suc, false, List, inl, inr, refl, sym, ap, ◌∙◌, Some}
+use Rattle.std.proofs.Common.{◌≡◌, ℕ, zero, suc, false, ◌==◌, List, inl, inr, refl, sym, ap, ◌∙◌, Some}
+use Rattle.std.proofs.lemmas.Bool.{and_left}
 use Rattle.world_store.specs.Words.{short_text}
-use Rattle.site_store.specs.Words.{Contents, Table, Rules, Shows, ShownBefore}
-use Rattle.repl_model.specs.Words.{Area, DamageCause, DefinedRegistration, DefinedTable}
+use Rattle.site_store.specs.Words.{Contents, Table, Rules, joined, Shows, ShownBefore}
+use Rattle.repl_model.specs.Words.{same_area, Area, DamageCause}
 use Rattle.repl_types.specs.declared.area.Area.TheVariants as areas
 use Rattle.repl_types.specs.declared.status.DamageCause.TheVariants as causes
 use Rattle.apply_copies.specs.Loading.{is_target}
 use Rattle.set_places.specs.Members.{member_rules}
-use Rattle.apply_copies.specs.ChangeRules.{calls_for_table, IsRegisteredIn, change_source_rules}
-use Rattle.apply_copies.specs.Rules.{source_rules}
+use Rattle.apply_copies.specs.ChangeRules.{may_be_change_key, may_be_change, calls_for_table, IsRegisteredIn, is_unfit_change, change_source_rules}
+use Rattle.apply_copies.specs.Rules.{may_be_source_key, may_be_source_row, is_too_wide, source_rules}
 
 -- ---- one area
 
@@ -29,81 +30,68 @@ shown_alike rules a c d same needed unfit (causes.Absent key) h = (h.0, (sym (ap
 shown_alike rules a c d same needed unfit (causes.Unfit bytes) h = (h.0, (h.1.0, sym (ap (λ (t : Table). t h.1.0) (same h.0)) ∙ h.1.1, unfit h.0 h.1.0 bytes h.1.2))
 shown_alike rules a c d same needed unfit (causes.NoRest steps) h = h
 
--- ---- the source of copies
+-- an area in which anything may stand, and nothing is called for or unfit, shows no damage
+none_shown : (rules : Rules) (a : Area) (d : Contents) → ((t : ℕ) (bytes : List ℕ) → rules.is_key a t bytes × rules.is_value a t bytes)
+    → ((t : ℕ) (key : List ℕ) → rules.is_needed a t key d → ⊥)
+    → ((t : ℕ) (key value : List ℕ) → rules.is_unfit a t key value d → ⊥)
+    → (cause : DamageCause) → Shows rules a cause (Some d) → ⊥
+none_shown rules a d free needed unfit (causes.Spelling bytes) h = elim h.1 [ inl k ↦ k.0 (free h.0 bytes).0 | inr v ↦ v.0 (free h.0 bytes).1 ]
+none_shown rules a d free needed unfit (causes.Absent key) h = needed h.0 key h.1.1
+none_shown rules a d free needed unfit (causes.Unfit bytes) h = unfit h.0 h.1.0 bytes h.1.2
+none_shown rules a d free needed unfit (causes.NoRest steps) h = h
 
--- no damage of a source is shown by targets
-none_at_targets : (cause : DamageCause) (d : Contents) → Shows source_rules areas.Target cause (Some d) → ⊥
-none_at_targets (causes.Spelling bytes) d h = elim h.1 [ inl k ↦ k.0 (tt, tt) | inr v ↦ v.0 (tt, tt) ]
-none_at_targets (causes.Absent key) d h = elim h.1.1 [ inl n ↦ n | inr n ↦ n ]
-none_at_targets (causes.Unfit bytes) d h = elim h.1.2 [ inl n ↦ n | inr n ↦ n ]
-none_at_targets (causes.NoRest steps) d h = h
+-- ---- contents in which all tables but targets are as they were
 
--- contents that have the same sets at their sources call for the same registrations
-needed_alike : (c d : Contents) → d areas.Defs 2 ≡ c areas.Defs 2 → (t : ℕ) (key : List ℕ) → source_rules.is_needed areas.Defs t key d → source_rules.is_needed areas.Defs t key c
-needed_alike c d same zero key (inl n) = inl n
-needed_alike c d same (suc zero) key (inl n) = inl (n.0, n.1, (n.2.0, n.2.1, n.2.2, sym (ap (λ (t : Table). t n.2.0) same) ∙ n.2.3, n.2.4))
-needed_alike c d same (suc (suc t)) key (inl n) = inl n
-needed_alike c d same t key (inr n) = inr n
+module _ (c d : Contents) (same : (a : Area) (n : ℕ) → same_area areas.Target a ≡ false → d a n ≡ c a n) where
+  -- members call for the same registrations
+  member_needed : (a : Area) (t : ℕ) (key : List ℕ) → member_rules.is_needed a t key d → member_rules.is_needed a t key c
+  member_needed areas.Defs (suc zero) key n = (n.0, n.1, (n.2.0, n.2.1, n.2.2, sym (ap (λ (t : Table). t n.2.0) (same areas.Defs 2 refl)) ∙ n.2.3, n.2.4))
+  member_needed a t key n = absurd n
 
--- which definitions don't fit is told by themselves
-unfit_alike : (c d : Contents) (t : ℕ) (key value : List ℕ) → source_rules.is_unfit areas.Defs t key value d → source_rules.is_unfit areas.Defs t key value c
-unfit_alike c d zero key value h = h
-unfit_alike c d (suc zero) key value h = h
-unfit_alike c d (suc (suc zero)) key value h = h
-unfit_alike c d (suc (suc (suc t))) key value h = h
+  -- they show no damage that wasn't shown before, by the rules of members and others that leave targets alone and call for
+  -- the same and find unfit the same
+  joined_shown : (rules : Rules) → ((t : ℕ) (bytes : List ℕ) → rules.is_key areas.Target t bytes × rules.is_value areas.Target t bytes)
+      → ((t : ℕ) (key : List ℕ) → rules.is_needed areas.Target t key d → ⊥) → ((t : ℕ) (key value : List ℕ) → rules.is_unfit areas.Target t key value d → ⊥)
+      → ((a : Area) (t : ℕ) (key : List ℕ) → rules.is_needed a t key d → rules.is_needed a t key c)
+      → ((a : Area) (t : ℕ) (key value : List ℕ) → rules.is_unfit a t key value d → rules.is_unfit a t key value c)
+      → ShownBefore (joined member_rules rules) c d
+  joined_shown rules free unneeded fit needed unfit areas.Target cause h = absurd (none_shown (joined member_rules rules) areas.Target d (λ t bytes. ((tt, (free t bytes).0), (tt, (free t bytes).1))) (λ t key n. elim n [ inl m ↦ m | inr m ↦ unneeded t key m ]) (λ t key value n. elim n [ inl m ↦ m | inr m ↦ fit t key value m ]) cause h)
+  joined_shown rules free unneeded fit needed unfit a cause h = shown_alike (joined member_rules rules) a c d (λ t. same a t refl) (λ t key n. elim n [ inl m ↦ inl (member_needed a t key m) | inr m ↦ inr (needed a t key m) ]) (λ t key value n. elim n [ inl m ↦ inl m | inr m ↦ inr (unfit a t key value m) ]) cause h
 
--- if all tables but a target are as they were, no damage of a source is shown that wasn't shown before
-pub source_shown : (number : ℕ) (c d : Contents) → ((a : Area) (n : ℕ) → is_target number a n ≡ false → d a n ≡ c a n) → ShownBefore source_rules c d
-source_shown number c d others areas.Target cause h = absurd (none_at_targets cause d h)
-source_shown number c d others areas.Defs cause h = shown_alike source_rules areas.Defs c d (λ t. others areas.Defs t refl) (needed_alike c d (others areas.Defs 2 refl)) (unfit_alike c d) cause h
-source_shown number c d others a cause h = shown_alike source_rules a c d (λ t. others a t refl) (λ t key n. n) (λ t key value n. n) cause h
+  -- which sets are too wide is told by themselves
+  wide_alike : (a : Area) (t : ℕ) (key value : List ℕ) → is_too_wide a t key value d → is_too_wide a t key value c
+  wide_alike areas.Defs (suc (suc zero)) key value h = h
+  wide_alike a t key value h = absurd h
 
--- ---- the source of change rows
+  -- registrations call for the same tables
+  tables_alike : (a : Area) (t : ℕ) (key : List ℕ) → calls_for_table a t key d → calls_for_table a t key c
+  tables_alike areas.Defs zero key n = (n.0, n.1, (n.2.0, sym (ap (λ (t : Table). t n.2.0) (same areas.Defs 1 refl)) ∙ n.2.1), n.3)
+  tables_alike a t key n = absurd n
 
--- no damage of it is shown by targets either
-no_change_at_targets : (cause : DamageCause) (d : Contents) → Shows change_source_rules areas.Target cause (Some d) → ⊥
-no_change_at_targets (causes.Spelling bytes) d h = elim h.1 [ inl k ↦ k.0 (tt, tt) | inr v ↦ v.0 (tt, tt) ]
-no_change_at_targets (causes.Absent key) d h = elim h.1.1 [ inl n ↦ n | inr n ↦ n ]
-no_change_at_targets (causes.Unfit bytes) d h = elim h.1.2 [ inl n ↦ n | inr n ↦ n ]
-no_change_at_targets (causes.NoRest steps) d h = h
+  -- the same change rows are unfit
+  changes_alike : (a : Area) (t : ℕ) (key value : List ℕ) → is_unfit_change a t key value d → is_unfit_change a t key value c
+  changes_alike areas.Defs (suc (suc zero)) key value h = h
+  changes_alike areas.Cd t key value h =
+      let was = h.3.registered in
+      let registered : IsRegisteredIn h.0 h.1 c = record {
+        fits = was.fits;
+        stands = (was.stands.0, sym (ap (λ (t : Table). t was.stands.0) (same areas.Defs 1 refl)) ∙ was.stands.1);
+        table_fits = was.table_fits;
+        has_table = sym (ap (λ (t : Table). t (short_text h.0.registration.table)) (same areas.Defs 0 refl)) ∙ was.has_table;
+      } in (h.0, h.1, h.2, record { registered = registered; fits = h.3.fits; keyless = h.3.keyless }, h.4, h.5, h.6)
+  changes_alike a t key value h = absurd h
 
--- contents that have the same registrations call for the same tables
-tables_alike : (c d : Contents) → d areas.Defs 1 ≡ c areas.Defs 1 → (t : ℕ) (key : List ℕ) → calls_for_table areas.Defs t key d → calls_for_table areas.Defs t key c
-tables_alike c d same zero key n = (n.0, n.1, (n.2.0, sym (ap (λ (t : Table). t n.2.0) same) ∙ n.2.1), n.3)
-tables_alike c d same (suc t) key n = n
+-- ---- a target alone was changed
 
-change_needed_alike : (c d : Contents) → ((t : ℕ) → d areas.Defs t ≡ c areas.Defs t) → (t : ℕ) (key : List ℕ) → change_source_rules.is_needed areas.Defs t key d → change_source_rules.is_needed areas.Defs t key c
-change_needed_alike c d same t key (inl n) = member_needed t key n
-  where
-    member_needed : (t : ℕ) (key : List ℕ) → member_rules.is_needed areas.Defs t key d → change_source_rules.is_needed areas.Defs t key c
-    member_needed zero key n = inl n
-    member_needed (suc zero) key n = inl (n.0, n.1, (n.2.0, n.2.1, n.2.2, sym (ap (λ (t : Table). t n.2.0) (same 2)) ∙ n.2.3, n.2.4))
-    member_needed (suc (suc t)) key n = inl n
-change_needed_alike c d same t key (inr n) = inr (tables_alike c d (same 1) t key n)
+module _ (number : ℕ) (c d : Contents) (others : (a : Area) (n : ℕ) → is_target number a n ≡ false → d a n ≡ c a n) where
+  -- all tables but targets are as they were
+  same_elsewhere : (a : Area) (n : ℕ) → same_area areas.Target a ≡ false → d a n ≡ c a n
+  same_elsewhere a n apart = others a n (and_left (same_area areas.Target a) (n == number) apart)
 
--- contents that have the same definitions find the same change rows unfit
-registered_alike : (reg : DefinedRegistration) (table : DefinedTable) (c d : Contents) → ((t : ℕ) → d areas.Defs t ≡ c areas.Defs t) → IsRegisteredIn reg table d → IsRegisteredIn reg table c
-registered_alike reg table c d same h = record {
-  fits = h.fits;
-  stands = (h.stands.0, sym (ap (λ (t : Table). t h.stands.0) (same 1)) ∙ h.stands.1);
-  table_fits = h.table_fits;
-  has_table = sym (ap (λ (t : Table). t (short_text reg.registration.table)) (same 0)) ∙ h.has_table;
-}
+  -- no damage of a source is shown that wasn't shown before
+  pub source_shown : ShownBefore source_rules c d
+  source_shown = joined_shown c d same_elsewhere (record { is_key = may_be_source_key; is_value = may_be_source_row; is_needed = λ a t key e. ⊥; is_unfit = is_too_wide }) (λ t bytes. (tt, tt)) (λ t key n. n) (λ t key value n. n) (λ a t key n. n) (wide_alike c d same_elsewhere)
 
-change_unfit_alike : (c d : Contents) → ((t : ℕ) → d areas.Defs t ≡ c areas.Defs t) → (t : ℕ) (key value : List ℕ) → change_source_rules.is_unfit areas.Cd t key value d → change_source_rules.is_unfit areas.Cd t key value c
-change_unfit_alike c d same t key value (inl h) = inl h
-change_unfit_alike c d same t key value (inr h) = inr (h.0, h.1, h.2, record { registered = registered_alike h.0 h.1 c d same h.3.registered; fits = h.3.fits; keyless = h.3.keyless }, h.4, h.5, h.6)
-
--- which definitions don't fit is told by themselves
-wide_alike : (c d : Contents) (t : ℕ) (key value : List ℕ) → change_source_rules.is_unfit areas.Defs t key value d → change_source_rules.is_unfit areas.Defs t key value c
-wide_alike c d zero key value h = h
-wide_alike c d (suc zero) key value h = h
-wide_alike c d (suc (suc zero)) key value h = h
-wide_alike c d (suc (suc (suc t))) key value h = h
-
--- if all tables but a target are as they were, no damage of a source of change rows is shown that wasn't shown before
-pub change_source_shown : (number : ℕ) (c d : Contents) → ((a : Area) (n : ℕ) → is_target number a n ≡ false → d a n ≡ c a n) → ShownBefore change_source_rules c d
-change_source_shown number c d others areas.Target cause h = absurd (no_change_at_targets cause d h)
-change_source_shown number c d others areas.Defs cause h = shown_alike change_source_rules areas.Defs c d (λ t. others areas.Defs t refl) (change_needed_alike c d (λ t. others areas.Defs t refl)) (wide_alike c d) cause h
-change_source_shown number c d others areas.Cd cause h = shown_alike change_source_rules areas.Cd c d (λ t. others areas.Cd t refl) (λ t key n. n) (change_unfit_alike c d (λ t. others areas.Defs t refl)) cause h
-change_source_shown number c d others a cause h = shown_alike change_source_rules a c d (λ t. others a t refl) (λ t key n. n) (λ t key value n. n) cause h
+  -- nor damage of a source of change rows
+  pub change_source_shown : ShownBefore change_source_rules c d
+  change_source_shown = joined_shown c d same_elsewhere (record { is_key = may_be_change_key; is_value = may_be_change; is_needed = calls_for_table; is_unfit = is_unfit_change }) (λ t bytes. (tt, tt)) (λ t key n. n) (λ t key value n. n) (tables_alike c d same_elsewhere) (changes_alike c d same_elsewhere)

@@ -1,11 +1,10 @@
 -- The load of a copy, and its change rows, take a member through a step: proofs.
-use Rattle.std.proofs.Common.{◌≡◌, ℕ, ◌<◌, true, false, [], length, inl, inr, sym, ap, ◌∙◌, Some, None}
+use Rattle.std.proofs.Common.{◌≡◌, ℕ, ◌<◌, true, false, [], length, inl, inr, refl, sym, ap, subst, ◌∙◌, Some, None}
 use Rattle.world_store.specs.Words.{rows_refreshed}
 use Rattle.site_store.specs.Words.{Contents, Table, Kept, ShownBefore}
 use Rattle.site_store.specs.declared.sites.Sites.{Sites}
 use Rattle.repl_model.specs.Words.{Area, DamageCause, Counts, Member, TargetKind, member_gap, is_copy, refresh, block, last_commit, at_place_in, at_one}
 use Rattle.repl_types.specs.declared.area.Area.TheVariants as areas
-use Rattle.repl_definitions.specs.declared.member.TargetKind.TheVariants.{UserCopy, PointInTime, BaseAggregate, ChangeAggregate, Ccd, Replica}
 use Rattle.stored_commits.specs.copies.ChangedCopies.{copy_table}
 use Rattle.set_places.specs.declared.placed_set.PlacedSet.{PlacedSet}
 use Rattle.target_steps.specs.declared.step.Step.TheVariants.{Refresh, Block}
@@ -14,17 +13,9 @@ use Rattle.apply_copies.specs.Loading.{target_number, is_target, HasOnlyRows, Lo
 use Rattle.apply_copies.specs.Rules.{target_rules}
 use Rattle.apply_copies.specs.Taking.{TakesChanges}
 use Rattle.apply_copies.specs.Copies.{is_user_copy, ShowsCopyDamage}
+use Rattle.apply_copies.specs.laws.TargetLaws.{kind_is}
 use Rattle.apply_copies.proofs.CopyDamage.{source_shown, change_source_shown}
 use Rattle.apply_copies.proofs.CopyTables.{number_is, table_is, rows_are, table_after, copies_keyed}
-
--- a user copy is a copy
-user_copy_is : (kind : TargetKind) → is_user_copy kind ≡ true → is_copy kind ≡ true
-user_copy_is UserCopy is = is
-user_copy_is PointInTime is = absurd cc
-user_copy_is BaseAggregate is = absurd cc
-user_copy_is ChangeAggregate is = absurd cc
-user_copy_is (Ccd complete condensed) is = absurd cc
-user_copy_is Replica is = absurd cc
 
 -- a target that alone was changed, and shows no damage that wasn't shown before, shows none of copies
 copy_shown : (number : ℕ) (c d : Contents) → ((a : Area) (n : ℕ) → is_target number a n ≡ false → d a n ≡ c a n) → ((n : ℕ) → ShownBefore (target_rules n) c d) → (a : Area) (cause : DamageCause) → ShowsCopyDamage a cause (Some d) → ShowsCopyDamage a cause (Some c)
@@ -56,7 +47,7 @@ module _ {K : Type 0} (kept : K → Kept) (sites : Sites K) (set : PlacedSet) (p
         let number = number_is w k set place sound placed within in
         let before : c areas.Target (target_number set.at_target.number place) ≡ copy_table source member low = ap (λ (n : ℕ). c areas.Target n) number ∙ was ∙ table_is source member copy k.at_target.trail ∙ ap (copy_table source member) (sym can.from) in
         let gap = at_one (λ (m : Member). member_gap k.source low m ≡ None) k.at_source.def.members member can.gaps (at_place_in k.at_source.def.members place member at) in
-        let made = takes.copies w k sound placed reveals member source read_only at named (user_copy_is member.kind copy) (record { gap = gap; rises = can.rises; captured = can.captured }) before in (
+        let made = takes.copies w k sound placed reveals member source read_only at named (subst (λ (kind : TargetKind). is_copy kind ≡ true) (kind_is member.kind copy) refl) (record { gap = gap; rises = can.rises; captured = can.captured }) before in (
           ap (λ (n : ℕ). d areas.Target n) (sym number) ∙ made.0 ∙ sym (table_after source member copy k.at_target.trail (block low high q)),
           made.1,
         );

@@ -4,8 +4,8 @@ use Rattle.std.specs.FinMap.{entries}
 use Rattle.std.proofs.Math.Nat.{min-eq_left}
 use Rattle.std.proofs.lemmas.List.Sums.{fold-append}
 use Rattle.world_store.specs.Words.{key_spelling, copy_spelling, CopyRow, table_from_rows, AllAfter, found_after, member_table, copy_rows, rows_refreshed}
-use Rattle.repl_model.specs.Words.{bytes_cmp, Values, all_filter, Member, TargetKind, SetDef, SourceTable, is_selected, selected_rows, target_row, IsSound, KeepsTable, ServerKeepsRules, LogIsSound, source_at, Entry, Trail, point_after, synchpoint, Server, World, KnownSet, source_named, In, at_one, each_image}
-use Rattle.repl_definitions.specs.declared.member.TargetKind.TheVariants.{UserCopy, PointInTime, BaseAggregate, ChangeAggregate, Ccd, Replica}
+use Rattle.repl_model.specs.Words.{bytes_cmp, Values, all_filter, Member, SetDef, SourceTable, is_selected, selected_rows, target_row, IsSound, KeepsTable, ServerKeepsRules, LogIsSound, source_at, Entry, Trail, point_after, synchpoint, Server, World, KnownSet, source_named, In, at_one, each_image}
+use Rattle.repl_definitions.specs.declared.member.TargetKind.TheVariants.{UserCopy}
 use Rattle.stored_commits.specs.records.laws.StandingRows.{standing_some}
 use Rattle.stored_commits.specs.copies.ChangedCopies.{copy_table}
 use Rattle.set_places.specs.declared.placed_set.PlacedSet.{PlacedSet}
@@ -17,6 +17,7 @@ use Rattle.apply_copies.specs.Copying.{selected, copied}
 use Rattle.apply_copies.specs.Loading.{greatest_number, target_number}
 use Rattle.apply_copies.specs.laws.CopyRows.{copied_are, rows_stand_at}
 use Rattle.apply_copies.specs.Copies.{is_user_copy}
+use Rattle.apply_copies.specs.laws.TargetLaws.{kind_is}
 
 -- ---- its number
 
@@ -31,15 +32,6 @@ number_is w k set place sound placed within =
     ap (λ (n : ℕ). min (n + place) greatest_number) inner ∙ outer ∙ omega arith
 
 -- ---- what the kind says
-
--- the kind that is taken is that of user copies
-kind_is : (kind : TargetKind) → is_user_copy kind ≡ true → UserCopy ≡ kind
-kind_is UserCopy is = refl
-kind_is PointInTime is = absurd cc
-kind_is BaseAggregate is = absurd cc
-kind_is ChangeAggregate is = absurd cc
-kind_is (Ccd complete condensed) is = absurd cc
-kind_is Replica is = absurd cc
 
 module _ (source : SourceTable) (member : Member) (copy : is_user_copy member.kind ≡ true) where
   -- the member with its kind

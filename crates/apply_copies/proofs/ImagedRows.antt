@@ -6,8 +6,8 @@ use Rattle.std.proofs.lemmas.List.FromFn.{length-map-range_with_len}
 use Rattle.world_store.specs.Words.{IsRow, not_both}
 use Rattle.repl_model.specs.Words.{each_image, IsKeySize, key_limit, IsValue, CdRow, SourceTable, imaged_row}
 use Rattle.cd_tables.specs.laws.InOrder.{all_always}
+use Rattle.cd_tables.specs.laws.SoundChanges.{value_at}
 use Rattle.stored_commits.specs.copies.ChangedCopies.{image_of}
-use Rattle.apply_copies.specs.laws.Values.{value_at}
 
 -- it is a row of values
 pub imaged_fits : (source : SourceTable) (change : CdRow) → length source.def.columns < 2 ^ 16 → IsRow change.after → IsRow (imaged_row source change)

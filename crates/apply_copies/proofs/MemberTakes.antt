@@ -1,10 +1,10 @@
 -- The target of a member takes the change rows of its source: proofs.
-use Rattle.std.proofs.Common.{◌≡◌, ℕ, ◌≤◌, Bool, true, false, cond, not, List, [], ◌∷◌, refl, sym, ap, subst, ◌∙◌, nat_lt, Option, Some, None, IfSome, slice_get, option_map, option_and_then, ltb-false}
-use Rattle.std.proofs.lemmas.Option.{same_Some}
+use Rattle.std.proofs.Common.{◌≡◌, ℕ, ◌≤◌, Bool, true, false, cond, not, List, [], ◌∷◌, refl, sym, ap, subst, ◌∙◌, nat_lt, Option, Some, None, IfSome, slice_get, option_and_then, ltb-false}
+use Rattle.std.proofs.lemmas.Option.{same_Some, none-some}
 use Rattle.world_store.specs.Words.{CdKey, ChangeRow, Reveals}
 use Rattle.site_store.specs.Words.{Contents, Table, Kept, sees}
 use Rattle.site_store.specs.declared.sites.Sites.{Sites}
-use Rattle.repl_model.specs.Words.{CdRow, GapPlace, Counts, Member, SetDef, changes_between, Gap, place_of_gap, member_gap, is_copy, SourceTable, IsSound, table_after, KnownSet, Registered, ServerTable, World, as_source, server_table, source_named, at_place_in}
+use Rattle.repl_model.specs.Words.{CdRow, GapPlace, Counts, Member, SetDef, changes_between, Gap, place_of_gap, member_gap, is_copy, SourceTable, IsSound, KnownSet, Registered, ServerTable, World, server_table, source_named, at_place_in}
 use Rattle.repl_types.specs.declared.area.Area.TheVariants as areas
 use Rattle.repl_types.specs.declared.refusal.GapPlace.TheVariants as gaps
 use Rattle.set_places.specs.declared.placed_set.PlacedSet.{PlacedSet}
@@ -21,6 +21,7 @@ use Rattle.target_steps.specs.Taking.{counts_of}
 use Rattle.apply_copies.specs.Taking.{IsKept, TakesChanges}
 use Rattle.apply_copies.specs.laws.HeldChanges.{IsRegisteredAt, registration_held, table_held, changes_held}
 use Rattle.apply_copies.specs.laws.Intervals.{interval_rows}
+use Rattle.apply_copies.proofs.MemberLoads.{source_is}
 use Rattle.stored_commits.specs.laws.KnownMembers.{copies_take_changes}
 
 -- ---- gaps
@@ -29,20 +30,17 @@ use Rattle.stored_commits.specs.laws.KnownMembers.{copies_take_changes}
 pub no_gap : (server : List ℕ) (point : ℕ) (r : Registered) → place_of_gap server point r ≡ None → (r.active ≡ true) × (r.start ≤ point) × (r.floor ≤ point)
 no_gap server point r none = by_active r.active refl none
   where
-    some_none : {X : Type 0} (x : X) → ◌≡◌ {A = Option X} (Some x) None → ⊥
-    some_none x e = cc
-
     by_floor : (b : Bool) → nat_lt point r.floor ≡ b → ◌≡◌ {A = Option GapPlace} (cond b (Some (gaps.Above server r.reg.table r.floor)) None) None → r.floor ≤ point
-    by_floor true e none = absurd (some_none (gaps.Above server r.reg.table r.floor) none)
+    by_floor true e none = absurd (none-some (gaps.Above server r.reg.table r.floor) (sym none))
     by_floor false e none = ltb-false point r.floor e
 
     by_start : (b : Bool) → nat_lt point r.start ≡ b → ◌≡◌ {A = Option GapPlace} (cond b (Some (gaps.Above server r.reg.table r.start)) (cond (nat_lt point r.floor) (Some (gaps.Above server r.reg.table r.floor)) None)) None → (r.start ≤ point) × (r.floor ≤ point)
-    by_start true e none = absurd (some_none (gaps.Above server r.reg.table r.start) none)
+    by_start true e none = absurd (none-some (gaps.Above server r.reg.table r.start) (sym none))
     by_start false e none = (ltb-false point r.start e, by_floor (nat_lt point r.floor) refl none)
 
     by_active : (b : Bool) → r.active ≡ b → ◌≡◌ {A = Option GapPlace} (cond (not b) (Some (gaps.Inactive server r.reg.table)) (cond (nat_lt point r.start) (Some (gaps.Above server r.reg.table r.start)) (cond (nat_lt point r.floor) (Some (gaps.Above server r.reg.table r.floor)) None))) None → (r.active ≡ true) × (r.start ≤ point) × (r.floor ≤ point)
     by_active true e none = let later = by_start (nat_lt point r.start) refl none in (e, later.0, later.1)
-    by_active false e none = absurd (some_none (gaps.Inactive server r.reg.table) none)
+    by_active false e none = absurd (none-some (gaps.Inactive server r.reg.table) (sym none))
 
 -- so it is for the registration of a member that has no gap
 no_member_gap : (k : KnownSet) (point : ℕ) (member : Member) (t : ServerTable) (r : Registered) → server_table member.source k.source ≡ Some t → t.registered ≡ Some r → member_gap k.source point member ≡ None → place_of_gap k.source.name point r ≡ None
@@ -78,23 +76,21 @@ module _ {K : Type 0} (kept : K → Kept) (s0 : Sites K) (set : PlacedSet) (plac
       let r = registered w k sound placed reveals in
       let here : IsRegisteredAt k.source source.reg.number r.table r.registered = record { at = r.number; is = r.is } in
       let own_is : own ≡ member = same_Some own member (sym at ∙ ap (λ (def : SetDef). slice_get def.members place) placed.source_def ∙ member_at) in
-      let reg_is : r.own ≡ member = same_Some r.own member (sym r.at_place ∙ member_at) in
-      let found : server_table member.source k.source ≡ Some r.table = subst (λ (m : Member). server_table m.source k.source ≡ Some r.table) reg_is r.named in
-      let table_is : as_it_is r.table r.registered ≡ table = same_Some (as_it_is r.table r.registered) table (sym (ap (option_and_then (as_source k.source)) found ∙ ap (option_map (as_it_is r.table)) r.is) ∙ named) in
+      let made_of = source_is k place source.reg r member table member_at named in
       let seen = subst (λ (o : Option Contents). IfSome o (IsRegisteredIn source.reg source.table)) reveals.1 stands in
       let held = registration_held w k.source reveals.0 sound i reveals.2 source.reg seen.fits seen.stands in
       let one : held.0 ≡ r.table = same_Some held.0 r.table (sym held.2.at ∙ r.number) in
       let def : source.table.def ≡ r.table.def = table_held w k.source reveals.0 sound i reveals.2 source.reg source.table r.table r.registered seen here r.def (subst (λ (t : ServerTable). server_table t.def.name k.source ≡ Some t) one held.4) in
-      let gap = no_gap k.source.name low r.registered (no_member_gap k low member r.table r.registered found r.is whole.gap) in
+      let gap = no_gap k.source.name low r.registered (no_member_gap k low member r.table r.registered made_of.0 r.is whole.gap) in
       let rows : List (CdKey × ChangeRow) = captured_changes k.source r.registered in
       let interval : rows_between low high rows ≡ changes_between k.source.log r.registered.reg low high = interval_rows k.source r.registered low high gap.0 gap.1 gap.2 whole.captured in
       let made = (subst (λ (o : Option Contents). IfSome o (λ s. (rs : List (CdKey × ChangeRow)) → HasChanges source.reg.number rs s → (d areas.Target n ≡ with_changes (source_as source) own (rows_between low high rs) (c areas.Target n)) × (counts ≡ counts_of (rows_between low high rs)))) reveals.1 takes.takes) rows (changes_held w k.source reveals.0 sound i reveals.2 source.reg.number r.table r.registered here) in
-      let log : changes_between k.source.log r.registered.reg low high ≡ changes_between table.log table.reg low high = ap (λ (q : SourceTable). changes_between q.log q.reg low high) table_is in
+      let log : changes_between k.source.log r.registered.reg low high ≡ changes_between table.log table.reg low high = ap (λ (q : SourceTable). changes_between q.log q.reg low high) made_of.1 in
       let taken = copies_take_changes w k place member table low high sound (is_among w k set placed read_only) (ap (λ (q : SetDef). slice_get q.members place) (sym (same_def w k sound placed.known)) ∙ member_at) named copies whole.rises in (
         made.0
             ∙ ap (λ (l : List CdRow). with_changes (source_as source) own l (c areas.Target n)) (interval ∙ log)
             ∙ (λ j. with_changes (source_of (def j) (r.def j)) (own_is j) (changes_between table.log table.reg low high) (before j))
-            ∙ ap (λ (q : SourceTable). with_changes (source_of q.def q.reg) member (changes_between table.log table.reg low high) (copy_table table member low)) table_is
+            ∙ ap (λ (q : SourceTable). with_changes (source_of q.def q.reg) member (changes_between table.log table.reg low high) (copy_table table member low)) made_of.1
             ∙ same_changes table member (changes_between table.log table.reg low high) (copy_table table member low)
             ∙ taken,
         made.1 ∙ ap counts_of (interval ∙ log),
@@ -102,9 +98,6 @@ module _ {K : Type 0} (kept : K → Kept) (s0 : Sites K) (set : PlacedSet) (plac
     where
       n : ℕ
       n = target_number set.at_target.number place
-
-      as_it_is : ServerTable → Registered → SourceTable
-      as_it_is t g = record { def = table_after k.source.log t.def; reg = g.reg; log = k.source.log }
 
   -- so the target takes the changes of the interval
   pub takes_changes : (number : ℕ) (counts : Counts) (c d : Contents) → number ≡ target_number set.at_target.number place → TakesAll (sees kept s0 set.source) source.reg.number number (source_as source) own low high counts c d → TakesChanges kept s0 set place low high counts c d

@@ -6,13 +6,12 @@ use Rattle.std.proofs.lemmas.Bool.{cond-false}
 use Rattle.world_store.specs.Words.{Holds, Reveals, Stands, source_time, trail_entry}
 use Rattle.site_store.specs.Words.{Contents, Kept, names, held, sees}
 use Rattle.site_store.specs.declared.sites.Sites.{Sites}
-use Rattle.repl_model.specs.Words.{Area, DamageCause, Counts, Fault, Member, TargetKind, SetDef, is_base_aggregate, base_point, block_entry, with_entry, after_action, Action, signals, blocks, IsSound, NumbersAreSound, read_only_sets, time_at, Entry, block, synchpoint, base_of, Server, World, KnownSet, known_sets, at_place_in, known_stands, In, at_one}
+use Rattle.repl_model.specs.Words.{Area, DamageCause, Counts, Fault, Member, TargetKind, SetDef, is_base_aggregate, base_point, block_entry, with_entry, after_action, blocks, IsSound, read_only_sets, time_at, Entry, block, synchpoint, base_of, Server, World, KnownSet, known_sets, known_stands, In}
 use Rattle.repl_types.specs.declared.fault.Fault.TheVariants as faults
 use Rattle.repl_types.specs.declared.fault.Stepped.TheVariants as steps
 use Rattle.repl_definitions.specs.declared.member.TargetKind.TheVariants.{UserCopy, PointInTime, BaseAggregate, ChangeAggregate, Ccd, Replica}
 use Rattle.stored_commits.specs.actions.ActedServers.{Acted, with_step}
 use Rattle.stored_commits.specs.actions.StoredSteps.{is_numbered, PutsStep, block_state}
-use Rattle.world_commits.specs.actions.StaysSound.{HasRoom}
 use Rattle.subs_sets.specs.Cuts.{time_from}
 use Rattle.subs_sets.specs.States.{state_in}
 use Rattle.subs_sets.specs.declared.states.ReadOnlyState.{ReadOnlyState}
@@ -27,9 +26,9 @@ use Rattle.target_steps.specs.declared.step.Step.TheVariants.{Block}
 use Rattle.target_steps.specs.Taking.{CanStep}
 use Rattle.target_steps.specs.Steps.{PutsTargets, PutsSomeTargets}
 use Rattle.target_steps.specs.laws.Stepped.{none_numbered, counts_are, step_put, has_targets}
-use Rattle.apply_cycle.specs.Blocks.{IsBlockNext, HasBlocked}
-use Rattle.apply_cycle.specs.laws.NextBlocks.{members_kept, ends_after, end_captured, end_time}
-use Rattle.world_commits.specs.laws.ActionsStaySound.{next_actions_sound}
+use Rattle.apply_cycle.specs.Blocks.{CanBlock, HasBlocked}
+use Rattle.apply_cycle.specs.laws.Intervals.{members_kept, units_kept, end_time}
+use Rattle.world_commits.specs.laws.ActionsStaySound.{actions_sound}
 use Rattle.stored_commits.specs.laws.Steps.{block_holds, others_hold_step}
 use Rattle.stored_commits.specs.laws.StepTables.{block_is_stored}
 
@@ -51,14 +50,10 @@ none_aggregate (m ∷ ms) all = ap (λ (b : Bool). b || list_any (λ member. is_
 
 -- ---- in a world
 
-module _ (takes : TargetKind → Bool) (unnumbered : (kind : TargetKind) → takes kind ≡ true → is_numbered kind ≡ false) (w : World) (k : KnownSet) (set : PlacedSet) (sound : IsSound w) (placed : IsPlacedAs w k set) (read_only : IsReadOnly k) (upto : ℕ) (next : IsBlockNext takes k upto) where
+module _ (takes : TargetKind → Bool) (unnumbered : (kind : TargetKind) → takes kind ≡ true → is_numbered kind ≡ false) (w : World) (k : KnownSet) (set : PlacedSet) (sound : IsSound w) (placed : IsPlacedAs w k set) (read_only : IsReadOnly k) (upto : ℕ) (can_block : CanBlock takes k upto) where
   -- the set is one of the read-only sets
   among : In k (read_only_sets (known_sets w))
   among = is_among w k set placed read_only
-
-  -- the numbers of its source are sound
-  numbers : NumbersAreSound k.source
-  numbers = at_one NumbersAreSound w k.source sound.numbers (at_place_in w set.source k.source placed.source)
 
   -- where its targets have come to
   abbrev low : ℕ
@@ -71,15 +66,16 @@ module _ (takes : TargetKind → Bool) (unnumbered : (kind : TargetKind) → tak
   pub can : CanStep k (Block low upto)
   can = record {
     from = refl;
-    gaps = members_kept k upto next.0;
-    rises = omega (arith, ends_after k upto next.0 numbers);
-    captured = end_captured k upto next.0 numbers;
+    gaps = members_kept k upto can_block.0;
+    units = units_kept k upto can_block.0;
+    rises = omega (arith, can_block.0.above);
+    captured = can_block.0.captured;
   }
 
   -- no base aggregate is read
   no_base : block_entry k upto ≡ block low upto None
   no_base =
-      let none = none_aggregate k.at_source.def.members (subst (λ (def : SetDef). AllByRecursion (λ member. is_numbered member.kind ≡ false) def.members) (sym (same_def w k sound placed.known)) (none_numbered takes unnumbered w k set sound placed read_only step can next.1)) in
+      let none = none_aggregate k.at_source.def.members (subst (λ (def : SetDef). AllByRecursion (λ member. is_numbered member.kind ≡ false) def.members) (sym (same_def w k sound placed.known)) (none_numbered takes unnumbered w k set sound placed read_only step can can_block.1)) in
       let base : base_point k ≡ None = cond-false (list_any (λ member. is_base_aggregate member.kind) k.at_source.def.members) _ _ none in
       ap (λ (q : Option ℕ). block low upto (if upto == k.source.captured then q else None)) base ∙ either (upto == k.source.captured)
     where
@@ -93,18 +89,12 @@ module _ (takes : TargetKind → Bool) (unnumbered : (kind : TargetKind) → tak
 
   -- it is sound
   sound_after : IsSound after
-  sound_after = subst (λ (a : Action). IsSound (after_action w k a)) next.0 (next_actions_sound w k sound among (λ is. by_other (sym is ∙ next.0)))
-    where
-      by_other : ◌≡◌ {A = Action} signals (blocks upto) → HasRoom k
-      by_other e = absurd (apart e)
-        where
-          apart : ◌≡◌ {A = Action} signals (blocks upto) → ⊥
-          apart e = cc
+  sound_after = actions_sound w k (blocks upto) sound among can_block.0
 
   module _ (time : ℕ) (time_is : time ≡ time_from upto k.source) where
     -- the time that is put is that of the source at the block's end
     pub at_time : time ≡ source_time w k.at_target.def upto
-    at_time = time_is ∙ end_time k upto next.0 numbers ∙ sym (ap (λ (o : Option Server). option_map_or (λ source. time_at source.log upto) o 0) (known_stands w k placed.known).source)
+    at_time = time_is ∙ end_time k upto can_block.0 ∙ sym (ap (λ (o : Option Server). option_map_or (λ source. time_at source.log upto) o 0) (known_stands w k placed.known).source)
 
     module _ {K : Type 0} (kept : K → Kept) (shows : Area → DamageCause → Option Contents → Type 0) (sites : Sites K) (reveals : Reveals w k.source (sees kept sites set.source)) (known : ReadOnlyState) (known_is : known ≡ state_in w k) (counts : Counts) (c d : Contents) (holds : Holds w k.target c) (puts : PutsTargets kept takes shows sites set (Block known.synchpoint upto) time known counts c d) where
       -- it was put from where the targets had come to
@@ -114,15 +104,15 @@ module _ (takes : TargetKind → Bool) (unnumbered : (kind : TargetKind) → tak
       -- what was put makes the step of the world
       put : PutsStep set.at_target.number (block_state upto (source_time w k.at_target.def upto) (base_of k.at_target.trail) k.at_target.flag (length k.at_target.trail)) (length k.at_target.trail) (trail_entry w k.at_target.def (block low upto None)) c d
       put = subst (λ (t : ℕ). PutsStep set.at_target.number (block_state upto t (base_of k.at_target.trail) k.at_target.flag (length k.at_target.trail)) (length k.at_target.trail) (trail_entry w k.at_target.def (block low upto None)) c d) at_time
-          (step_put takes unnumbered w k set sound placed read_only step can next.1 kept shows sites reveals time known known_is counts c d holds puts_there None)
+          (step_put takes unnumbered w k set sound placed read_only step can can_block.1 kept shows sites reveals time known known_is counts c d holds puts_there None)
 
       -- so the target holds what the world after the block calls for
       pub blocked_holds : Holds after (with_entry k.at_target.def (block_entry k upto) k.target) d
       blocked_holds =
           block_holds w k set.at_target.number (block_entry k upto) c d sound among placed.at_target holds
           (subst (λ (e : Entry). Acted set.at_target.number (with_step w k e) (with_entry k.at_target.def e k.target) c d) (sym no_base)
-          (block_is_stored w k set.at_target.number low upto None c d sound among placed.at_target (subst (λ (e : Entry). IsSound (with_step w k e)) no_base sound_after) holds (none_numbered takes unnumbered w k set sound placed read_only step can next.1) put
-          (has_targets takes unnumbered w k set sound placed read_only step can next.1 kept shows sites reveals time known known_is counts c d holds puts_there None)))
+          (block_is_stored w k set.at_target.number low upto None c d sound among placed.at_target (subst (λ (e : Entry). IsSound (with_step w k e)) no_base sound_after) holds (none_numbered takes unnumbered w k set sound placed read_only step can can_block.1) put
+          (has_targets takes unnumbered w k set sound placed read_only step can can_block.1 kept shows sites reveals time known known_is counts c d holds puts_there None)))
 
     -- ---- at the servers
 
@@ -143,7 +133,7 @@ module _ (takes : TargetKind → Bool) (unnumbered : (kind : TargetKind) → tak
       has_answered counts stepped =
           let r = revealed_at_place (names s0) (held kept s0) w set.target k.target stands placed.target in
           let d = stepped r.0 r.1 in
-          let counted = counts_are takes unnumbered w k set sound placed read_only step can next.1 kept shows s1 reveals time known known_is counts r.0 d.0 r.2 (puts_there kept shows s1 reveals known known_is counts r.0 d.0 r.2 d.2) None in (
+          let counted = counts_are takes unnumbered w k set sound placed read_only step can can_block.1 kept shows s1 reveals time known known_is counts r.0 d.0 r.2 (puts_there kept shows s1 reveals known known_is counts r.0 d.0 r.2 d.2) None in (
             has_blocked (λ b is. let e = stepped b is in (e.0, e.1, (counts, e.2))),
             λ i. steps.Block (known_is i).synchpoint upto (counted i).inserts (counted i).updates (counted i).deletes,
           )

@@ -3,11 +3,15 @@ use Rattle.std.proofs.Common.{◌≡◌, ◌∙◌, ℕ, Bool, true, false, ◌|
 use Rattle.world_store.specs.Words.{Stands}
 use Rattle.site_store.specs.Words.{Contents, Kept, AllClosed, names, held, work, Rules, Shows, Damages, Looks, looks_sees}
 use Rattle.site_store.specs.declared.sites.Sites.{Sites}
-use Rattle.repl_model.specs.Words.{Area, DamageCause, Fault, Stepped, after_action, Action, signals, refreshes, blocks, reports, idles, refuses, next_action, World, KnownSet}
+use Rattle.repl_model.specs.Words.{Area, DamageCause, Fault, Stepped, after_action, Action, signals, refreshes, blocks, reports, idles, refuses, next_action, IsSound, World, KnownSet}
 use Rattle.repl_types.specs.declared.area.Area.TheVariants as areas
 use Rattle.repl_types.specs.declared.fault.Fault.TheVariants as faults
 use Rattle.repl_types.specs.declared.fault.Stepped.TheVariants as steps
+use Rattle.world_commits.specs.actions.StaysSound.{MayRefresh, MayBlock, MayMake}
+use Rattle.world_commits.specs.laws.ActionsStaySound.{next_may}
 use Rattle.set_places.specs.declared.placed_set.PlacedSet.{PlacedSet}
+use Rattle.set_places.specs.Places.{IsPlacedAs, IsReadOnly}
+use Rattle.set_places.specs.laws.Known.{is_among}
 use Rattle.set_places.specs.Reading.{ReadsOnly}
 use Rattle.set_places.specs.Steps.{HasBecome, MayHaveBecome, BlamesUnchanged}
 use Rattle.set_places.specs.laws.Commits.{unchanged_after}
@@ -38,6 +42,27 @@ module _ {K : Type 0} (kept : K → Kept) (s0 s1 : Sites K) (w : World) (k : Kno
       by_fault (faults.Keeper s) may = may
       by_fault (faults.Damaged s a cause) may = may
       by_fault (faults.Refused refusal) may = absurd may.undamaged
+
+-- ---- what may be made
+
+module _ (w : World) (k : KnownSet) (set : PlacedSet) (sound : IsSound w) (placed : IsPlacedAs w k set) (read_only : IsReadOnly k) where
+  -- what the set does next may be made, if that is no signal
+  may_next : (a : Action) → a ≡ next_action k → (a ≡ signals → ⊥) → MayMake k a
+  may_next a is other = subst (MayMake k) (sym is) (next_may w k sound (is_among w k set placed read_only) (λ e. absurd (other (is ∙ e))))
+
+  -- so may a refresh
+  pub refresh_may : refreshes ≡ next_action k → MayRefresh k
+  refresh_may is = may_next refreshes is apart
+    where
+      apart : ◌≡◌ {A = Action} refreshes signals → ⊥
+      apart e = cc
+
+  -- and a block
+  pub block_may : (upto : ℕ) → blocks upto ≡ next_action k → MayBlock k upto
+  block_may upto is = may_next (blocks upto) is apart
+    where
+      apart : ◌≡◌ {A = Action} (blocks upto) signals → ⊥
+      apart e = cc
 
 -- ---- after reads
 

@@ -8,7 +8,8 @@ use Rattle.keep_core.specs.Contents.{Contents}
 use Rattle.keep_core.specs.Kept.{Kept}
 use Rattle.repl_definitions.specs.declared.member.TargetKind.{TargetKind}
 use Rattle.repl_model.specs.AfterActions.{after_action}
-use Rattle.repl_model.specs.NextActions.{next_action, blocks}
+use Rattle.repl_model.specs.NextActions.{blocks}
+use Rattle.world_commits.specs.actions.StaysSound.{MayBlock}
 use Rattle.repl_model.specs.Trails.{synchpoint}
 use Rattle.repl_model.specs.World.{World, KnownSet}
 use Rattle.world_store.specs.TargetRows.{set_changes, count_op, is_insert, is_update, is_delete}
@@ -20,9 +21,9 @@ use Rattle.set_places.specs.Steps.{HasBecome}
 use Rattle.target_steps.specs.Taking.{is_of_block, ReadsCounted, ShowsAtEnds}
 use Rattle.target_steps.specs.Steps.{TakesEach}
 
--- a block up to a point is what the set does next, and each member is of a kind that is taken through it
-abbrev pub IsBlockNext : (TargetKind → Bool) → KnownSet → ℕ → Type 0
-IsBlockNext takes k upto = (next_action k ≡ blocks upto) × TakesEach takes k.at_source.def
+-- a block of the set up to a point may be made, and each member is of a kind that is taken through it
+abbrev pub CanBlock : (TargetKind → Bool) → KnownSet → ℕ → Type 0
+CanBlock takes k upto = MayBlock k upto × TakesEach takes k.at_source.def
 
 -- the areas that are read: those that tell how far the set is and what is captured, and those of its members
 abbrev pub is_read_in_block : Area → Bool

@@ -1,1 +1,1 @@
-pub mod NextBlocks
+pub mod Intervals

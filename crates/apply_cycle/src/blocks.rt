@@ -10,7 +10,7 @@ ghost use Rattle.site_store.specs.Views.{work};
 ghost use Rattle.set_places.specs.Places.{IsPlaced, ForSet};
 ghost use Rattle.set_places.specs.Reading.{ReadsOnly};
 ghost use Rattle.set_places.specs.Steps.{MayHaveBecome, BlamesUnchanged};
-ghost use Rattle.apply_cycle.specs.Blocks.{IsBlockNext, HasBlocked, ShowsDamage};
+ghost use Rattle.apply_cycle.specs.Blocks.{CanBlock, HasBlocked, ShowsDamage};
 ghost use Rattle.apply_cycle.specs.Blocks.{is_read_in_block, ReadsAnswered};
 
 use keep_core::Keeper;
@@ -26,8 +26,8 @@ use target_steps::{Step, Targets, put_step};
 /// its target. It answers both points, and how many change rows of each operation there were.
 ///
 /// After a fault nothing is changed; but if the commit failed, it may have taken place. What is
-/// said of a world holds if the servers stand for one in which a block up to this point is what the
-/// set does next, and the kinds of all members are taken.
+/// said of a world holds if the servers stand for one in which the set was refreshed, has no gap, and
+/// has a captured unit with this seq above the point, and if the kinds of all members are taken.
 pub fn block_step<K: Keeper, T: Targets<K>>(
     sites: &mut Sites<K>,
     alloc: Global,
@@ -39,9 +39,9 @@ pub fn block_step<K: Keeper, T: Targets<K>>(
     requires read_only { IsTrue (not (is_replica_set set.now.at_target.def)) }
     requires closed { AllClosed (work K.kept sites.old) }
     ensures ok { IfOk result (λ stepped. ForSet K.kept sites.old set.now (λ w k.
-        IsBlockNext T.takes k upto → HasBlocked K.kept sites.old sites.new w k upto stepped)) }
+        CanBlock T.takes k upto → HasBlocked K.kept sites.old sites.new w k upto stepped)) }
     ensures fault { IfErr result (λ e. ForSet K.kept sites.old set.now (λ w k.
-        IsBlockNext T.takes k upto
+        CanBlock T.takes k upto
         → MayHaveBecome K.kept sites.old sites.new w (after_action w k (blocks upto)) e)) }
     ensures blames { IfErr result (BlamesUnchanged K.kept sites.old sites.new
         (ShowsDamage K.kept T.shows sites.old set.now)) }

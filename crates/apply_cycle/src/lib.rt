@@ -6,8 +6,8 @@
 //! targets of a set's members take the captured changes of an interval, and puts the set's state
 //! and the next entry of its trail, in one commit at the target. It reads no log, no source and
 //! nothing spilled. `specs/Blocks.antt` says what the commit makes of a world, and
-//! `specs/laws/NextBlocks.antt` what is known where a block is what the set does next: no change
-//! of the interval is missing, and its end is captured.
+//! `specs/laws/Intervals.antt` what is known where a block may be made: its interval lacks no
+//! change and no unit.
 //!
 //! It stands on `subs_sets`, which says what the set does next, on `full_refresh` and
 //! `prune_control`, which make the other actions, on `target_steps`, which puts a step at a

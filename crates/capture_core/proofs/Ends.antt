@@ -9,7 +9,7 @@ use Rattle.repl_model.specs.Words.{Unit, Fault, NumbersAreSound, empty_server, S
 use Rattle.repl_types.specs.declared.area.Area.TheVariants as areas
 use Rattle.run_core.specs.Runs.{Event, commits, last_world, lines_of, Went, Stopped}
 use Rattle.run_core.specs.laws.Runs.{last_append, lines_append, no_part, stopped_before}
-use Rattle.stored_defs.specs.laws.Standing.{all_at_place, seen_at}
+use Rattle.stored_defs.specs.laws.Standing.{all_at_place, in_at, seen_at}
 use Rattle.world_commits.specs.captures.Captures.{with_units, uncaptured, captured}
 use Rattle.capture_core.specs.Committing.{CommitsUnits, MayCommitUnits}
 use Rattle.capture_core.specs.Capturing.{counts_of}
@@ -22,7 +22,7 @@ use Rattle.capture_core.proofs.BatchEnds.{by_ends}
 use Rattle.capture_core.proofs.Batches.{commits_left, commits_due, due_none, due_some, due_full}
 use Rattle.capture_core.proofs.Faults.{StopsAtCommit, not_committed, write_undamaged, write_blames, read_blames}
 use Rattle.capture_core.proofs.Restarts.{state_spelt}
-use Rattle.capture_core.proofs.Standing.{within, in_at, member, sound_after, holds_after}
+use Rattle.capture_core.proofs.Standing.{within, member, sound_after, holds_after}
 use Rattle.capture_core.proofs.Undamaged.{HasSpeltState, undamaged}
 use Rattle.capture_core.proofs.UnderWay.{GoesIn, IsUnderWay, IsCalled, Put, held_server, committed_in, put_working}
 use Rattle.capture_core.proofs.UnitsInTurn.{left_few}

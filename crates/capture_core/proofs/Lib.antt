@@ -12,7 +12,6 @@ mod ReadLogs
 mod Restarts
 mod Shown
 mod Standing
-mod StoredChangeRows
 mod StoredRegistrations
 mod Undamaged
 mod UnderWay

@@ -42,7 +42,7 @@ module _ {X : Type 0} (R : List ℕ × X → Type 0) where
 -- ---- one registration
 
 -- a registration has no more columns than a table may have
-pub few_columns : (t : ServerTable) (reg : Registration) → KeepsTable t → RegistrationKeepsRules t.def reg → (length reg.after ≤ row_limit) × (length reg.before ≤ row_limit)
+few_columns : (t : ServerTable) (reg : Registration) → KeepsTable t → RegistrationKeepsRules t.def reg → (length reg.after ≤ row_limit) × (length reg.before ≤ row_limit)
 few_columns t reg keeps rules =
     let def = t.def in
     let n = length def.columns in

@@ -1,19 +1,17 @@
 -- What a server of a sound world has, with its captured units stored, shows no damage: proofs.
-use Rattle.std.proofs.Common.{◌≡◌, inl, inr, ℕ, zero, suc, ◌≤◌, ◌^◌, List, length, refl, sym, ap, subst, ◌∙◌, arith, Option, Some, None, IfSome, slice_get, true≢false}
+use Rattle.std.proofs.Common.{◌≡◌, inl, inr, ℕ, zero, suc, ◌^◌, List, refl, sym, ap, ◌∙◌, arith, Option, Some, None, slice_get, true≢false}
 use Rattle.std.specs.List.{AllByRecursion}
 use Rattle.std.specs.Option.{option_map_or, option_and_then}
-use Rattle.std.proofs.lemmas.Option.{get_or_from_slice_get, slice_get_within}
-use Rattle.world_store.specs.Words.{IsLogRecord, log_spelling, b32, b64, short_text, IsCapture, capture_spelling, IsChangeRow, change_row_spelling, IsRegistrationState, registration_state_spelling, IsChangeKey, change_key_spelling, CdKey, ChangeRow, RegState, table_from_rows, Spells, change_rows_of, registration_state_rows, log_rows, no_rows}
+use Rattle.world_store.specs.Words.{IsLogRecord, log_spelling, b32, b64, short_text, IsCapture, capture_spelling, IsChangeRow, change_row_spelling, IsRegistrationState, registration_state_spelling, IsChangeKey, change_key_spelling, RegState, RowFits, table_from_rows, Spells, change_rows_of, registration_state_rows, log_rows, no_rows}
 use Rattle.site_store.specs.Words.{Contents, Table, IsUndamaged, IsSpelt, rows_spelt}
-use Rattle.repl_model.specs.Words.{row_limit, Area, all_weaker, RegistrationKeepsRules, IsSound, NumbersAreSound, KeepsTable, ServerKeepsRules, LogIsSound, Registered, ServerTable, Server, World, In, at_one, all_numbered}
+use Rattle.repl_model.specs.Words.{Area, all_weaker, IsSound, NumbersAreSound, ServerKeepsRules, LogIsSound, Registered, ServerTable, Server, World, In, at_one, all_numbered}
 use Rattle.repl_types.specs.declared.area.Area.TheVariants as areas
 use Rattle.repl_types.specs.declared.status.DamageCause.TheVariants as causes
-use Rattle.stored_defs.specs.laws.Standing.{all_at_place}
+use Rattle.cd_tables.specs.laws.SoundChanges.{change_rows_are}
 use Rattle.capture_core.specs.Reading.{UnitsAreWithin, HasServer}
 use Rattle.capture_core.specs.Rules.{rules}
 use Rattle.capture_core.proofs.Restarts.{captured_within}
-use Rattle.capture_core.proofs.StoredChangeRows.{change_rows_fit}
-use Rattle.capture_core.proofs.StoredRegistrations.{few_columns, spelt_registration, has_state, of_its_table, all_states_fit}
+use Rattle.capture_core.proofs.StoredRegistrations.{spelt_registration, has_state, of_its_table, all_states_fit}
 
 -- what stands there of how far the server is captured has a spelling
 abbrev pub HasSpeltState : Contents → Type 0
@@ -36,8 +34,8 @@ module _ (within : UnitsAreWithin) (world : World) (server : Server) (d : Conten
       (all_states_fit server server.captured (omega (arith, captured_within within server numbers, log.short)) numbers.registered)
 
   -- the change rows of a registration
-  rows_spelt_of : (n : ℕ) (r : Registered) → length r.reg.after ≤ row_limit → length r.reg.before ≤ row_limit → AllByRecursion (RowSpelt areas.Cd n change_key_spelling change_row_spelling) (change_rows_of server r)
-  rows_spelt_of n r after_few before_few = all_weaker (λ (row : CdKey × ChangeRow). IsChangeKey row.0 × IsChangeRow row.1) (RowSpelt areas.Cd n change_key_spelling change_row_spelling) (change_rows_of server r) (λ row fits. ((tt, (row.0, fits.0, refl)), (tt, (row.1, fits.1, refl)))) (change_rows_fit server log r after_few before_few)
+  rows_spelt_of : (n : ℕ) (t : ServerTable) (r : Registered) → slice_get server.tables n ≡ Some t → t.registered ≡ Some r → AllByRecursion (RowSpelt areas.Cd n change_key_spelling change_row_spelling) (change_rows_of server r)
+  rows_spelt_of n t r at is = all_weaker (RowFits IsChangeKey IsChangeRow) (RowSpelt areas.Cd n change_key_spelling change_row_spelling) (change_rows_of server r) (λ row fits. ((tt, (row.0, fits.0, refl)), (tt, (row.1, fits.1, refl)))) (change_rows_are server (record { log = log; numbers = numbers; tables = keeps.tables }) n t r at is).fit
 
   -- each entry is a key and a value of its table
   all_spelt : IsSpelt rules d
@@ -49,15 +47,13 @@ module _ (within : UnitsAreWithin) (world : World) (server : Server) (d : Conten
       none : ◌≡◌ {A = Option (List ℕ)} None (Some value) → ⊥
       none e = cc
 
-      of_registration : (t : ServerTable) → KeepsTable t → (o : Option Registered) → IfSome o (λ r. RegistrationKeepsRules t.def r.reg) → option_map_or (λ r. table_from_rows change_key_spelling change_row_spelling (change_rows_of server r)) o no_rows key ≡ Some value → rules.is_key areas.Cd n key × rules.is_value areas.Cd n value
-      of_registration t k None kept e = absurd (none e)
-      of_registration t k (Some r) kept e = let few = few_columns t r.reg k kept in rows_spelt rules areas.Cd n change_key_spelling change_row_spelling (change_rows_of server r) key value (rows_spelt_of n r few.0 few.1) e
+      of_registration : (t : ServerTable) → slice_get server.tables n ≡ Some t → (o : Option Registered) → t.registered ≡ o → option_map_or (λ r. table_from_rows change_key_spelling change_row_spelling (change_rows_of server r)) o no_rows key ≡ Some value → rules.is_key areas.Cd n key × rules.is_value areas.Cd n value
+      of_registration t at None is e = absurd (none e)
+      of_registration t at (Some r) is e = rows_spelt rules areas.Cd n change_key_spelling change_row_spelling (change_rows_of server r) key value (rows_spelt_of n t r at is) e
 
       of_table : (o : Option ServerTable) → slice_get server.tables n ≡ o → option_map_or (λ r. table_from_rows change_key_spelling change_row_spelling (change_rows_of server r)) (option_and_then (λ t. t.registered) o) no_rows key ≡ Some value → rules.is_key areas.Cd n key × rules.is_value areas.Cd n value
-      of_table None is e = absurd (none e)
-      of_table (Some t) is e =
-          let k : KeepsTable t = subst KeepsTable (get_or_from_slice_get server.tables n t t is) (all_at_place KeepsTable server.tables n t keeps.tables (slice_get_within server.tables n t is)) in
-          of_registration t k t.registered k.2 e
+      of_table None at e = absurd (none e)
+      of_table (Some t) at e = of_registration t at t.registered refl e
   all_spelt areas.Defs (suc zero) key value stands =
       let r = spelt_registration world server keeps key value (sym (ap (λ (t : Table). t key) has.captured.registrations) ∙ stands) in
       ((tt, tt), (tt, r))

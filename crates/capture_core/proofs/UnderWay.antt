@@ -11,7 +11,7 @@ use Rattle.repl_model.specs.Words.{Unit, IsSound, NumbersAreSound, empty_server,
 use Rattle.repl_types.specs.declared.area.Area.TheVariants as areas
 use Rattle.run_core.specs.Runs.{Event, commits, last_world, lines_of}
 use Rattle.run_core.specs.laws.Runs.{last_append, lines_append}
-use Rattle.stored_defs.specs.laws.Standing.{all_at_place}
+use Rattle.stored_defs.specs.laws.Standing.{all_at_place, zip_at_place}
 use Rattle.world_commits.specs.captures.Captures.{with_unit, with_units, uncaptured, rows_captured, all_rows_captured, captured}
 use Rattle.capture_core.specs.Committing.{IsStart, IsWorking, Opens, ReadsState, PutsState, CommitsUnits}
 use Rattle.capture_core.specs.Reading.{greatest, greatest_waiting, KeepsTyped, IsReadTo, HasServer, HasTaken, Counts, LeavesOthers, ReadsUnit, ReadsAll}
@@ -20,7 +20,7 @@ use Rattle.capture_core.proofs.Batches.{commits_left, commits_due, not_full, due
 use Rattle.capture_core.proofs.Calls.{same_leaves, leaves_then}
 use Rattle.capture_core.proofs.Committed.{put_leaves, captured_by}
 use Rattle.capture_core.proofs.Restarts.{state_is, starts_at, starts_reading}
-use Rattle.capture_core.proofs.Standing.{zip_at, within, member, sound_after, holds_after, stands_captured}
+use Rattle.capture_core.proofs.Standing.{within, member, sound_after, holds_after, stands_captured}
 use Rattle.capture_core.proofs.UnitsInTurn.{units_both, rows_both, left_after, left_few, count_on, captured_none, captured_both}
 use Rattle.capture_core.proofs.Working.{working_begun, working_on, working_closed, working_committed}
 use Rattle.stored_commits.specs.laws.CapturedStates.{has_captured}
@@ -88,7 +88,7 @@ module _ {K : Type 0} (kept : K → Kept) (s0 : Sites K) (n every most : ℕ) wh
           let below = within kept s0 call.closed w stands n call.lt in
           let numbers = all_at_place NumbersAreSound w n (empty_server []) stands.sound.numbers below in
           let log = all_at_place LogIsSound w n (empty_server []) stands.sound.logs below in
-          let c = zip_at (Reveals w) w (held kept s0) n (empty_server []) None stands.servers below in
+          let c = zip_at_place (Reveals w) w (held kept s0) n (empty_server []) None stands.servers below in
           let d = opens.working.does c.0 (ap (λ (l : List (Option Contents)). get_or l n None) opens.held ∙ c.1) in
           let holds : Holds w server d.0 = subst (Holds w server) (sym d.2.0) c.2 in
           (d.0, d.1, holds, state_is seqs_within w server d.0 numbers log holds p.state begins.fits d.2.1)

@@ -1,17 +1,17 @@
 -- The change rows of a change whose rows are rows of values can be stored: proofs.
-use Rattle.std.proofs.Common.{◌≡◌, ℕ, ◌≤◌, Bool, true, false, cond, List, [], ◌∷◌, map, length, get_or, arith, ◌&&◌, nat_le, bytes_eq}
+use Rattle.std.proofs.Common.{ℕ, ◌≤◌, Bool, true, false, cond, List, [], ◌∷◌, map, length, get_or, arith, ◌&&◌, nat_le, bytes_eq}
 use Rattle.std.specs.List.{AllByRecursion}
 use Rattle.std.proofs.lemmas.Bool.{and_parts, leb-true}
 use Rattle.std.proofs.lemmas.List.{length-map}
 use Rattle.world_store.specs.Words.{IsChangeRow, change_storable}
-use Rattle.repl_model.specs.Words.{row_limit, Values, images, IsValue, CdRow, Registration, Change, Placed, DefinedRegistration, rows_of, rows_of_placed, shows_nothing, insert_row, delete_row, update_row, table_of}
+use Rattle.repl_model.specs.Words.{row_limit, Values, images, IsValue, CdRow, Registration, Change, Placed, DefinedRegistration, rows_of, rows_of_placed, shows_nothing, insert_row, delete_row, update_row}
 use Rattle.repl_types.specs.declared.record.Change.TheVariants.{Insert, Update, Delete, Start, Stop}
 use Rattle.repl_types.specs.declared.value.Value.TheVariants.{Null}
 use Rattle.stored_commits.specs.records.SourceTables.{HasRows}
 use Rattle.stored_commits.specs.units.StoredChanges.{stored_change}
 use Rattle.cd_tables.specs.Appending.{CanBeStored}
 use Rattle.cd_tables.specs.Rules.{IsRegistrationOf}
-use Rattle.cd_tables.specs.laws.SoundChanges.{images_are, nulls_are}
+use Rattle.cd_tables.specs.laws.SoundChanges.{images_are, nulls_are, of_own}
 
 -- A row of values that isn't too long to be stored.
 record IsShort (row : Values) : Type 0 where
@@ -51,19 +51,9 @@ module _ (reg : Registration) (after_few : length reg.after ≤ row_limit) (befo
 
 -- for a registration of a table, which has no more columns than that
 pub placed_storable : (name : List ℕ) (reg : DefinedRegistration) (seq : ℕ) (placed : Placed) → IsRegistrationOf name reg → HasRows placed.change → AllByRecursion CanBeStored (rows_of_placed reg.registration seq placed)
-placed_storable name reg seq placed of typed = pick (bytes_eq (table_of placed.change) reg.registration.table)
-  where
-    after : List ℕ
-    after = reg.registration.after
-
-    before : List ℕ
-    before = reg.registration.before
-
-    fits : (nat_le (length after) row_limit && nat_le (length before) row_limit) ≡ true
-    fits = (and_parts (bytes_eq reg.registration.table name) (nat_le (length after) row_limit && nat_le (length before) row_limit) of.is).1
-
-    pick : (b : Bool) → AllByRecursion CanBeStored (cond b (rows_of reg.registration seq placed.pos placed.change) [])
-    pick true =
-        let both = and_parts (nat_le (length after) row_limit) (nat_le (length before) row_limit) fits in
-        rows_storable reg.registration (leb-true (length after) row_limit both.0) (leb-true (length before) row_limit both.1) seq placed.pos placed.change typed
-    pick false = tt
+placed_storable name reg seq placed of typed =
+    let after = reg.registration.after in
+    let before = reg.registration.before in
+    let fits = and_parts (bytes_eq reg.registration.table name) (nat_le (length after) row_limit && nat_le (length before) row_limit) of.is in
+    let few = and_parts (nat_le (length after) row_limit) (nat_le (length before) row_limit) fits.1 in
+    of_own reg.registration seq (AllByRecursion CanBeStored) placed tt (rows_storable reg.registration (leb-true (length after) row_limit few.0) (leb-true (length before) row_limit few.1) seq placed.pos placed.change typed)

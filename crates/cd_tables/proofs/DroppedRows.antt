@@ -1,15 +1,17 @@
 -- Change rows are dropped, one after another: proofs.
-use Rattle.std.proofs.Common.{◌≡◌, ℕ, ◌+◌, ◌<◌, ◌≤◌, Bool, true, false, cond, inl, inr, List, [], ◌∷◌, ◌++◌, length, refl, sym, ap, subst, ◌∙◌, append_assoc, append-nil, arith, ◌⊎◌, ◌==◌, ◌&&◌, min, nat_lt, nat_le, Option, Some, None, length-append}
+use Rattle.std.proofs.Common.{◌≡◌, ℕ, ◌+◌, ◌<◌, ◌≤◌, Bool, true, false, cond, inl, inr, List, [], ◌∷◌, ◌++◌, length, refl, sym, ap, subst, ◌∙◌, append_assoc, append-nil, arith, ◌⊎◌, ◌==◌, ◌&&◌, min, nat_lt, nat_le, Some, None, length-append}
 use Rattle.std.specs.List.{AllByRecursion}
 use Rattle.std.proofs.lemmas.Bool.{lt-ltb, le-ltb, le-leb, lt-leb}
 use Rattle.std.proofs.lemmas.List.Elements.{filter-append}
-use Rattle.world_store.specs.Words.{b64, sequence_spelling, length64, IsChangeRow, change_row_spelling, IsChangeKey, change_key_spelling, ChangeRow, CdKey, table_from_rows, AllAfter, first_row, no_first_row, all_some, put_here, written_first, RowFits}
-use Rattle.site_store.specs.Words.{Contents, Table, IsLastKey, put_at, same_key, set_key, ShownBefore, adds_remove}
+use Rattle.world_store.specs.Words.{b64, sequence_spelling, length64, IsChangeRow, change_row_spelling, IsChangeKey, change_key_spelling, ChangeRow, CdKey, table_from_rows, AllAfter, first_row, no_first_row, all_some, written_first, RowFits}
+use Rattle.site_store.specs.Words.{Contents, IsLastKey, put_at, set_key, ShownBefore, adds_remove}
 use Rattle.repl_model.specs.Words.{same_area, all_weaker, all_append, filter_none, filter_all, Area}
 use Rattle.repl_types.specs.declared.area.Area.TheVariants as areas
 use Rattle.cd_tables.specs.Dropping.{greatest, HasNextChange, DropsNext, DropsUpto}
 use Rattle.cd_tables.specs.StoredRows.{AreChangeRows, HasChangeRows, rows_upto, rows_above, row_rules}
-use Rattle.cd_tables.proofs.FoundRows.{units_rise, next_of_rows, none_of_rows}
+use Rattle.cd_tables.specs.laws.ChangeKeys.{units_above}
+use Rattle.cd_tables.specs.laws.ClearedTables.{key_removed}
+use Rattle.cd_tables.proofs.FoundRows.{next_of_rows, none_of_rows}
 use Rattle.cd_tables.proofs.RowsShown.{rows_shown}
 
 -- Rows are parted into the first ones, of units up to a floor, which are counted, and those after a key.
@@ -57,7 +59,7 @@ module _ (number floor count : ℕ) (after : List ℕ) (c d e : Contents) (befor
   pub dropped_next : (key : CdKey) (more : ℕ) → more ≡ min (count + 1) greatest → key.commitseq ≤ floor → DropsNext number floor after (Some key) d e → HasDropped number floor more (change_key_spelling key) c e
   dropped_next key more is le step = record {
     others = λ a n other. ap (λ (f : Contents). f a n) step.0 ∙ ap (λ (b : Bool). cond b (set_key (d areas.Cd number) k None) (d a n)) other ∙ before.others a n other;
-    left = λ q value has. before.left q value (still (same_key k q) (d areas.Cd number q) value (sym (at q) ∙ has));
+    left = λ q value has. before.left q value (key_removed d e areas.Cd number k step.0 areas.Cd number q value has);
     rows = λ rows are has.
         let p = before.rows rows are has in
         let parts = p.0 in
@@ -82,13 +84,6 @@ module _ (number floor count : ℕ) (after : List ℕ) (c d e : Contents) (befor
     where
       k : List ℕ
       k = change_key_spelling key
-
-      at : (q : List ℕ) → e areas.Cd number q ≡ cond (same_key k q) None (d areas.Cd number q)
-      at q = ap (λ (f : Contents). f areas.Cd number q) step.0 ∙ ap (λ (t : Table). t q) (put_here d areas.Cd number k None)
-
-      still : (b : Bool) (o : Option (List ℕ)) (value : List ℕ) → cond b None o ≡ Some value → o ≡ Some value
-      still true o value has = absurd cc
-      still false o value has = has
 
   -- no more are there up to the floor, so all were
   pub dropped_all : DropsNext number floor after None d e → DropsUpto number floor count c e
@@ -116,15 +111,10 @@ module _ (number floor count : ℕ) (after : List ℕ) (c d e : Contents) (befor
     shown = subst (ShownBefore row_rules c) (sym step.0) before.shown;
   }
     where
-      -- rows after one of a unit above the floor are of units above it
-      above_all : (key : CdKey) → IsChangeKey key → floor < key.commitseq → (rows : List (CdKey × ChangeRow)) → AllByRecursion (RowFits IsChangeKey IsChangeRow) rows → AllAfter change_key_spelling (change_key_spelling key) rows → AllByRecursion (λ r. floor < r.0.commitseq) rows
-      above_all key fits lt [] fit later = tt
-      above_all key fits lt (r ∷ rs) fit later = (omega (arith, lt, units_rise key r.0 fits fit.0.0 later.0), above_all key fits lt rs fit.1 later.1)
-
       all_high : {rows : List (CdKey × ChangeRow)} (parts : ArePartedAt floor count after rows) → HasChangeRows number parts.back d → IsLastKey (d areas.Cd number) after ⊎ ((key : CdKey) × (row : ChangeRow) × HasNextChange number after key row d × (floor < key.commitseq)) → AllByRecursion (λ r. floor < r.0.commitseq) parts.back
       all_high parts has (inl last) = subst (AllByRecursion (λ (r : CdKey × ChangeRow). floor < r.0.commitseq)) (sym (no_first_row change_key_spelling parts.back after (none_of_rows number parts.back d after has last) parts.later)) tt
       all_high parts has (inr (key, row, next, lt)) =
           let here = next_of_rows number parts.back d after key row parts.are has next.key_fits next.fits next.next in
           let split = first_row change_key_spelling parts.back after (key, row) here parts.later in
           let are_all = subst AreChangeRows split parts.are in
-          subst (AllByRecursion (λ (r : CdKey × ChangeRow). floor < r.0.commitseq)) (sym split) (lt, above_all key next.key_fits lt here.back are_all.fit.1 here.later)
+          subst (AllByRecursion (λ (r : CdKey × ChangeRow). floor < r.0.commitseq)) (sym split) (lt, units_above floor key next.key_fits lt here.back are_all.fit.1 here.later)

@@ -1,18 +1,19 @@
 -- The tables that the capture of a unit leaves as they are: proofs.
-use Rattle.std.proofs.Common.{◌≡◌, ℕ, zero, suc, Bool, true, false, cond, List, [], ◌∷◌, inl, inr, refl, ap, ◌∙◌, arith, Some}
-use Rattle.world_store.specs.Words.{differ_numbers, b32, change_row_spelling, registration_state_spelling, change_key_spelling, RegState}
+use Rattle.std.proofs.Common.{◌≡◌, ℕ, zero, suc, Bool, true, false, cond, ◌&&◌, ◌==◌, List, inl, inr, refl, ap, ◌∙◌, arith, Some}
+use Rattle.world_store.specs.Words.{differ_numbers, b32, registration_state_spelling, RegState}
 use Rattle.site_store.specs.Words.{Contents, Table, set_key, with_table}
-use Rattle.repl_model.specs.Words.{Area, CdRow, Change, Placed, DefinedRegistration, rows_of}
+use Rattle.repl_model.specs.Words.{same_area, Area, CdRow, Change, Placed, DefinedRegistration, rows_of}
 use Rattle.repl_types.specs.declared.area.Area.TheVariants as areas
 use Rattle.repl_types.specs.declared.record.Change.TheVariants.{Insert, Update, Delete, Start, Stop}
-use Rattle.stored_commits.specs.units.StoredChanges.{stored_change, with_change_row, with_change_rows, cleared, with_cleared, is_captured, with_state, with_change, CapturesChange}
+use Rattle.stored_commits.specs.units.StoredChanges.{with_change_rows, cleared, with_cleared, is_captured, with_state, with_change, CapturesChange}
+use Rattle.stored_commits.specs.laws.CapturedPuts.{other_areas}
 use Rattle.cd_tables.specs.Appending.{is_of_unit}
 use Rattle.cd_tables.proofs.Signals.{active_state, inactive_state}
 
 -- no change-data table is another table
-cd_elsewhere : (number : ℕ) (t : Table) (c : Contents) (a : Area) (n : ℕ) → is_of_unit a n ≡ false → with_table c areas.Cd number t a n ≡ c a n
-cd_elsewhere number t c areas.Cd n other = absurd cc
-cd_elsewhere number t c a n other = refl
+no_change_data : (a : Area) (n : ℕ) → is_of_unit a n ≡ false → same_area areas.Cd a ≡ false
+no_change_data areas.Cd n other = absurd cc
+no_change_data a n other = refl
 
 -- nor is the unit-of-work table
 pub uow_elsewhere : (t : Table) (c : Contents) (a : Area) (n : ℕ) → is_of_unit a n ≡ false → with_table c areas.Uow 0 t a n ≡ c a n
@@ -31,19 +32,12 @@ state_elsewhere t c a n other = refl
 put_elsewhere : (number : ℕ) (state : RegState) (c : Contents) (a : Area) (n : ℕ) → is_of_unit a n ≡ false → with_state number state c a n ≡ c a n
 put_elsewhere number state c a n other = state_elsewhere (set_key (c areas.Capture 1) (b32 number) (Some (registration_state_spelling state))) c a n other
 
--- change rows are put
-rows_elsewhere : (number : ℕ) (rows : List CdRow) (c : Contents) (a : Area) (n : ℕ) → is_of_unit a n ≡ false → with_change_rows number rows c a n ≡ c a n
-rows_elsewhere number [] c a n other = refl
-rows_elsewhere number (r ∷ rows) c a n other =
-    rows_elsewhere number rows (with_change_row number r c) a n other
-    ∙ cd_elsewhere number (set_key (c areas.Cd number) (change_key_spelling (stored_change r).0) (Some (change_row_spelling (stored_change r).1))) c a n other
-
 -- a change is captured
 captured_elsewhere : (seq : ℕ) (placed : Placed) (reg : DefinedRegistration) (state : RegState) (c : Contents) (a : Area) (n : ℕ) → is_of_unit a n ≡ false → with_change seq placed reg state c a n ≡ c a n
 captured_elsewhere seq placed reg state c a n other = by_kind placed.change
   where
     rows : (b : Bool) (made : List CdRow) → cond b (with_change_rows reg.number made c) c a n ≡ c a n
-    rows true made = rows_elsewhere reg.number made c a n other
+    rows true made = other_areas reg.number n a made c (no_change_data a n other)
     rows false made = refl
 
     start : (b : Bool) → cond b c (with_state reg.number (active_state seq state) c) a n ≡ c a n
@@ -53,7 +47,7 @@ captured_elsewhere seq placed reg state c a n other = by_kind placed.change
     stop : (b : Bool) → cond b (with_cleared reg.number (with_state reg.number (inactive_state state) c)) c a n ≡ c a n
     stop true =
         let d = with_state reg.number (inactive_state state) c in
-        cd_elsewhere reg.number (cleared (d areas.Cd reg.number)) d a n other ∙ put_elsewhere reg.number (inactive_state state) c a n other
+        ap (λ (b : Bool). cond (b && (reg.number == n)) (cleared (d areas.Cd reg.number)) (d a n)) (no_change_data a n other) ∙ put_elsewhere reg.number (inactive_state state) c a n other
     stop false = refl
 
     by_kind : (change : Change) → with_change seq (record placed { change = change }) reg state c a n ≡ c a n

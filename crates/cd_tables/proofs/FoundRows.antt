@@ -1,16 +1,18 @@
 -- The first rows of stored tables after a key: proofs.
-use Rattle.std.proofs.Common.{◌≡◌, ℕ, ◌<◌, ◌≤◌, ◌^◌, Bool, true, false, cond, ◌&&◌, List, [], ◌∷◌, ◌++◌, refl, sym, ap, subst, ◌∙◌, arith, nat_lt, nat_le, filter, Option, Some, None, option_map, Ordering, Less, Equal, Greater}
+use Rattle.std.proofs.Common.{◌≡◌, ℕ, ◌<◌, ◌≤◌, ◌^◌, Bool, true, false, cond, ◌&&◌, List, ◌∷◌, ◌++◌, sym, ap, subst, ◌∙◌, arith, nat_lt, nat_le, filter, Option, Some, None, option_map, Less}
 use Rattle.std.specs.List.{AllByRecursion}
-use Rattle.std.specs.Ordering.{nat_cmp, ordering_then, is_lt}
-use Rattle.std.specs.Cmp.{ranked}
-use Rattle.std.proofs.lemmas.Bool.{ltb-true, le-leb, lt-leb}
-use Rattle.world_store.specs.Words.{Is64, b64, one_whole, one64, whole_order, order64, IsChangeRow, change_row_spelling, IsUow, uow_spelling, IsChangeKey, change_key_spelling, change_key_cmp, one_change_row, one_uow, one_change_key, ChangeRow, UowRow, CdKey, is_before, AllAfter, NoneAfter, SpellsApart, NextRow, key_is_before, fits_next, no_row, RowFits}
+use Rattle.std.specs.Ordering.{nat_cmp, is_lt}
+use Rattle.std.proofs.lemmas.Bool.{ltb-true, le-leb, lt-leb, and_right}
+use Rattle.world_store.specs.Words.{Is64, b64, one_whole, one64, whole_order, order64, IsChangeRow, change_row_spelling, IsUow, uow_spelling, IsChangeKey, change_key_spelling, change_key_cmp, one_uow, ChangeRow, UowRow, CdKey, is_before, NoneAfter, SpellsApart, NextRow, key_is_before, fits_next, no_row, RowFits}
 use Rattle.site_store.specs.Words.{Contents, Table, IsNextKey, IsLastKey, Follows}
-use Rattle.repl_model.specs.Words.{bytes_cmp, sequence_cmp, CdRow, UnitHead, Server}
+use Rattle.repl_model.specs.Words.{bytes_cmp, all_parts, filter_none, CdRow, UnitHead, Server}
 use Rattle.repl_types.specs.declared.area.Area.TheVariants as areas
 use Rattle.cd_tables.specs.StoredRows.{first_of, change_of, AreChangeRows, HasChangeRows, AreUnitRows, HasUnitRows, head_of, row_of}
 use Rattle.stored_commits.specs.units.StoredCaptures.{HasCaptured}
 use Rattle.cd_tables.specs.Captured.{ServerIsSound, captured_units, next_captured, captured_changes}
+use Rattle.rows_in_order.specs.laws.Rising.{at_seam}
+use Rattle.cd_tables.specs.laws.InOrder.{all_both}
+use Rattle.cd_tables.specs.laws.ChangeKeys.{changes_apart, units_rise}
 use Rattle.cd_tables.specs.laws.CapturedRows.{has_units, has_changes, first_captured}
 use Rattle.cd_tables.specs.laws.SoundChanges.{change_rows_are}
 use Rattle.cd_tables.specs.laws.SoundUnits.{unit_rows_are}
@@ -19,43 +21,34 @@ use Rattle.stored_commits.specs.laws.CapturedPuts.{keys_in_order}
 
 -- ---- rows that pass a test
 
-module _ {A X : Type 0} (key : A → List ℕ) (fits : A × X → Type 0) (p : A × X → Bool) where
-  -- if all rows fail, none is the first
-  none_passes : (rows : List (A × X)) → AllByRecursion (λ r. p r ≡ false) rows → first_of (filter p rows) ≡ None
-  none_passes [] fail = refl
-  none_passes (r ∷ rs) fail = ap (λ (b : Bool). first_of (cond b (r ∷ filter p rs) (filter p rs))) fail.0 ∙ none_passes rs fail.1
+module _ {A X : Type 0} (key : A → List ℕ) (fits : A × X → Type 0) (p : A × X → Bool) (after : List ℕ) (early : (r : A × X) → fits r → is_before after (key r.0) ≡ false → p r ≡ false) where
+  -- rows up to a key fail, if what is up to it does
+  upto_fail : (rows : List (A × X)) → AllByRecursion fits rows → NoneAfter key after rows → AllByRecursion (λ r. p r ≡ false) rows
+  upto_fail rows = all_both fits (λ r. is_before after (key r.0) ≡ false) (λ r. p r ≡ false) rows early
 
-  module _ (after : List ℕ) (early : (r : A × X) → fits r → is_before after (key r.0) ≡ false → p r ≡ false) where
-    -- rows up to a key fail, if what is up to it does
-    pub upto_fail : (rows : List (A × X)) → AllByRecursion fits rows → NoneAfter key after rows → AllByRecursion (λ r. p r ≡ false) rows
-    upto_fail [] fit none = tt
-    upto_fail (r ∷ rs) fit none = (early r fit.0 none.0, upto_fail rs fit.1 none.1)
+  -- with no row after the key, none is the first that passes
+  none_first : (rows : List (A × X)) → AllByRecursion fits rows → NoneAfter key after rows → first_of (filter p rows) ≡ None
+  none_first rows fit none = ap first_of (filter_none p rows (upto_fail rows fit none))
 
-    -- with no row after the key, none is the first that passes
-    pub none_first : (rows : List (A × X)) → AllByRecursion fits rows → NoneAfter key after rows → first_of (filter p rows) ≡ None
-    none_first rows fit none = none_passes rows (upto_fail rows fit none)
+  module _ (rows : List (A × X)) (row : A × X) (fit : AllByRecursion fits rows) (next : NextRow key rows after row) where
+    -- all rows fit, those up to the key, the next one and those after it
+    parts : AllByRecursion fits next.front × AllByRecursion fits (row ∷ next.back)
+    parts = all_parts fits next.front (row ∷ next.back) (subst (AllByRecursion fits) next.split fit)
 
-    -- behind rows up to the key the first row that passes is the next one, if it does
-    at_next : (front : List (A × X)) (row : A × X) (back : List (A × X)) → AllByRecursion fits (front ++ row ∷ back) → NoneAfter key after front → p row ≡ true → first_of (filter p (front ++ row ∷ back)) ≡ Some row
-    at_next [] row back fit none pass = ap (λ (b : Bool). first_of (cond b (row ∷ filter p back) (filter p back))) pass
-    at_next (r ∷ rs) row back fit none pass = ap (λ (b : Bool). first_of (cond b (r ∷ filter p (rs ++ row ∷ back)) (filter p (rs ++ row ∷ back)))) (early r fit.0 none.0) ∙ at_next rs row back fit.1 none.1 pass
+    -- those that pass are the next one, if it does, and some after it
+    passing : (t : Bool) → p row ≡ t → filter p rows ≡ cond t (row ∷ filter p next.back) (filter p next.back)
+    passing t e =
+        ap (filter p) next.split
+        ∙ at_seam key p next.front next.back row t e
+        ∙ ap (λ (l : List (A × X)). l ++ cond t (row ∷ filter p next.back) (filter p next.back)) (filter_none p next.front (upto_fail next.front parts.0 next.passed))
 
-    pub next_first : (rows : List (A × X)) (row : A × X) → AllByRecursion fits rows → NextRow key rows after row → p row ≡ true → first_of (filter p rows) ≡ Some row
-    next_first rows row fit next pass = ap (λ (l : List (A × X)). first_of (filter p l)) next.split ∙ at_next next.front row next.back (subst (AllByRecursion fits) next.split fit) next.passed pass
+    -- so the next one is the first that passes
+    next_first : p row ≡ true → first_of (filter p rows) ≡ Some row
+    next_first pass = ap first_of (passing true pass)
 
-    module _ (row : A × X) (late : (r : A × X) → fits r → bytes_cmp (key row.0) (key r.0) ≡ Less → p r ≡ false) where
-      -- rows after the next one fail, if what is after it does
-      pub later_fail : (rows : List (A × X)) → AllByRecursion fits rows → AllAfter key (key row.0) rows → AllByRecursion (λ r. p r ≡ false) rows
-      later_fail [] fit above = tt
-      later_fail (r ∷ rs) fit above = (late r fit.0 above.0, later_fail rs fit.1 above.1)
-
-      -- then none passes, if the next row doesn't
-      past_next : (front back : List (A × X)) → AllByRecursion fits (front ++ row ∷ back) → NoneAfter key after front → AllAfter key (key row.0) back → p row ≡ false → first_of (filter p (front ++ row ∷ back)) ≡ None
-      past_next [] back fit none above fail = ap (λ (b : Bool). first_of (cond b (row ∷ filter p back) (filter p back))) fail ∙ none_passes back (later_fail back fit.1 above)
-      past_next (r ∷ rs) back fit none above fail = ap (λ (b : Bool). first_of (cond b (r ∷ filter p (rs ++ row ∷ back)) (filter p (rs ++ row ∷ back)))) (early r fit.0 none.0) ∙ past_next rs back fit.1 none.1 above fail
-
-      pub next_past : (rows : List (A × X)) → AllByRecursion fits rows → NextRow key rows after row → p row ≡ false → first_of (filter p rows) ≡ None
-      next_past rows fit next fail = ap (λ (l : List (A × X)). first_of (filter p l)) next.split ∙ past_next next.front next.back (subst (AllByRecursion fits) next.split fit) next.passed next.later fail
+    -- or none is, if what is after it fails too
+    next_past : ((r : A × X) → fits r → bytes_cmp (key row.0) (key r.0) ≡ Less → p r ≡ false) → p row ≡ false → first_of (filter p rows) ≡ None
+    next_past late fail = ap first_of (passing false fail ∙ filter_none p next.back (all_both fits (λ r. bytes_cmp (key row.0) (key r.0) ≡ Less) (λ r. p r ≡ false) next.back late parts.1.1 next.later))
 
 -- ---- units
 
@@ -97,19 +90,6 @@ module _ (after : ℕ) (small : Is64 after) (c : Contents) where
 
 -- ---- change rows
 
--- change rows that are spelled alike are one
-pub changes_apart : SpellsApart (RowFits IsChangeKey IsChangeRow) change_key_spelling change_row_spelling
-changes_apart r s fr fs keys values = λ i. (one_whole IsChangeKey change_key_spelling one_change_key r.0 s.0 fr.0 fs.0 keys i, one_whole IsChangeRow change_row_spelling one_change_row r.1 s.1 fr.1 fs.1 values i)
-
--- a later row isn't of an earlier unit
-pub units_rise : (k l : CdKey) → IsChangeKey k → IsChangeKey l → bytes_cmp (change_key_spelling k) (change_key_spelling l) ≡ Less → k.commitseq ≤ l.commitseq
-units_rise k l fk fl less = pick (nat_cmp k.commitseq l.commitseq) refl (sym (keys_in_order k l fk fl) ∙ less)
-  where
-    pick : (o : Ordering) → nat_cmp k.commitseq l.commitseq ≡ o → ordering_then o (sequence_cmp k.intentseq l.intentseq) ≡ Less → k.commitseq ≤ l.commitseq
-    pick Less e h = omega (arith, ranked k.commitseq l.commitseq Less (sym e))
-    pick Equal e h = omega (arith, ranked k.commitseq l.commitseq Equal (sym e))
-    pick Greater e h = absurd cc
-
 -- the first row that is read after a key is the next of the rows
 pub next_of_rows : (number : ℕ) (rows : List (CdKey × ChangeRow)) (c : Contents) (after : List ℕ) (key : CdKey) (row : ChangeRow) → AreChangeRows rows → HasChangeRows number rows c → IsChangeKey key → IsChangeRow row → IsNextKey (c areas.Cd number) after (change_key_spelling key) (change_row_spelling row) → NextRow change_key_spelling rows after (key, row)
 next_of_rows number rows c after key row are has key_fits fits next = fits_next (RowFits IsChangeKey IsChangeRow) change_key_spelling change_row_spelling rows after (key, row) changes_apart are.fit (key_fits, fits) are.rise (subst (λ (t : Table). IsNextKey t after (change_key_spelling key) (change_row_spelling row)) has next)
@@ -139,14 +119,10 @@ module _ (number : ℕ) (after : CdKey) (upto : ℕ) (small : IsChangeKey after)
   pub finds_no_change : (key : CdKey) (row : ChangeRow) → IsChangeKey key → IsChangeRow row → upto < key.commitseq → IsNextKey (c areas.Cd number) (change_key_spelling after) (change_key_spelling key) (change_row_spelling row) → FindsChange number after upto None c
   finds_no_change key row key_fits fits lt next = change_found None (λ rows are has.
       let at = next_of_rows number rows c (change_key_spelling after) key row are has key_fits fits next in
-      ap (option_map change_of) (sym (next_past change_key_spelling (RowFits IsChangeKey IsChangeRow) (is_from after upto) (change_key_spelling after) change_early (key, row) (λ r fit later. fails r.0 (omega (arith, lt, units_rise key r.0 key_fits fit.0 later))) rows are.fit at (fails key lt))))
+      ap (option_map change_of) (sym (next_past change_key_spelling (RowFits IsChangeKey IsChangeRow) (is_from after upto) (change_key_spelling after) change_early rows (key, row) are.fit at (λ r fit later. fails r.0 (omega (arith, lt, units_rise key r.0 key_fits fit.0 later))) (fails key lt))))
     where
-      no_and : (b : Bool) → (b && false) ≡ false
-      no_and true = refl
-      no_and false = refl
-
       fails : (k : CdKey) → upto < k.commitseq → (is_lt (change_key_cmp after k) && nat_le k.commitseq upto) ≡ false
-      fails k late = ap (λ (b : Bool). is_lt (change_key_cmp after k) && b) (lt-leb k.commitseq upto late) ∙ no_and (is_lt (change_key_cmp after k))
+      fails k late = and_right (is_lt (change_key_cmp after k)) (nat_le k.commitseq upto) (lt-leb k.commitseq upto late)
 
   -- nor if there is none
   pub finds_last_change : IsLastKey (c areas.Cd number) (change_key_spelling after) → FindsChange number after upto None c

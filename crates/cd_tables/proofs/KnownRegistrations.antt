@@ -1,5 +1,5 @@
 -- Registrations that are known from earlier changes: proofs.
-use Rattle.std.proofs.Common.{◌≡◌, ℕ, Bool, true, false, cond, List, [], ◌∷◌, length, refl, sym, ap, subst, ◌∙◌, ◌&&◌, nat_le, Some, IfSome, bytes_eq}
+use Rattle.std.proofs.Common.{◌≡◌, ℕ, Bool, true, false, cond, List, length, refl, sym, ap, subst, ◌∙◌, ◌&&◌, nat_le, Some, IfSome, bytes_eq}
 use Rattle.std.proofs.lemmas.Bool.{and_parts}
 use Rattle.std.proofs.lemmas.Slice.Eq.{bytes_eq-Decides}
 use Rattle.world_store.specs.Words.{b32, short_text}
@@ -7,7 +7,8 @@ use Rattle.site_store.specs.Words.{Contents, Table}
 use Rattle.repl_model.specs.Words.{row_limit, CdRow, Change, Placed, DefinedRegistration, rows_of}
 use Rattle.repl_types.specs.declared.area.Area.TheVariants as areas
 use Rattle.repl_types.specs.declared.record.Change.TheVariants.{Insert, Update, Delete, Start, Stop}
-use Rattle.stored_commits.specs.units.StoredChanges.{with_change_row, with_change_rows, is_captured, with_change}
+use Rattle.stored_commits.specs.units.StoredChanges.{with_change_rows, is_captured, with_change}
+use Rattle.stored_commits.specs.laws.CapturedPuts.{other_areas}
 use Rattle.cd_tables.specs.Known.{IsStatedOf, IsStated, IsFoundAt, IsKnown, known_after}
 use Rattle.cd_tables.specs.Rules.{IsRegistrationOf}
 use Rattle.cd_tables.specs.declared.stated.StatedRegistration.{StatedRegistration}
@@ -23,11 +24,7 @@ module _ (name : List ℕ) (at : StatedRegistration) where
   pub stated_itself : IsStatedOf name at → IsStated at
   stated_itself of = subst (λ (n : List ℕ). IsStatedOf n at) (sym (own_table name at.reg of.0)) of
 
-  -- one of its own table is one of the table of the same name
-  pub stated_named : at.reg.registration.table ≡ name → IsStated at → IsStatedOf name at
-  stated_named is of = subst (λ (n : List ℕ). IsStatedOf n at) is of
-
-  -- and if it is known, it stands under that name
+  -- one that is known stands under the name of its table
   pub known_named : at.reg.registration.table ≡ name → (c : Contents) → IsKnown (Some at) c → IsFoundAt name (Some at) c
   known_named is c known = subst (λ (n : List ℕ). IsFoundAt n (Some at) c) is known
 
@@ -43,24 +40,14 @@ stated_after (Delete table row) at of = of
 stated_after (Start table) at of = tt
 stated_after (Stop table) at of = tt
 
--- change rows leave registrations as they are
-defs_left : (number : ℕ) (rows : List CdRow) (c : Contents) → with_change_rows number rows c areas.Defs 1 ≡ c areas.Defs 1
-defs_left number [] c = refl
-defs_left number (r ∷ rows) c = defs_left number rows (with_change_row number r c)
-
--- and their states
-states_left : (number : ℕ) (rows : List CdRow) (c : Contents) → with_change_rows number rows c areas.Capture 1 ≡ c areas.Capture 1
-states_left number [] c = refl
-states_left number (r ∷ rows) c = states_left number rows (with_change_row number r c)
-
--- so what is known after a change stands in the contents that the change makes
+-- what is known after a change stands in the contents that the change makes
 pub known_stays : (seq : ℕ) (placed : Placed) (at : StatedRegistration) (c d : Contents) → d ≡ with_change seq placed at.reg at.state c → IsKnown (Some at) c → IsKnown (known_after placed.change at) d
 known_stays seq placed at c d made known = by_kind placed.change made
   where
     rows : (b : Bool) (more : List CdRow) → d ≡ cond b (with_change_rows at.reg.number more c) c → IsKnown (Some at) d
     rows true more is =
-        let defs : d areas.Defs 1 ≡ c areas.Defs 1 = ap (λ (f : Contents). f areas.Defs 1) is ∙ defs_left at.reg.number more c in
-        let states : d areas.Capture 1 ≡ c areas.Capture 1 = ap (λ (f : Contents). f areas.Capture 1) is ∙ states_left at.reg.number more c in
+        let defs : d areas.Defs 1 ≡ c areas.Defs 1 = ap (λ (f : Contents). f areas.Defs 1) is ∙ other_areas at.reg.number 1 areas.Defs more c refl in
+        let states : d areas.Capture 1 ≡ c areas.Capture 1 = ap (λ (f : Contents). f areas.Capture 1) is ∙ other_areas at.reg.number 1 areas.Capture more c refl in
         (ap (λ (t : Table). t (short_text at.reg.registration.table)) defs ∙ known.0, record { stands = ap (λ (t : Table). t (b32 at.reg.number)) states ∙ known.1.stands; fits = known.1.fits })
     rows false more is = subst (IsKnown (Some at)) (sym is) known
 

@@ -1,6 +1,4 @@
 mod Shown
-mod KeyRanks
-mod ClearedRows
 mod CapturedRows
 mod Signals
 mod PutRows

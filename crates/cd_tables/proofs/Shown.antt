@@ -1,13 +1,15 @@
 -- Contents in which a unit is captured show no damage that wasn't shown before: proofs.
-use Rattle.std.proofs.Common.{◌≡◌, ℕ, zero, suc, Bool, true, false, cond, List, [], ◌∷◌, inr, refl, sym, ap, subst, ◌∙◌, ◌==◌, Option, Some, None, eqb-true}
+use Rattle.std.proofs.Common.{◌≡◌, ℕ, zero, suc, Bool, true, false, cond, List, inr, refl, sym, ap, subst, ◌∙◌, Option, Some, None}
 use Rattle.world_store.specs.Words.{b32, b64, short_text, change_row_spelling, IsChangeRow, uow_spelling, registration_state_spelling, IsRegistrationState, change_key_spelling, IsChangeKey, ChangeRow, RegState, UowRow, CdKey}
-use Rattle.site_store.specs.Words.{Contents, Table, same_key, put_at, Rules, AddsOnlySpelt, ShownBefore, adds_put, shown_before}
-use Rattle.repl_model.specs.Words.{Area, UnitHead}
+use Rattle.site_store.specs.Words.{Contents, Table, same_key, put_at, AddsOnlySpelt, ShownBefore, adds_put}
+use Rattle.repl_model.specs.Words.{same_area, Area, UnitHead}
 use Rattle.repl_types.specs.declared.area.Area.TheVariants as areas
-use Rattle.repl_types.specs.declared.status.DamageCause.TheVariants as causes
-use Rattle.stored_commits.specs.units.StoredChanges.{with_uow_row, cleared, with_cleared, with_state}
+use Rattle.stored_commits.specs.units.StoredChanges.{with_uow_row, with_cleared, with_state}
 use Rattle.cd_tables.specs.Appending.{Becomes}
-use Rattle.cd_tables.specs.Rules.{rules, may_be_key, may_be_value, is_called_for, is_misplaced}
+use Rattle.cd_tables.specs.Clearing.{ClearsNext}
+use Rattle.cd_tables.specs.laws.ClearedTables.{HasCleared, cleared_all}
+use Rattle.cd_tables.specs.Rules.{rules, is_called_for, is_misplaced}
+use Rattle.cd_tables.proofs.RowsShown.{added_shown}
 
 -- ---- what a step adds
 
@@ -16,10 +18,6 @@ pub record Adds (c d : Contents) : Type 0 where
   pub spelt : AddsOnlySpelt rules c d
   pub registrations : d areas.Defs 1 ≡ c areas.Defs 1
   pub states : (key : List ℕ) → d areas.Capture 1 key ≡ None → c areas.Capture 1 key ≡ None
-
--- rules that ask for nothing
-abbrev spelling_rules : Rules
-spelling_rules = record { is_key = may_be_key; is_value = may_be_value; is_needed = λ a t key c. ⊥; is_unfit = λ a t key value c. ⊥ }
 
 module _ (c d : Contents) (x : Adds c d) where
   -- what a registration stands for stood there before
@@ -37,11 +35,8 @@ module _ (c d : Contents) (x : Adds c d) where
   unfit_back a t key value has h = absurd h
 
   -- so no new damage is shown
-  pub adds_shown : ShownBefore rules c d
-  adds_shown a (causes.Spelling bytes) h = shown_before spelling_rules (λ a t key c h. h, λ a t key value c h. h) c d x.spelt a (causes.Spelling bytes) h
-  adds_shown a (causes.Absent key) h = let b = absent_back a h.0 key h.1.0 h.1.1 in (h.0, b)
-  adds_shown a (causes.Unfit bytes) h = let b = unfit_back a h.0 h.1.0 bytes h.1.1 h.1.2 in (h.0, (h.1.0, b.0, b.1))
-  adds_shown a (causes.NoRest steps) h = h
+  adds_shown : ShownBefore rules c d
+  adds_shown = added_shown rules c d x.spelt absent_back unfit_back
 
 -- ---- one write
 
@@ -74,20 +69,12 @@ unit_adds head c = record {
 }
 
 -- change rows are removed
-cleared_adds : (number : ℕ) (c : Contents) → Adds c (with_cleared number c)
-cleared_adds number c = record { spelt = λ a t key value has. inr (back a t key value has); registrations = refl; states = λ key none. none }
-  where
-    left : (key value : List ℕ) → cleared (c areas.Cd number) key ≡ Some value → c areas.Cd number key ≡ Some value
-    left [] value has = has
-    left (b ∷ key) value has = absurd cc
-
-    at : (t : ℕ) (key value : List ℕ) (b : Bool) → (number == t) ≡ b → cond b (cleared (c areas.Cd number)) (c areas.Cd t) key ≡ Some value → c areas.Cd t key ≡ Some value
-    at t key value true same has = subst (λ (n : ℕ). c areas.Cd n key ≡ Some value) (eqb-true number t same) (left key value has)
-    at t key value false other has = has
-
-    back : (a : Area) (t : ℕ) (key value : List ℕ) → with_cleared number c a t key ≡ Some value → c a t key ≡ Some value
-    back areas.Cd t key value has = at t key value (number == t) refl has
-    back a t key value has = has
+cleared_adds : (number : ℕ) (after : List ℕ) (c d : Contents) → HasCleared areas.Cd number after c d → Adds c d
+cleared_adds number after c d h = record {
+  spelt = λ a t key value has. inr (h.left a t key value has);
+  registrations = h.others areas.Defs 1 refl;
+  states = λ key none. sym (ap (λ (t : Table). t key) (h.others areas.Capture 1 refl)) ∙ none;
+}
 
 -- ---- steps
 
@@ -123,6 +110,14 @@ becomes_state number state c d fits is = becomes_by (with_state number state) c 
 pub becomes_unit : (head : UnitHead) (row : UowRow) (c d : Contents) → row ≡ record { time = head.time; authid = head.authid; origin = head.origin; code = 0 } → d ≡ put_at c areas.Uow 0 (b64 head.seq) (Some (uow_spelling row)) → Becomes (with_uow_row head) c d
 becomes_unit head row c d is sets = becomes_by (with_uow_row head) c d (unit_adds head c) (sets ∙ ap (λ (r : UowRow). put_at c areas.Uow 0 (b64 head.seq) (Some (uow_spelling r))) is)
 
--- change rows are removed
-pub becomes_cleared : (number : ℕ) (c d : Contents) → d ≡ with_cleared number c → Becomes (with_cleared number) c d
-becomes_cleared number c d is = becomes_by (with_cleared number) c d (cleared_adds number c) is
+-- change rows are removed, which shows no damage that wasn't shown before
+pub cleared_shown : (number : ℕ) (after : List ℕ) (c d : Contents) → HasCleared areas.Cd number after c d → ShownBefore rules c d
+cleared_shown number after c d cleared = adds_shown c d (cleared_adds number after c d cleared)
+
+-- and once there is no next one, all are
+pub becomes_cleared : (number : ℕ) (after : List ℕ) (c d e : Contents) → HasCleared areas.Cd number after c d → ClearsNext number after None d e → Becomes (with_cleared number) c e
+becomes_cleared number after c d e cleared last = (cleared_all areas.Cd number after c d e cleared own last, subst (ShownBefore rules c) (sym last.0) (cleared_shown number after c d cleared))
+  where
+    own : (a : Area) → same_area areas.Cd a ≡ true → areas.Cd ≡ a
+    own areas.Cd same = refl
+    own a same = absurd cc

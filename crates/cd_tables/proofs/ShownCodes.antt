@@ -1,7 +1,7 @@
 -- A unit shows another code: proofs.
 use Rattle.std.proofs.Common.{◌≡◌, ℕ, ◌≤◌, ◌^◌, Bool, true, false, cond, List, [], ◌∷◌, refl, sym, ap, subst, ◌∙◌, ◌==◌, Option, Some, None, IfSome, nat_cmp, eqb-true}
 use Rattle.std.specs.List.{AllByRecursion}
-use Rattle.std.proofs.lemmas.Option.{same_Some}
+use Rattle.std.proofs.lemmas.Option.{same_Some, none-some}
 use Rattle.world_store.specs.Words.{Is64, b64, one_whole, whole_order, order64, IsUow, uow_spelling, one_uow, UowRow, table_from_rows, key_same, same_is, RowFits}
 use Rattle.site_store.specs.Words.{Contents, Table, put_at, same_key, Kept, Bounds, AtServer, Fails, Shows, ShownBefore, IsMissing, Misspelt, MissesOrMisreads, sees, adds_put, misspelt_shows, Breaks, read_breaks}
 use Rattle.site_store.specs.declared.sites.Sites.{Sites}
@@ -82,10 +82,7 @@ unit_breaks kept s0 s1 server seq most e there f = read_breaks row_rules kept s0
 
     stands : (o : Option Contents) → IfSome o (HasUnit seq) → IfSome o (λ c. c areas.Uow 0 (b64 seq) ≡ None) → (b : Area) (bytes : List ℕ) → IfSome o (λ c. (c b 0 bytes ≡ None) × row_rules.is_needed b 0 bytes c)
     stands None has missing b bytes = tt
-    stands (Some c) has missing b bytes = absurd (some_none (sym has.2 ∙ missing))
-      where
-        some_none : ◌≡◌ {A = Option (List ℕ)} (Some (uow_spelling has.0)) None → ⊥
-        some_none x = cc
+    stands (Some c) has missing b bytes = absurd (none-some (uow_spelling has.0) (sym missing ∙ has.2))
 
     shows : (b : Area) (cause : DamageCause) → MissesOrMisreads areas.Uow (IsMissing areas.Uow 0 (b64 seq) saw) (Misspelt IsUow uow_spelling areas.Uow 0 (b64 seq) saw) b cause → Shows row_rules b cause saw
     shows b (causes.Spelling bytes) h = misspelt_shows IsUow uow_spelling row_rules areas.Uow b 0 (b64 seq) saw (causes.Spelling bytes) (λ x is. is) h

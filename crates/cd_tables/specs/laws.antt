@@ -2,3 +2,5 @@ pub mod InOrder
 pub mod SoundUnits
 pub mod SoundChanges
 pub mod CapturedRows
+pub mod ChangeKeys
+pub mod ClearedTables

@@ -4,11 +4,10 @@ use Rattle.std.specs.Option.{option_map_or}
 use Rattle.world_store.specs.Words.{Head, head_of, Holds, Reveals, Stands, source_time, set_rows_refreshed, trail_entry}
 use Rattle.site_store.specs.Words.{Contents, Kept, names, held, sees}
 use Rattle.site_store.specs.declared.sites.Sites.{Sites}
-use Rattle.repl_model.specs.Words.{Area, DamageCause, Counts, Fault, TargetKind, base_point, refresh_entry, refreshed, after_action, Action, signals, refreshes, time_at, IsSound, read_only_sets, refresh, units, last_commit, last_time, Server, World, KnownSet, known_sets, known_stands, In}
+use Rattle.repl_model.specs.Words.{Area, DamageCause, Counts, Fault, TargetKind, base_point, refresh_entry, refreshed, after_action, refreshes, time_at, IsSound, read_only_sets, refresh, units, last_commit, last_time, Server, World, KnownSet, known_sets, known_stands, In}
 use Rattle.repl_types.specs.declared.fault.Fault.TheVariants as faults
 use Rattle.repl_types.specs.declared.fault.Stepped.TheVariants as steps
 use Rattle.stored_commits.specs.actions.StoredSteps.{is_numbered, PutsStep, refreshed_state}
-use Rattle.world_commits.specs.actions.StaysSound.{HasRoom}
 use Rattle.subs_sets.specs.States.{state_in}
 use Rattle.subs_sets.specs.declared.states.ReadOnlyState.{ReadOnlyState}
 use Rattle.set_places.specs.declared.placed_set.PlacedSet.{PlacedSet}
@@ -22,15 +21,15 @@ use Rattle.target_steps.specs.declared.step.Step.TheVariants.{Refresh}
 use Rattle.target_steps.specs.Taking.{CanStep}
 use Rattle.target_steps.specs.Steps.{PutsTargets, PutsSomeTargets}
 use Rattle.target_steps.specs.laws.Stepped.{none_numbered, counts_are, step_put, has_targets}
-use Rattle.full_refresh.specs.Refreshes.{IsRefreshNext, HasRefreshed}
-use Rattle.world_commits.specs.laws.ActionsStaySound.{next_actions_sound}
+use Rattle.full_refresh.specs.Refreshes.{CanRefresh, HasRefreshed}
+use Rattle.world_commits.specs.laws.ActionsStaySound.{actions_sound}
 use Rattle.stored_commits.specs.laws.Steps.{others_hold_step, refresh_holds}
 use Rattle.stored_commits.specs.laws.StepTables.{refresh_is_stored}
 use Rattle.full_refresh.proofs.LastUnits.{time_is_last}
 
 -- ---- in a world
 
-module _ (takes : TargetKind → Bool) (unnumbered : (kind : TargetKind) → takes kind ≡ true → is_numbered kind ≡ false) (w : World) (k : KnownSet) (set : PlacedSet) (sound : IsSound w) (placed : IsPlacedAs w k set) (read_only : IsReadOnly k) (next : IsRefreshNext takes k) where
+module _ (takes : TargetKind → Bool) (unnumbered : (kind : TargetKind) → takes kind ≡ true → is_numbered kind ≡ false) (w : World) (k : KnownSet) (set : PlacedSet) (sound : IsSound w) (placed : IsPlacedAs w k set) (read_only : IsReadOnly k) (can_refresh : CanRefresh takes k) where
   -- the set is one of the read-only sets
   among : In k (read_only_sets (known_sets w))
   among = is_among w k set placed read_only
@@ -41,13 +40,7 @@ module _ (takes : TargetKind → Bool) (unnumbered : (kind : TargetKind) → tak
 
   -- it is sound
   sound_after : IsSound after
-  sound_after = subst (λ (a : Action). IsSound (after_action w k a)) next.0 (next_actions_sound w k sound among (λ is. by_other (sym is ∙ next.0)))
-    where
-      by_other : ◌≡◌ {A = Action} signals refreshes → HasRoom k
-      by_other e = absurd (apart e)
-        where
-          apart : ◌≡◌ {A = Action} signals refreshes → ⊥
-          apart e = cc
+  sound_after = actions_sound w k refreshes sound among can_refresh.0
 
   -- its point is the last commit of the source
   abbrev point : ℕ
@@ -71,7 +64,7 @@ module _ (takes : TargetKind → Bool) (unnumbered : (kind : TargetKind) → tak
 
     -- the rows that were put
     pub rows_are : counts.rows ≡ set_rows_refreshed w k.at_target.def point (base_point k)
-    rows_are = ap (λ (n : Counts). n.rows) (counts_are takes unnumbered w k set sound placed read_only step can next.1 kept shows sites reveals at.time known known_is counts c d holds puts_there (base_point k))
+    rows_are = ap (λ (n : Counts). n.rows) (counts_are takes unnumbered w k set sound placed read_only step can can_refresh.1 kept shows sites reveals at.time known known_is counts c d holds puts_there (base_point k))
 
     -- the time that was put is that of the point
     at_time : at.time ≡ source_time w k.at_target.def point
@@ -80,13 +73,13 @@ module _ (takes : TargetKind → Bool) (unnumbered : (kind : TargetKind) → tak
     -- what was put makes the step of the world
     put : PutsStep set.at_target.number (refreshed_state point (source_time w k.at_target.def point) (length k.at_target.trail)) (length k.at_target.trail) (trail_entry w k.at_target.def (refresh point (base_point k))) c d
     put = subst (λ (time : ℕ). PutsStep set.at_target.number (refreshed_state point time (length k.at_target.trail)) (length k.at_target.trail) (trail_entry w k.at_target.def (refresh point (base_point k))) c d) at_time
-        (step_put takes unnumbered w k set sound placed read_only step can next.1 kept shows sites reveals at.time known known_is counts c d holds puts_there (base_point k))
+        (step_put takes unnumbered w k set sound placed read_only step can can_refresh.1 kept shows sites reveals at.time known known_is counts c d holds puts_there (base_point k))
 
     -- so the target holds what the world after the refresh calls for
     pub refreshed_holds : Holds after (refreshed k.at_target.def (refresh_entry k) k.target) d
     refreshed_holds = refresh_holds w k set.at_target.number (refresh_entry k) c d sound among placed.at_target holds
-        (refresh_is_stored w k set.at_target.number point (base_point k) c d sound among placed.at_target sound_after holds (none_numbered takes unnumbered w k set sound placed read_only step can next.1) put
-        (has_targets takes unnumbered w k set sound placed read_only step can next.1 kept shows sites reveals at.time known known_is counts c d holds puts_there (base_point k)))
+        (refresh_is_stored w k set.at_target.number point (base_point k) c d sound among placed.at_target sound_after holds (none_numbered takes unnumbered w k set sound placed read_only step can can_refresh.1) put
+        (has_targets takes unnumbered w k set sound placed read_only step can can_refresh.1 kept shows sites reveals at.time known known_is counts c d holds puts_there (base_point k)))
 
   -- ---- at the servers
 

@@ -5,7 +5,7 @@ use Rattle.std.proofs.lemmas.List.{length-append, length-map}
 use Rattle.world_store.specs.Words.{SyncMark, Holds, Stands, first_table}
 use Rattle.site_store.specs.Words.{Contents, Kept, names, held}
 use Rattle.site_store.specs.declared.sites.Sites.{Sites}
-use Rattle.repl_model.specs.Words.{LogRecord, Fault, is_signal, is_change_applicable, with_more, Action, signals, signal_records, signalled, after_action, IsSound, read_only_sets, ServerKeepsRules, LogIsSound, log_limit, Server, World, KnownSet, known_sets, tables_of, at_place_in, In, at_one, image_in, name_itself}
+use Rattle.repl_model.specs.Words.{LogRecord, Fault, is_signal, is_change_applicable, with_more, signals, signal_records, signalled, after_action, IsSound, read_only_sets, ServerKeepsRules, LogIsSound, log_limit, Server, World, KnownSet, known_sets, tables_of, at_place_in, In, at_one, image_in, name_itself}
 use Rattle.repl_types.specs.declared.unit.Unit.{Unit as LogUnit}
 use Rattle.repl_types.specs.declared.fault.Fault.TheVariants as faults
 use Rattle.stored_commits.specs.logs.LongerServers.{Logged}
@@ -20,9 +20,9 @@ use Rattle.set_places.specs.laws.Commits.{has_become}
 use Rattle.set_places.specs.laws.Known.{is_among}
 use Rattle.set_places.specs.laws.Standing.{revealed_at_place}
 use Rattle.full_refresh.specs.PutSignals.{PutsSignal}
-use Rattle.full_refresh.specs.Signals.{start_of, IsSignalNext, HasSignalled, length_signalled}
+use Rattle.full_refresh.specs.Signals.{start_of, HasSignalled, length_signalled}
 use Rattle.full_refresh.proofs.PutSignals.{PutsSome}
-use Rattle.world_commits.specs.laws.ActionsStaySound.{next_actions_sound}
+use Rattle.world_commits.specs.laws.ActionsStaySound.{actions_sound}
 use Rattle.stored_commits.specs.laws.Signals.{others_hold_signal, signal_holds}
 
 -- the log of a source with a signal is sound if that of the signalled source is
@@ -38,7 +38,7 @@ starts_fit s (name ∷ names) = (refl, starts_fit s names)
 pub signal_fits : (s : Server) (unit : LogUnit) (def_tables : List (List ℕ)) → unit.changes ≡ map start_of def_tables → ChangesFit s unit
 signal_fits s unit tables is = subst (AllByRecursion (λ placed. IsTrue (is_signal placed.change || is_change_applicable (tables_of s) placed.change))) (sym is) (starts_fit s tables)
 
-module _ (w : World) (k : KnownSet) (set : PlacedSet) (sound : IsSound w) (placed : IsPlacedAs w k set) (read_only : IsReadOnly k) (next : IsSignalNext k) (unit : LogUnit) (made : unit_records unit ≡ signal_records k.at_source.def k.source.log) (known : SyncMark) (marked : known ≡ record { mark = k.at_source.mark; signal = k.at_source.signal }) where
+module _ (w : World) (k : KnownSet) (set : PlacedSet) (sound : IsSound w) (placed : IsPlacedAs w k set) (read_only : IsReadOnly k) (unit : LogUnit) (made : unit_records unit ≡ signal_records k.at_source.def k.source.log) (known : SyncMark) (marked : known ≡ record { mark = k.at_source.mark; signal = k.at_source.signal }) where
   -- the records of the signal
   abbrev more : List LogRecord
   more = signal_records k.at_source.def k.source.log
@@ -57,7 +57,7 @@ module _ (w : World) (k : KnownSet) (set : PlacedSet) (sound : IsSound w) (place
 
   -- it is sound if the log has room
   sound_after : length k.source.log + length more ≤ log_limit → IsSound after
-  sound_after room = subst (λ (a : Action). IsSound (after_action w k a)) next (next_actions_sound w k sound among (λ is. room))
+  sound_after room = actions_sound w k signals sound among room
 
   -- the signalled source is one of its servers
   signalled_in : In (signalled k.at_source.def k.source) after

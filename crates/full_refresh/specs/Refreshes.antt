@@ -9,7 +9,8 @@ use Rattle.keep_core.specs.Kept.{Kept}
 use Rattle.repl_definitions.specs.declared.member.TargetKind.{TargetKind}
 use Rattle.repl_model.specs.Units.{last_commit}
 use Rattle.repl_model.specs.World.{World, KnownSet}
-use Rattle.repl_model.specs.NextActions.{next_action, refreshes}
+use Rattle.repl_model.specs.NextActions.{refreshes}
+use Rattle.world_commits.specs.actions.StaysSound.{MayRefresh}
 use Rattle.repl_model.specs.AfterActions.{base_point, after_action}
 use Rattle.world_store.specs.TargetRows.{set_rows_refreshed}
 use Rattle.site_store.specs.declared.sites.Sites.{Sites}
@@ -21,9 +22,9 @@ use Rattle.set_places.specs.Steps.{HasBecome}
 use Rattle.target_steps.specs.Taking.{ShowsAtEnds}
 use Rattle.target_steps.specs.Steps.{TakesEach}
 
--- a refresh is what the set does next, and each member is of a kind that is taken through it
-abbrev pub IsRefreshNext : (TargetKind → Bool) → KnownSet → Type 0
-IsRefreshNext takes k = (next_action k ≡ refreshes) × TakesEach takes k.at_source.def
+-- a refresh of the set may be made, and each member is of a kind that is taken through it
+abbrev pub CanRefresh : (TargetKind → Bool) → KnownSet → Type 0
+CanRefresh takes k = MayRefresh k × TakesEach takes k.at_source.def
 
 -- the refresh was made, and this is what it answers
 abbrev pub HasRefreshed : {K : Type 0} → (K → Kept) → Sites K → Sites K → World → KnownSet → Stepped → Type 0

@@ -12,7 +12,7 @@ use Rattle.keep_core.specs.Kept.{Kept}
 use Rattle.repl_definitions.specs.declared.set.SetDef.{SetDef}
 use Rattle.repl_model.specs.World.{World, KnownSet}
 use Rattle.repl_model.specs.SoundLogs.{log_limit}
-use Rattle.repl_model.specs.NextActions.{next_action, signals}
+use Rattle.repl_model.specs.NextActions.{signals}
 use Rattle.repl_model.specs.AfterActions.{source_tables, signal_records, after_action}
 use Rattle.site_store.specs.declared.sites.Sites.{Sites}
 use Rattle.site_store.specs.Damage.{Rules, joined, Damages}
@@ -41,10 +41,6 @@ abbrev pub unit_of_signal : SetDef → ℕ → Unit
 unit_of_signal def time = record { head = head_of_signal def time; changes = map start_of (source_tables def) }
 
 -- ---- answers
-
--- a signal is what the set does next
-abbrev pub IsSignalNext : KnownSet → Type 0
-IsSignalNext k = next_action k ≡ signals
 
 -- how long the log of a set's source is with the signal
 abbrev pub length_signalled : KnownSet → ℕ

@@ -9,7 +9,7 @@ ghost use Rattle.site_store.specs.Servers.{AllClosed};
 ghost use Rattle.site_store.specs.Views.{work};
 ghost use Rattle.set_places.specs.Places.{IsPlaced, ForSet};
 ghost use Rattle.set_places.specs.Steps.{MayHaveBecome, BlamesUnchanged};
-ghost use Rattle.full_refresh.specs.Refreshes.{IsRefreshNext, HasRefreshed, IsRefresh};
+ghost use Rattle.full_refresh.specs.Refreshes.{CanRefresh, HasRefreshed, IsRefresh};
 ghost use Rattle.full_refresh.specs.Refreshes.{ShowsDamage};
 
 use keep_core::Keeper;
@@ -26,8 +26,8 @@ use target_steps::{Step, Targets, put_step};
 /// answers the point and how many rows were put.
 ///
 /// After a fault nothing is changed; but if the commit failed, it may have taken place. What is
-/// said of a world holds if the servers stand for one in which a refresh is what the set does next,
-/// and the kinds of all members are taken.
+/// said of a world holds if the servers stand for one in which the set had a signal after its last
+/// refresh, and the kinds of all members are taken.
 pub fn refresh_step<K: Keeper, T: Targets<K>>(
     sites: &mut Sites<K>,
     alloc: Global,
@@ -38,10 +38,10 @@ pub fn refresh_step<K: Keeper, T: Targets<K>>(
     requires read_only { IsTrue (not (is_replica_set set.now.at_target.def)) }
     requires closed { AllClosed (work K.kept sites.old) }
     ensures ok { IfOk result (λ stepped. ForSet K.kept sites.old set.now (λ w k.
-        IsRefreshNext T.takes k → HasRefreshed K.kept sites.old sites.new w k stepped)) }
+        CanRefresh T.takes k → HasRefreshed K.kept sites.old sites.new w k stepped)) }
     ensures answer { IfOk result IsRefresh }
     ensures fault { IfErr result (λ e. ForSet K.kept sites.old set.now (λ w k.
-        IsRefreshNext T.takes k
+        CanRefresh T.takes k
         → MayHaveBecome K.kept sites.old sites.new w (after_action w k refreshes) e)) }
     ensures blames { IfErr result (BlamesUnchanged K.kept sites.old sites.new
         (ShowsDamage K.kept T.shows sites.old set.now)) }

@@ -11,7 +11,7 @@ ghost use Rattle.site_store.specs.one_server.Calls.{GoesOn, Stops};
 ghost use Rattle.source_log.specs.Units.{MayAppendUnit, AppendsIfRoom, ShowsUnitDamage};
 ghost use Rattle.set_places.specs.Places.{IsPlaced, ForSet};
 ghost use Rattle.set_places.specs.Steps.{MayHaveBecome, BlamesUnchanged};
-ghost use Rattle.full_refresh.specs.Signals.{IsSignalNext, HasSignalled, ShowsDamage};
+ghost use Rattle.full_refresh.specs.Signals.{HasSignalled, ShowsDamage};
 ghost use Rattle.full_refresh.specs.PutSignals.{IfWhole, HasPutSignal, MayHavePutSignal};
 
 use crate::signal_unit::signal_unit;
@@ -88,7 +88,7 @@ fn put_signal<K: Keeper>(
 /// log has no room for the unit, and then nothing is changed.
 ///
 /// After a fault nothing is changed; but if the commit failed, it may have taken place. What is
-/// said of a world holds if the servers stand for one in which a signal is what the set does next.
+/// said of a world holds if the servers stand for it.
 pub fn signal_step<K: Keeper>(
     sites: &mut Sites<K>,
     alloc: Global,
@@ -96,10 +96,10 @@ pub fn signal_step<K: Keeper>(
 ) -> Result<Option<u64>, Fault>
     requires placed { IsPlaced K.kept sites.old set.now }
     requires closed { AllClosed (work K.kept sites.old) }
-    ensures ok { IfOk result (λ seq. ForSet K.kept sites.old set.now (λ w k. IsSignalNext k
-        → HasSignalled K.kept sites.old sites.new w k seq)) }
-    ensures fault { IfErr result (λ e. ForSet K.kept sites.old set.now (λ w k. IsSignalNext k
-        → MayHaveBecome K.kept sites.old sites.new w (after_action w k signals) e)) }
+    ensures ok { IfOk result (λ seq. ForSet K.kept sites.old set.now (λ w k.
+        HasSignalled K.kept sites.old sites.new w k seq)) }
+    ensures fault { IfErr result (λ e. ForSet K.kept sites.old set.now (λ w k.
+        MayHaveBecome K.kept sites.old sites.new w (after_action w k signals) e)) }
     ensures blames { IfErr result (BlamesUnchanged K.kept sites.old sites.new
         (ShowsDamage K.kept sites.old set.now)) }
     ensures same { result ≡ Ok None → held K.kept sites.new ≡ held K.kept sites.old }

@@ -5,6 +5,7 @@ use Rattle.std.proofs.lemmas.List.{length-map}
 use Rattle.world_store.specs.Words.{Holds, Reveals, Stands}
 use Rattle.site_store.specs.Words.{Contents}
 use Rattle.repl_model.specs.Words.{IsSound, empty_server, Server, World}
+use Rattle.stored_defs.specs.laws.Standing.{zip_at_place}
 use Rattle.spelled_defs.specs.declared.defs.Defs.{Defs}
 use Rattle.load_laws.specs.worlds.Loads.{load_server, server_at, load_at}
 use Rattle.load_laws.specs.stored.LoadedServers.{Loaded}
@@ -41,13 +42,7 @@ stands_held names h h2 w same stands = subst (λ (l : List (Option Contents)). S
 
 -- what a server of a world reveals
 pub revealed_at : (names : List (List ℕ)) (h : List (Option Contents)) (w : World) (n : ℕ) → Stands names h w → n < length names → (c : Contents) × (get_or h n None ≡ Some c) × Holds w (server_at w n) c
-revealed_at names h w n stands lt = at w h n stands.servers (omega (arith, lt, count_named names h w stands))
-  where
-    at : (servers : World) (h : List (Option Contents)) (n : ℕ) → AllZip (Reveals w) servers h → n < length servers → (c : Contents) × (get_or h n None ≡ Some c) × Holds w (get_or servers n (empty_server [])) c
-    at [] h n all lt = absurd (omega arith)
-    at (s ∷ ss) [] n all lt = absurd all
-    at (s ∷ ss) (o ∷ os) zero all lt = all.0
-    at (s ∷ ss) (o ∷ os) (suc n) all lt = at ss os n all.1 (omega arith)
+revealed_at names h w n stands lt = zip_at_place (Reveals w) w h n (empty_server []) None stands.servers (omega (arith, lt, count_named names h w stands))
 
 -- once a server holds what the load makes of it, the servers stand for the world after
 pub stands_next : (names : List (List ℕ)) (h : List (Option Contents)) (defs : Defs) (w : World) (n : ℕ) (c d : Contents) → Stands names h w → IsSound (load_at defs n w) → Holds w (server_at w n) c → Loaded defs (server_at w n) c d → Stands names (set h n (Some d)) (load_at defs n w)

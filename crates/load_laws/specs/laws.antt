@@ -24,10 +24,8 @@ pub mod DefinitionsStaySound
 pub mod StoredLists
 pub mod FirstStates
 pub mod StoredWorlds
-pub mod Targets
 pub mod States
 pub mod SourceTables
-pub mod Stays
 pub mod Loaded
 pub mod PlannedLists
 pub mod Tables

@@ -3,7 +3,7 @@ use Rattle.std.proofs.Common.{◌≡◌, ℕ, refl, sym, ap, subst, ◌∙◌, S
 use Rattle.world_store.specs.Words.{Holds, Stands}
 use Rattle.site_store.specs.Words.{Contents, Kept, IsUndamaged, AllClosed, names, held, work, sees, no_damage}
 use Rattle.site_store.specs.declared.sites.Sites.{Sites}
-use Rattle.repl_model.specs.Words.{Fault, reported, after_action, Action, signals, reports, IsSound, read_only_sets, synchpoint, World, KnownSet, known_sets, at_place_in, In}
+use Rattle.repl_model.specs.Words.{Fault, reported, after_action, reports, IsSound, read_only_sets, synchpoint, World, KnownSet, known_sets, at_place_in, In}
 use Rattle.set_places.specs.declared.placed_set.PlacedSet.{PlacedSet}
 use Rattle.set_places.specs.Places.{IsPlacedAs, IsReadOnly}
 use Rattle.set_places.specs.Steps.{HasBecome, MayHaveBecome, HasStepped, MayCommitStep}
@@ -14,7 +14,7 @@ use Rattle.stored_commits.specs.actions.ActedServers.{with_mark}
 use Rattle.prune_control.specs.Noting.{IsReport, mark_rules, ShowsDamage}
 use Rattle.prune_control.specs.Putting.{PutsPoint}
 use Rattle.prune_control.specs.laws.Marks.{marks_undamaged}
-use Rattle.world_commits.specs.laws.ActionsStaySound.{next_actions_sound}
+use Rattle.world_commits.specs.laws.ActionsStaySound.{actions_sound}
 use Rattle.stored_commits.specs.laws.Reports.{others_hold_report, report_holds}
 
 module _ (w : World) (k : KnownSet) (set : PlacedSet) (point : ℕ) (sound : IsSound w) (placed : IsPlacedAs w k set) (read_only : IsReadOnly k) (report : IsReport k point) where
@@ -24,15 +24,12 @@ module _ (w : World) (k : KnownSet) (set : PlacedSet) (point : ℕ) (sound : IsS
 
   -- the world after the report is sound
   sound_after : IsSound (after_action w k reports)
-  sound_after = subst (λ (a : Action). IsSound (after_action w k a)) report.0 (next_actions_sound w k sound among (λ signal. absurd (not_both (sym signal ∙ report.0))))
-    where
-      not_both : signals ≡ reports → ⊥
-      not_both e = cc
+  sound_after = actions_sound w k reports sound among tt
 
   -- the source holds what it calls for once the point is put
   source_after : (c d : Contents) → Holds w k.source c → PutsPoint set point c d → Holds (after_action w k reports) (reported k.at_source.def (synchpoint k.at_target.trail) k.source) d
   source_after c d holds puts = subst (Holds (after_action w k reports) (reported k.at_source.def (synchpoint k.at_target.trail) k.source))
-      (ap (λ (n : ℕ). with_mark set.at_source.number (record { mark = n; signal = k.at_source.signal }) c) (sym report.1) ∙ sym (puts w k sound placed holds))
+      (ap (λ (n : ℕ). with_mark set.at_source.number (record { mark = n; signal = k.at_source.signal }) c) (sym report) ∙ sym (puts w k sound placed holds))
       (report_holds w k set.at_source.number c sound among placed.at_source holds)
 
   module _ {K : Type 0} (kept : K → Kept) (s0 s1 : Sites K) (stands : Stands (names s0) (held kept s0) w) where

@@ -11,14 +11,13 @@ use Rattle.repl_definitions.specs.declared.set.SourceSet.{SourceSet}
 use Rattle.repl_records.specs.Prune.{mark_spelling, IsMark}
 use Rattle.repl_model.specs.Trails.{synchpoint}
 use Rattle.repl_model.specs.World.{KnownSet}
-use Rattle.repl_model.specs.NextActions.{next_action, reports}
 use Rattle.site_store.specs.declared.sites.Sites.{Sites}
 use Rattle.site_store.specs.Damage.{Rules, Damages}
 use Rattle.world_store.specs.SpelledRows.{Spells}
 
--- a report is what the set does next, and this is the point that its targets have reached
+-- a report of a set tells this point: its targets have reached it
 abbrev pub IsReport : KnownSet → ℕ → Type 0
-IsReport k point = (next_action k ≡ reports) × (point ≡ synchpoint k.at_target.trail)
+IsReport k point = point ≡ synchpoint k.at_target.trail
 
 -- the area of marks
 abbrev pub is_of_marks : Area → Bool

@@ -53,8 +53,7 @@ fn put_mark<K: Keeper>(
 /// source, in one commit.
 ///
 /// After a fault the mark is as it was; but if the commit failed, it may be the new one. What is
-/// said of a world holds if the servers stand for one in which a report of this point is what the
-/// set does next.
+/// said of a world holds if the servers stand for one in which the targets have reached this point.
 pub fn note<K: Keeper>(
     sites: &mut Sites<K>,
     alloc: Global,

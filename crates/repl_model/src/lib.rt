@@ -3,13 +3,13 @@
 //! Definitions stand in `specs/`: the units of a log, the rows of a table at each point, change
 //! rows, which records are applicable, the rows of each kind of target, worlds, what a set does
 //! next in one, and when a world is sound. The functions here have no code: their contracts are
-//! laws about the definitions.
+//! claims about the definitions, for readers. Laws for the layers above are lemmas in
+//! `specs/laws/`.
 //!
 //! It stands on `repl_types`, on `repl_definitions`, which has the trees of expressions and
 //! predicates, and members and sets, and on `row_codec`, for how long a set's definition is as it
-//! is stored. `row_changes` and `world_store` stand on it. The laws are for the layers over
-//! servers, but two kinds are for readers: `copy_by_change_rows` and `undo`, which say what change
-//! rows and changes are good for, and those whose names begin with `worked_`, which say what the
+//! is stored. `row_changes` and `world_store` stand on it. `copy_by_change_rows` and `undo` say what
+//! change rows and changes are good for, and the functions whose names begin with `worked_` what the
 //! definitions make of logs and of a world that were worked by hand.
 //!
 //! For example, the log of the lines `insert 1 items 1 'pen'` and `commit 1 ann 100` has one unit,

@@ -2,7 +2,6 @@ pub mod SetRows
 pub mod Known
 pub mod Standing
 pub mod Registrations
-pub mod Changing
 pub mod Commits
 pub mod Staying
 pub mod Points

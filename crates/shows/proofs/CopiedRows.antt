@@ -1,5 +1,5 @@
 -- The rows of a user copy as they stand at its target, and their text.
-use Rattle.std.proofs.Common.{◌≡◌, ℕ, ◌+◌, ◌*◌, ◌<◌, ◌≤◌, List, [], ◌∷◌, ◌++◌, length, map, refl, sym, ap, subst, ◌∙◌, arith, inl, inr, min, Option, Some, IfSome, slice_get, Less}
+use Rattle.std.proofs.Common.{◌≡◌, ℕ, ◌+◌, ◌*◌, ◌<◌, ◌≤◌, List, [], ◌∷◌, ◌++◌, length, map, refl, sym, ap, subst, ◌∙◌, arith, inl, inr, min, Option, Some, IfSome, slice_get}
 use Rattle.std.specs.FinMap.{entries}
 use Rattle.std.specs.List.{AllByRecursion, flat_map}
 use Rattle.std.specs.Option.{option_map_or, option_and_then}
@@ -7,9 +7,9 @@ use Rattle.std.proofs.Math.Nat.{min-eq_left}
 use Rattle.std.proofs.lemmas.List.{length-map}
 use Rattle.std.proofs.lemmas.Option.{same_Some, slice_get_within}
 use Rattle.world_store.specs.Words.{IsKey, key_spelling, IsCopy, copy_spelling, CopyRow, table_from_rows, IsRising, filter_rises, Reveals, Stands, member_table, source_of, copy_rows, selected_few, RowFits}
-use Rattle.site_store.specs.Words.{Contents, Kept, Takes, TakesPrefix, Bounds, Damages, IsUndamaged, AllClosed, names, held, work, sees, no_damage}
+use Rattle.site_store.specs.Words.{Contents, Kept, Bounds, Damages, IsUndamaged, AllClosed, names, held, work, sees, no_damage}
 use Rattle.site_store.specs.declared.sites.Sites.{Sites}
-use Rattle.repl_model.specs.Words.{bytes_cmp, Values, TableDef, LogRecord, all_filter, all_weaker, ShowError, IsMember, Member, SetDef, user_copy, SourceTable, is_selected, target_row, IsSound, KeepsTable, MemberIsSound, ReplicaMemberIsSound, ServerKeepsRules, LogIsSound, source_at, Trail, synchpoint, World, KnownSet, known_sets, source_named, at_place_in, known_stands, source_in, In, at_one, each_image}
+use Rattle.repl_model.specs.Words.{Values, TableDef, LogRecord, all_filter, all_weaker, ShowError, IsMember, Member, SetDef, user_copy, SourceTable, is_selected, target_row, IsSound, KeepsTable, MemberIsSound, ReplicaMemberIsSound, ServerKeepsRules, LogIsSound, source_at, Trail, synchpoint, World, KnownSet, known_sets, source_named, at_place_in, known_stands, source_in, In, at_one, each_image}
 use Rattle.repl_types.specs.declared.area.Area.TheVariants as areas
 use Rattle.repl_types.specs.declared.call_errors.ShowError.TheVariants as errors
 use Rattle.repl_definitions.specs.declared.member.TargetKind.TheVariants.{UserCopy}
@@ -27,19 +27,16 @@ use Rattle.apply_copies.specs.Rules.{target_rules}
 use Rattle.apply_copies.specs.laws.CopyRows.{copied_are, copy_rows_fit, rows_stand_at, target_undamaged}
 use Rattle.shows.specs.servers.Showing.{IsUndamagedShow}
 use Rattle.shows.specs.tables.Replies.{count_line}
-use Rattle.shows.specs.tables.Records.{AreShown, rows_text, TakesRows, TakesSomeRows}
+use Rattle.shows.specs.tables.Records.{AreShown, rows_text}
 use Rattle.shows.specs.tables.Showing.{FailsShowing as FailsWithin}
 use Rattle.shows.specs.tables.laws.Texts.{text_shown}
 use Rattle.shows.specs.sets.Replies.{copy_text}
 use Rattle.shows.specs.sets.Targets.{IsCopyAt}
+use Rattle.shows.proofs.StandingRows.{images_rise}
+use Rattle.shows.proofs.StandingTables.{FollowsOfText}
 use Rattle.stored_commits.specs.laws.ActedTargets.{targets_stand}
 
 -- ---- the rows
-
--- rows rise if those from which their values were made do
-images_rise : {X Y : Type 0} (f : X → Y) (rows : List (Values × X)) → IsRising key_spelling rows → IsRising key_spelling (map (λ (r : Values × X). (r.0, f r.1)) rows)
-images_rise f [] rise = tt
-images_rise {X} {Y} f (r ∷ rs) rise = (each_image (λ (q : Values × Y). bytes_cmp (key_spelling r.0) (key_spelling q.0) ≡ Less) (λ (q : Values × X). (q.0, f q.1)) rs rise.0, images_rise f rs rise.1)
 
 -- the row of a copy under its key, as it is stored
 abbrev pub stored_copy : Values × Values → Values × CopyRow
@@ -179,34 +176,9 @@ module _ {K : Type 0} (kept : K → Kept) (s0 : Sites K) (set : PlacedSet) (plac
   -- ---- what was shown, if this is the number of its target
 
   module _ (n : ℕ) (same : n ≡ number) where
-    module _ (before now : Option (List ℕ)) (m : Member) (at : slice_get k.at_target.def.members place ≡ Some m) where
-      -- a sink took the text of the rows
-      abbrev Whole : Contents → Type 0
-      Whole c = TakesRows IsKey key_spelling IsCopy copy_spelling (λ _ r. row_line r.row) areas.Target n before now c
-
-      -- or a part of it
-      abbrev Part : Contents → Type 0
-      Part c = TakesSomeRows IsKey key_spelling IsCopy copy_spelling (λ _ r. row_line r.row) areas.Target n before now c
-
-      -- the target's rows are as they are shown
-      shown : AreShown IsKey key_spelling IsCopy rows
-      shown = rows_are w k stands.sound placed.known member fits source.0 source.1
-
-      -- they stand in the table with the number
-      stand_there : seen.0 areas.Target n ≡ table_from_rows key_spelling copy_spelling rows
-      stand_there = ap (seen.0 areas.Target) same ∙ has_rows
-
-      -- what was shown of them was shown of the member's copy
-      reply : rows_text {A = Values} (λ _ (r : CopyRow). row_line r.row) rows ≡ copy_text w k m
-      reply = text ∙ ap (copy_text w k) (one_member m at)
-
-      -- the copy was shown
-      pub copy_shown : IfSome (sees kept s0 set.target) Whole → Takes before now (copy_text w k m)
-      copy_shown took = subst (Takes before now) reply ((subst (λ (o : Option Contents). IfSome o Whole) seen.1 took) rows shown stand_there)
-
-      -- a part of it was
-      pub copy_part : IfSome (sees kept s0 set.target) Part → TakesPrefix before now (copy_text w k m)
-      copy_part took = subst (TakesPrefix before now) reply ((subst (λ (o : Option Contents). IfSome o Part) seen.1 took) rows shown stand_there)
+    -- what follows of the text of the target's rows follows of that of the member's copy
+    pub copy_shown : (m : Member) → slice_get k.at_target.def.members place ≡ Some m → (P : List ℕ → Type 0) → IfSome (sees kept s0 set.target) (FollowsOfText IsKey key_spelling IsCopy copy_spelling (λ _ r. row_line r.row) areas.Target n P) → P (copy_text w k m)
+    copy_shown m at P took = subst P (text ∙ ap (copy_text w k) (one_member m at)) ((subst (λ (o : Option Contents). IfSome o (FollowsOfText IsKey key_spelling IsCopy copy_spelling (λ _ (r : CopyRow). row_line r.row) areas.Target n P)) seen.1 took) rows (rows_are w k stands.sound placed.known member fits source.0 source.1) (ap (seen.0 areas.Target) same ∙ has_rows))
 
     -- no damage is reported of them
     pub copy_undamaged : (s1 : Sites K) (most : Bounds) (before now : ℕ) (e : ShowError) → FailsWithin kept s0 s1 most (Damages (λ s. s ≡ set.target) (target_rules n) kept s0) before now e → IsUndamagedShow e

@@ -1,5 +1,5 @@
 -- The targets at a server of a sound world: which they are, and that no two have one name.
-use Rattle.std.proofs.Common.{◌≡◌, ℕ, zero, suc, ◌+◌, Bool, true, false, cond, not, List, [], ◌∷◌, ◌++◌, map, filter, refl, sym, ap, ap₂, subst, ◌∙◌, arith, inl, inr, Option, Some, None, slice_get, option_map, option_and_then, bytes_eq}
+use Rattle.std.proofs.Common.{◌≡◌, ℕ, ◌+◌, Bool, true, false, cond, not, List, [], ◌∷◌, ◌++◌, map, filter, refl, sym, ap, ap₂, subst, ◌∙◌, inl, inr, Option, Some, None, slice_get, option_map, option_and_then, bytes_eq}
 use Rattle.std.specs.List.{AllByRecursion, AllZip, enumerate_from, filter_map, flat_map}
 use Rattle.std.proofs.lemmas.Bool.{and_from, both_ways}
 use Rattle.std.proofs.lemmas.Option.{none-some, same_Some}
@@ -8,6 +8,7 @@ use Rattle.repl_model.specs.Words.{Member, is_replica_set, all_differ, IsSound, 
 use Rattle.set_places.specs.Places.{IsReadOnly}
 use Rattle.set_places.specs.laws.SetRows.{found_alone}
 use Rattle.shows.specs.sets.Replies.{targets_of_set, targets_at, target_named}
+use Rattle.shows.proofs.Numbered.{numbered_first}
 
 -- ---- lists that embed in others
 
@@ -35,27 +36,6 @@ embeds_kept {X} P p (x ∷ xs) all = pick (p x) (embeds_kept P p xs all.1)
     pick : (b : Bool) → Embeds (λ x y. (y ≡ x) × P x) (filter p xs) xs → Embeds (λ x y. (y ≡ x) × P x) (cond b (x ∷ filter p xs) (filter p xs)) (x ∷ xs)
     pick true rest = inl ((refl, all.0), rest)
     pick false rest = embeds_skip (λ x y. (y ≡ x) × P x) (filter p xs) x xs rest
-
--- ---- numbered elements
-
--- the element at a place stands with the place as its number
-numbered_there : {X : Type 0} (b : ℕ) (xs : List X) (n : ℕ) (x : X) → slice_get xs n ≡ Some x → In (b + n, x) (enumerate_from b xs)
-numbered_there b [] n x e = absurd (none-some x e)
-numbered_there b (y ∷ ys) zero x e = inl (λ i. (at_first i, sym (same_Some y x e) i))
-  where
-    at_first : b + 0 ≡ b
-    at_first = omega arith
-numbered_there {X} b (y ∷ ys) (suc n) x e = inr (subst (λ (m : ℕ). In (m, x) (enumerate_from (b + 1) ys)) at_next (numbered_there (b + 1) ys n x e))
-  where
-    at_next : b + 1 + n ≡ b + suc n
-    at_next = omega arith
-
--- so it does if the numbers begin with 0
-numbered_first : {X : Type 0} (xs : List X) (n : ℕ) (x : X) → slice_get xs n ≡ Some x → In (n, x) (enumerate_from 0 xs)
-numbered_first {X} xs n x e = subst (λ (m : ℕ). In (m, x) (enumerate_from 0 xs)) none_before (numbered_there 0 xs n x e)
-  where
-    none_before : 0 + n ≡ n
-    none_before = omega arith
 
 -- ---- sets that are known at a target
 

@@ -1,5 +1,5 @@
 -- Lines of a text that are written one after another.
-use Rattle.std.proofs.Common.{◌≡◌, ◌∙◌, ◌+◌, ◌-◌, ◌++◌, ℕ, List, length, take, drop, sym, ap, append_assoc, arith, length-drop, Option, take-append-drop, take_all}
+use Rattle.std.proofs.Common.{◌≡◌, ◌∙◌, ◌-◌, ◌++◌, ℕ, List, length, take, drop, sym, ap, append_assoc, arith, length-drop, Option, take-append-drop, take_all}
 use Rattle.site_store.specs.Words.{Takes, TakesPrefix, takes_both}
 
 -- what is left of a text from a place on

@@ -12,7 +12,7 @@ use Rattle.repl_types.specs.declared.call_errors.AppendError.TheVariants as erro
 use Rattle.repl_types.specs.declared.fault.Fault.TheVariants as faults
 use Rattle.stored_commits.specs.logs.LongerServers.{is_of_log, Logged}
 use Rattle.world_commits.specs.logs.LongerLogs.{AllFollow}
-use Rattle.stored_defs.specs.laws.Standing.{all_at_place, same_count, keeps_at, seen_at}
+use Rattle.stored_defs.specs.laws.Standing.{all_at_place, in_at, same_count, keeps_at, seen_at}
 use Rattle.source_log.specs.Appending.{taken, error_at, append_error, stop_at, HasTaken, TakesAll, PutsEnd, CommitsEnd, MayCommitEnd, StandGrown, HasAppended, HasNotAppended, BlamesFault, BlamesOrStops}
 use Rattle.source_log.specs.Rules.{all_rules, ShowsDamage, BreaksFirst}
 use Rattle.source_log.specs.Storing.{IsKept, StoresWhole, MayAppend}
@@ -21,7 +21,7 @@ use Rattle.source_log.specs.declared.outcome.Outcome.TheVariants as outcomes
 use Rattle.source_log.specs.declared.progress.Progress.{Progress}
 use Rattle.source_log.proofs.Drops.{take_whole}
 use Rattle.source_log.specs.laws.Whole.{held_whole, end_put}
-use Rattle.source_log.proofs.Grown.{in_at, found_there, stands_grown}
+use Rattle.source_log.proofs.Grown.{found_there, stands_grown}
 use Rattle.source_log.proofs.HeldTables.{whole_end}
 use Rattle.source_log.proofs.TakenFirst.{taken_follow}
 use Rattle.source_log.proofs.Undamaged.{none_shown}

@@ -4,11 +4,11 @@ use Rattle.world_store.specs.Words.{IsHead, Head, head_of}
 use Rattle.site_store.specs.Words.{Contents, Kept, Blames, IsUndamaged, IsNoDamage, sees, no_damage}
 use Rattle.site_store.specs.declared.sites.Sites.{Sites}
 use Rattle.repl_model.specs.Words.{Fault, empty_server, Server, World, server_in, In}
+use Rattle.stored_defs.specs.laws.Standing.{in_at}
 use Rattle.source_log.specs.Rules.{all_rules, EndIs, ShowsDamage}
 use Rattle.source_log.specs.Scanning.{IsSeenAs}
 use Rattle.source_log.specs.Storing.{StoresWhole}
 use Rattle.source_log.specs.laws.Whole.{held_whole}
-use Rattle.source_log.proofs.Grown.{in_at}
 use Rattle.source_log.proofs.HeldTables.{whole_end}
 use Rattle.source_log.proofs.Undamaged.{none_shown}
 

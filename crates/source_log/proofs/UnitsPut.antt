@@ -18,7 +18,7 @@ use Rattle.source_log.proofs.LogEnds.{others_apart}
 use Rattle.source_log.proofs.OwnChanges.{own_length}
 use Rattle.source_log.proofs.OwnFlights.{same_flights, unit_closes, unit_commits}
 use Rattle.stored_commits.specs.laws.LogTables.{head_fits, head_goes_on, log_gets_row}
-use Rattle.world_commits.specs.laws.SignalUnits.{none_in_flight}
+use Rattle.world_commits.specs.laws.OwnUnits.{none_in_flight}
 
 -- ---- the records of a unit
 

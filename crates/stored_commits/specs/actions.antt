@@ -1,3 +1,4 @@
 pub mod ActedServers
 pub mod StoredSteps
+pub mod FlaggedServers
 pub mod laws

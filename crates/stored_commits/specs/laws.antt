@@ -1,5 +1,4 @@
 pub mod LoggedPuts
-pub mod PutTables
 pub mod LogTables
 pub mod LastEnds
 pub mod OpenEntries
@@ -37,12 +36,8 @@ pub mod CopiedUnits
 pub mod KnownMembers
 pub mod Trails
 pub mod Sides
-pub mod LoggedTargets
-pub mod LoggedStates
-pub mod LogStays
 pub mod LoggedCaptures
 pub mod Logged
-pub mod CaptureStays
 pub mod CapturedWorlds
 pub mod CapturedStates
 pub mod OneRow
@@ -50,6 +45,8 @@ pub mod ActedWorlds
 pub mod Marks
 pub mod Reports
 pub mod Signals
+pub mod Flags
+pub mod TargetRows
 pub mod Steps
 pub mod ActedTargets
 pub mod Numbers

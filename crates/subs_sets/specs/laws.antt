@@ -3,3 +3,4 @@ pub mod Captured
 pub mod UnitRows
 pub mod Entries
 pub mod Undamaged
+pub mod UnitTimes

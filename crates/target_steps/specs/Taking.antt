@@ -37,10 +37,11 @@ entry_of (Refresh point) q = refresh point q
 entry_of (Block low high) q = block low high q
 
 -- The members of a set can take the captured changes of an interval: its targets have reached the interval's start, no member
--- has a gap there, and the end is captured.
+-- has a gap there, no unit after it is pruned, and the end is captured.
 pub record CanTake (k : KnownSet) (low high : ℕ) : Type 0 where
   pub from : low ≡ synchpoint k.at_target.trail
   pub gaps : AllByRecursion (λ member. member_gap k.source low member ≡ None) k.at_source.def.members
+  pub units : k.source.floor ≤ low
   pub rises : low ≤ high
   pub captured : high ≤ k.source.captured
 

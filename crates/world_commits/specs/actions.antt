@@ -1,3 +1,4 @@
 pub mod StaysSound
+pub mod Flags
 pub mod Resting
 pub mod laws

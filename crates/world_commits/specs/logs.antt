@@ -1,4 +1,5 @@
 pub mod LongerLogs
+pub mod OwnUnits
 pub mod StaysSound
 pub mod WorkedRecords
 pub mod laws

@@ -70,8 +70,13 @@ pub use Rattle.world_store.specs.Stands.{Holds, Reveals, Stands, shown}
 pub use Rattle.world_store.specs.Tables.{alone, capture_table, change_table, definition_table, member_table, no_rows, prune_table, source_table, state_table, target_table, trail_table, with_first}
 unfoldable pub use Rattle.world_store.specs.Tables.{first_table, tables}
 pub use Rattle.world_store.specs.TargetRows.{aggregate_rows, copy_rows, count_op, first_state_rows, has_points, history_rows, is_delete, is_insert, is_update, latest_rows, member_changes, numbered_members, numbered_target_sets, numbers_given, rows_refreshed, set_changes, set_rows_refreshed, set_state_rows, source_of, source_time, state_of, trail_entry, trail_rows}
-pub use Rattle.world_store.specs.laws.ByKey.{by_key_fits, by_key_has, is_less, spelled_cmp}
+pub use Rattle.world_store.specs.laws.ByKey.{by_key_fits, by_key_has, spelled_cmp}
 pub use Rattle.world_store.specs.laws.DefinitionRows.{are_places, head_is, name_one, registration_rows_are, set_alike, set_one, source_rows_are, table_rows_are, tail_is, target_rows_are}
 pub use Rattle.world_store.specs.laws.FewChanges.{positions_rise}
 pub use Rattle.world_store.specs.laws.FewRows.{between_few, changes_add, filter_few, selected_few, source_few}
 pub use Rattle.world_store.specs.laws.FirstStates.{no_first}
+pub use Rattle.world_store.specs.laws.MemberReads.{reach, reach_within}
+pub use Rattle.world_store.specs.laws.Sides.{MemberStays, SideStays, SourceStays, is_longer, is_same, is_unread, same_sides}
+pub use Rattle.world_store.specs.laws.TablesStay.{number_rows, number_rows_stay, state_stays, table_at, table_stays, tables_stay}
+pub use Rattle.world_store.specs.laws.StandsNext.{stands_with_server}
+pub use Rattle.world_store.specs.laws.PutTables.{KeysFit, both_pass, is_less, put_table, removed_table, sorted_rises, table_finds}

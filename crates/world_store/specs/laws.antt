@@ -1,5 +1,10 @@
+pub mod PutTables
 pub mod ByKey
 pub mod DefinitionRows
 pub mod FewChanges
 pub mod FewRows
 pub mod FirstStates
+pub mod Sides
+pub mod MemberReads
+pub mod TablesStay
+pub mod StandsNext

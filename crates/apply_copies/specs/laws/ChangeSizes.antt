@@ -7,7 +7,8 @@ use Rattle.repl_model.specs.Words.{IsKeySize, Values, images, CdRow, Change, Pla
 use Rattle.repl_types.specs.declared.record.Change.TheVariants.{Insert, Update, Delete, Start, Stop}
 use Rattle.repl_types.specs.declared.unit.Unit.{Unit as LogUnit}
 use Rattle.stored_commits.specs.copies.ChangedCopies.{key_after}
-use Rattle.stored_commits.specs.copies.laws.LoggedChanges.{Fits, UnitHas, units_fit}
+use Rattle.stored_commits.specs.copies.laws.LoggedChanges.{Fits, units_fit}
+use Rattle.stored_commits.specs.laws.LoggedRows.{UnitHas}
 use Rattle.stored_commits.specs.copies.laws.ShownRows.{key_shown}
 use Rattle.apply_copies.specs.ChangeRules.{source_of}
 use Rattle.stored_commits.specs.laws.StorableRows.{fitting_row}

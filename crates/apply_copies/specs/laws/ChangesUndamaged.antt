@@ -4,7 +4,7 @@ use Rattle.std.specs.List.{AllByRecursion}
 use Rattle.std.specs.Option.{option_map_or, option_and_then}
 use Rattle.std.proofs.lemmas.Bool.{false≢true}
 use Rattle.std.proofs.lemmas.Option.{none-some}
-use Rattle.world_store.specs.Words.{key_spelling, short_text, one_whole, change_row_spelling, IsChangeRow, change_key_spelling, IsChangeKey, one_change_row, one_change_key, CdKey, ChangeRow, SpellsApart, table_from_rows, fits_each, row_of, table_rows, Holds, no_rows, tables, RowFits}
+use Rattle.world_store.specs.Words.{key_spelling, short_text, change_row_spelling, IsChangeRow, change_key_spelling, IsChangeKey, CdKey, ChangeRow, table_from_rows, fits_each, row_of, table_rows, Holds, no_rows, tables, RowFits}
 use Rattle.site_store.specs.Words.{Contents, Table, Rules, IsSpelt, IsUndamaged, rows_spelt}
 use Rattle.repl_model.specs.Words.{IsKeySize, Area, CdRow, Registration, TableDef, all_weaker, defined_table_spelling, IsDefinedRegistration, DefinedRegistration, DefinedTable, table_named, changes_between, IsSound, KeepsTable, LogIsSound, Registered, Server, ServerTable, World, server_table, tables_of, at_place_in, In, at_one, image_in, each_image}
 use Rattle.repl_types.specs.declared.area.Area.TheVariants as areas
@@ -15,16 +15,13 @@ use Rattle.set_places.specs.laws.Registrations.{members_undamaged}
 use Rattle.stored_commits.specs.units.StoredChanges.{stored_change}
 use Rattle.cd_tables.specs.Captured.{captured_changes}
 use Rattle.cd_tables.specs.StoredRows.{change_of}
+use Rattle.cd_tables.specs.laws.ChangeKeys.{changes_apart}
 use Rattle.stored_commits.specs.copies.ChangedCopies.{key_after}
 use Rattle.apply_copies.specs.ChangeRules.{may_be_change_key, may_be_change, calls_for_table, source_of, IsKeyless, is_unfit_change, change_source_rules}
 use Rattle.apply_copies.specs.laws.ChangeSizes.{HasSize, all_sized}
 use Rattle.apply_copies.specs.laws.HeldChanges.{IsRegisteredAt, keeps_rules, keeps_table, keeps_registration, registration_held, table_held, changes_held}
 use Rattle.apply_copies.specs.laws.Undamaged.{joined_undamaged, none_too_wide}
 use Rattle.stored_commits.specs.laws.SourceLogs.{tables_are_found}
-
--- change rows that are spelled alike are one
-pub changes_apart : SpellsApart (RowFits IsChangeKey IsChangeRow) change_key_spelling change_row_spelling
-changes_apart r s fr fs keys values = λ i. (one_whole IsChangeKey change_key_spelling one_change_key r.0 s.0 fr.0 fs.0 keys i, one_whole IsChangeRow change_row_spelling one_change_row r.1 s.1 fr.1 fs.1 values i)
 
 module _ (w : World) (server : Server) (c : Contents) (sound : IsSound w) (i : In server w) (holds : Holds w server c) where
   -- the rules of change rows

@@ -10,7 +10,7 @@ use Rattle.repl_types.specs.declared.record.LogRecord.TheVariants as records
 use Rattle.repl_types.specs.declared.unit.Unit.{Unit as LogUnit}
 use Rattle.stored_commits.specs.records.SourceTables.{HasRows, StandsUnderKey, RowsStand}
 use Rattle.stored_commits.specs.records.laws.StandingRows.{standing_fit}
-use Rattle.stored_commits.specs.copies.laws.LoggedChanges.{RecordHas, UnitHas, units_have}
+use Rattle.stored_commits.specs.laws.LoggedRows.{RecordHas, UnitHas, units_have}
 use Rattle.apply_copies.specs.Copying.{selected, copied}
 use Rattle.apply_copies.specs.Rules.{target_rules, TargetIsUndamaged}
 use Rattle.apply_copies.specs.laws.Values.{target_row_fits}

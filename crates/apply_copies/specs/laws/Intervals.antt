@@ -1,63 +1,38 @@
 -- The change rows of an interval are those of its units, among all that a server has captured.
-use Rattle.std.proofs.Common.{◌≡◌, ℕ, ◌≤◌, Bool, true, false, cond, List, [], ◌∷◌, ◌++◌, map, refl, ap, ◌∙◌, arith, ◌&&◌, nat_lt, nat_le, max, filter}
+use Rattle.std.proofs.Common.{◌≡◌, ℕ, ◌≤◌, Bool, true, false, cond, List, [], ◌∷◌, ◌++◌, map, refl, sym, ap, ◌∙◌, arith, ◌&&◌, nat_lt, nat_le, max, filter}
 use Rattle.std.specs.List.{AllByRecursion, flat_map}
-use Rattle.std.proofs.lemmas.Bool.{ltb-true, leb-true, lt-ltb, le-leb, and_parts}
+use Rattle.std.proofs.lemmas.Bool.{ltb-true, leb-true, lt-ltb, le-leb, and_parts, and_right}
 use Rattle.std.proofs.lemmas.List.Elements.{filter-append}
-use Rattle.world_store.specs.Words.{CdKey, ChangeRow, not_both}
-use Rattle.repl_model.specs.Words.{CdRow, Registration, Change, LogRecord, all_weaker, filter_none, filter_all, shows_nothing, insert_row, update_row, delete_row, rows_of, rows_of_placed, change_rows, changes_between, units_between, units, Registered, Server, filter_images, all_flat_map}
-use Rattle.repl_types.specs.declared.record.Change.TheVariants.{Insert, Update, Delete, Start, Stop}
+use Rattle.world_store.specs.Words.{CdKey, ChangeRow}
+use Rattle.repl_model.specs.Words.{CdRow, Registration, LogRecord, all_weaker, filter_none, filter_all, filter_alike, change_rows, changes_between, units_between, units, Registered, Server, filter_images}
 use Rattle.repl_types.specs.declared.unit.Unit.{Unit as LogUnit}
 use Rattle.stored_commits.specs.units.StoredChanges.{stored_change}
 use Rattle.cd_tables.specs.Captured.{captured_changes}
 use Rattle.cd_tables.specs.StoredRows.{change_of}
-use Rattle.cd_tables.specs.laws.InOrder.{all_always}
-use Rattle.cd_tables.specs.laws.SoundChanges.{of_own}
+use Rattle.cd_tables.specs.laws.InOrder.{all_always, filter_and}
+use Rattle.cd_tables.specs.laws.SoundChanges.{IsOfUnit, of_unit}
 use Rattle.apply_copies.specs.Changing.{rows_between}
 
 -- ---- lists
 
 -- a filter of what a weaker filter keeps keeps what it keeps of all
 filter_within : {X : Type 0} (p q : X → Bool) → ((x : X) → p x ≡ true → q x ≡ true) → (xs : List X) → filter p (filter q xs) ≡ filter p xs
-filter_within p q weaker [] = refl
-filter_within {X} p q weaker (x ∷ xs) = pick (q x) refl (p x) refl (filter_within p q weaker xs)
+filter_within {X} p q weaker xs = sym (filter_and q p xs) ∙ filter_alike (λ x. q x && p x) p xs (all_always (λ x. (q x && p x) ≡ p x) (λ x. one x (p x) refl) xs)
   where
-    pick : (s : Bool) → q x ≡ s → (t : Bool) → p x ≡ t → filter p (filter q xs) ≡ filter p xs → filter p (cond s (x ∷ filter q xs) (filter q xs)) ≡ cond t (x ∷ filter p xs) (filter p xs)
-    pick true e t f rest = ap (λ (b : Bool). cond b (x ∷ filter p (filter q xs)) (filter p (filter q xs))) f ∙ ap (λ (l : List X). cond t (x ∷ l) l) rest
-    pick false e true f rest = absurd (not_both (q x) (weaker x f) e)
-    pick false e false f rest = rest
+    one : (x : X) (t : Bool) → p x ≡ t → (q x && p x) ≡ p x
+    one x true e = ap (λ (b : Bool). b && p x) (weaker x e)
+    one x false e = and_right (q x) (p x) e ∙ sym e
 
 -- ---- the change rows of units
 
 module _ (reg : Registration) where
-  -- a change row is of a unit with this seq
-  abbrev IsOf : ℕ → CdRow → Type 0
-  IsOf seq r = r.commitseq ≡ seq
-
-  -- the rows of a change are
-  of_change : (seq pos : ℕ) (change : Change) → AllByRecursion (IsOf seq) (rows_of reg seq pos change)
-  of_change seq pos (Insert table row) = (refl, tt)
-  of_change seq pos (Update table before after) = pick (shows_nothing reg before after) reg.del_ins
-    where
-      pick : (nothing taken_apart : Bool) → AllByRecursion (IsOf seq) (cond nothing [] (cond taken_apart (delete_row reg seq pos before ∷ insert_row reg seq pos 1 after ∷ []) (update_row reg seq pos before after ∷ [])))
-      pick true taken_apart = tt
-      pick false true = (refl, (refl, tt))
-      pick false false = (refl, tt)
-  of_change seq pos (Delete table row) = (refl, tt)
-  of_change seq pos (Start table) = tt
-  of_change seq pos (Stop table) = tt
-
-  -- and so are those of a unit
-  of_unit : (u : LogUnit) → AllByRecursion (IsOf u.head.seq) (change_rows reg u)
-  unfolding change_rows
-  of_unit u = let seq = u.head.seq in all_flat_map (IsOf seq) (rows_of_placed reg seq) u.changes (all_always (λ placed. AllByRecursion (IsOf seq) (rows_of_placed reg seq placed)) (λ placed. of_own reg seq (AllByRecursion (IsOf seq)) placed tt (of_change seq placed.pos placed.change)) u.changes)
-
   -- the rows whose seqs pass a test are those of the units that do
   kept_rows : (p : ℕ → Bool) (us : List LogUnit) → filter (λ r. p r.commitseq) (flat_map (change_rows reg) us) ≡ flat_map (change_rows reg) (filter (λ u. p u.head.seq) us)
   kept_rows p [] = refl
   kept_rows p (u ∷ us) = filter-append (λ (r : CdRow). p r.commitseq) (change_rows reg u) (flat_map (change_rows reg) us) ∙ pick (p u.head.seq) refl (kept_rows p us)
     where
       passes : (t : Bool) → p u.head.seq ≡ t → AllByRecursion (λ (r : CdRow). p r.commitseq ≡ t) (change_rows reg u)
-      passes t e = all_weaker (IsOf u.head.seq) (λ (r : CdRow). p r.commitseq ≡ t) (change_rows reg u) (λ r is. ap p is ∙ e) (of_unit u)
+      passes t e = all_weaker (IsOfUnit u) (λ (r : CdRow). p r.commitseq ≡ t) (change_rows reg u) (λ r is. ap p is ∙ e) (of_unit reg u)
 
       pick : (t : Bool) → p u.head.seq ≡ t → filter (λ (r : CdRow). p r.commitseq) (flat_map (change_rows reg) us) ≡ flat_map (change_rows reg) (filter (λ (v : LogUnit). p v.head.seq) us)
           → filter (λ (r : CdRow). p r.commitseq) (change_rows reg u) ++ filter (λ (r : CdRow). p r.commitseq) (flat_map (change_rows reg) us) ≡ flat_map (change_rows reg) (cond t (u ∷ filter (λ (v : LogUnit). p v.head.seq) us) (filter (λ (v : LogUnit). p v.head.seq) us))

@@ -1,9 +1,9 @@
 -- What is known of user copies as targets: which damage is shown of them, and that their rows aren't numbered.
-use Rattle.std.proofs.Common.{◌≡◌, ℕ, true, false, inl, inr, Option, None}
+use Rattle.std.proofs.Common.{◌≡◌, ℕ, true, false, inl, inr, refl, subst, Option, None}
 use Rattle.site_store.specs.Words.{Contents, shown_unseen}
 use Rattle.repl_model.specs.Words.{Area, DamageCause, TargetKind}
 use Rattle.repl_types.specs.declared.status.DamageCause.TheVariants as causes
-use Rattle.repl_definitions.specs.declared.member.TargetKind.TheVariants.{UserCopy, PointInTime, BaseAggregate, ChangeAggregate, Ccd, Replica}
+use Rattle.repl_definitions.specs.declared.member.TargetKind.TheVariants.{UserCopy}
 use Rattle.stored_commits.specs.actions.StoredSteps.{is_numbered}
 use Rattle.apply_copies.specs.ChangeRules.{change_source_rules}
 use Rattle.apply_copies.specs.Rules.{source_rules, target_rules}
@@ -21,11 +21,11 @@ no_rest_of_copies a steps saw (inl (inl h)) = h
 no_rest_of_copies a steps saw (inl (inr h)) = h
 no_rest_of_copies a steps saw (inr h) = h.1
 
+-- the kind that is taken is that of user copies
+pub kind_is : (kind : TargetKind) → is_user_copy kind ≡ true → UserCopy ≡ kind
+kind_is UserCopy is = refl
+kind_is kind is = absurd cc
+
 -- the rows of a user copy aren't numbered
 pub copies_unnumbered : (kind : TargetKind) → is_user_copy kind ≡ true → is_numbered kind ≡ false
-copies_unnumbered UserCopy is = λ i. false
-copies_unnumbered PointInTime is = absurd cc
-copies_unnumbered BaseAggregate is = absurd cc
-copies_unnumbered ChangeAggregate is = absurd cc
-copies_unnumbered (Ccd complete condensed) is = absurd cc
-copies_unnumbered Replica is = absurd cc
+copies_unnumbered kind is = subst (λ (k : TargetKind). is_numbered k ≡ false) (kind_is kind is) refl

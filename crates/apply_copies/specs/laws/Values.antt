@@ -1,10 +1,11 @@
 -- The values that expressions have are values, and rows that are made of them are rows.
-use Rattle.std.proofs.Common.{◌≡◌, ℕ, zero, suc, ◌-◌, ◌≤◌, ◌^◌, ℤ, pos, negsuc, Bool, true, false, cond, nat_le, leb, List, [], ◌∷◌, ◌++◌, length, get_or, refl, sym, subst, arith, ◌+ℤ◌, ◌-ℤ◌, ◌*ℤ◌, Option, Some, None, w64, FitsSigned}
+use Rattle.std.proofs.Common.{◌≡◌, suc, ◌-◌, ◌≤◌, ◌^◌, ℤ, pos, negsuc, Bool, true, false, cond, nat_le, leb, List, [], ◌∷◌, ◌++◌, length, refl, sym, subst, arith, ◌+ℤ◌, ◌-ℤ◌, ◌*ℤ◌, Option, Some, None, w64, FitsSigned}
 use Rattle.std.specs.List.{AllByRecursion, filter_map, cons_option}
 use Rattle.std.proofs.lemmas.Bool.{and_parts, leb-true}
 use Rattle.std.proofs.lemmas.Str.{IsUtf8-append}
 use Rattle.repl_model.specs.Words.{text_limit, Values, IsValue, Value, ExprNode, IsExprNode, expr_layer_top, expr_layer_below, expr_nodes, IsExpr, IsSource, IsTargetColumn, IsMember, Expr, Expr-F, fold-roll-Expr, ind-Expr, map-Expr, roll-Expr, ColumnFrom, Member, TargetColumn, has_64_bits, integer, of_integers, of_texts, layer_value, value_of, plain_value, target_row, all_parts}
 use Rattle.world_store.specs.Words.{IsRow}
+use Rattle.cd_tables.specs.laws.SoundChanges.{value_at}
 use Rattle.repl_types.specs.declared.value.Value.TheVariants.{Null, Int, Text}
 use Rattle.repl_definitions.specs.declared.expr.Expr.TheOpen as layer
 use Rattle.repl_definitions.specs.declared.member.ColumnFrom.TheVariants.{Plain, Count, CountOf, Sum, Min, Max}
@@ -44,12 +45,6 @@ texts_fit Null w fv fw = tt
 texts_fit (Int n) w fv fw = tt
 
 -- ---- expressions
-
--- a value of a row of values is one, and past its end NULL is
-pub value_at : (row : Values) (place : ℕ) → AllByRecursion IsValue row → IsValue (get_or row place Null)
-value_at [] place all = tt
-value_at (v ∷ row) zero all = all.0
-value_at (v ∷ row) (suc place) all = value_at row place all.1
 
 module _ (row : Values) (all : AllByRecursion IsValue row) where
   -- the value of an expression is a value, if its literals are

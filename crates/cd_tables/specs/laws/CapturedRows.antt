@@ -1,13 +1,14 @@
 -- The tables of contents that have what a server captured.
-use Rattle.std.proofs.Common.{◌≡◌, ℕ, Bool, true, false, cond, ◌&&◌, List, [], ◌∷◌, map, refl, sym, ap, ◌∙◌, max, nat_lt, nat_le, filter, Option, Some, None, slice_get}
+use Rattle.std.proofs.Common.{◌≡◌, ℕ, Bool, true, false, ◌&&◌, List, [], ◌∷◌, map, refl, sym, ap, ◌∙◌, max, nat_lt, nat_le, filter, Option, Some, None, slice_get}
 use Rattle.std.specs.Option.{option_map, option_map_or, option_and_then}
 use Rattle.world_store.specs.Words.{change_row_spelling, change_key_spelling, UowRow, table_from_rows}
 use Rattle.site_store.specs.Words.{Contents, Table}
-use Rattle.repl_model.specs.Words.{units_between, units, Registered, Server, ServerTable, filter_images}
+use Rattle.repl_model.specs.Words.{units_between, units, Registered, Server, ServerTable, filter_alike, filter_images}
 use Rattle.repl_types.specs.declared.unit.Unit.{Unit as LogUnit}
 use Rattle.stored_commits.specs.units.StoredCaptures.{HasCaptured}
 use Rattle.cd_tables.specs.Captured.{shown_head, unit_row, captured_units, next_captured, captured_changes}
 use Rattle.cd_tables.specs.Finding.{first_unit}
+use Rattle.cd_tables.specs.laws.InOrder.{all_always, filter_and}
 use Rattle.cd_tables.specs.StoredRows.{first_of, HasChangeRows, HasUnitRows, head_of}
 use Rattle.stored_commits.specs.laws.RowsSoFar.{below_higher}
 
@@ -22,15 +23,6 @@ has_changes server c has n t r at is = has.changes n ∙ ap (λ (o : Option Serv
     stored : Registered → Table
     stored q = table_from_rows change_key_spelling change_row_spelling (captured_changes server q)
 
--- a filter of what a filter keeps is the filter by both tests
-filter_both : {X : Type 0} (p q r : X → Bool) → ((x : X) → (q x && p x) ≡ r x) → (xs : List X) → filter p (filter q xs) ≡ filter r xs
-filter_both p q r both [] = refl
-filter_both {X} p q r both (x ∷ xs) = pick (q x) refl (p x) refl (filter_both p q r both xs)
-  where
-    pick : (s : Bool) → q x ≡ s → (t : Bool) → p x ≡ t → filter p (filter q xs) ≡ filter r xs → filter p (cond s (x ∷ filter q xs) (filter q xs)) ≡ cond (r x) (x ∷ filter r xs) (filter r xs)
-    pick true e t f rest = ap (λ (b : Bool). cond b (x ∷ filter p (filter q xs)) (filter p (filter q xs))) (ap (λ (b : Bool). b && p x) (sym e) ∙ both x) ∙ ap (λ (l : List X). cond (r x) (x ∷ l) l) rest
-    pick false e t f rest = rest ∙ ap (λ (b : Bool). cond b (x ∷ filter r xs) (filter r xs)) (ap (λ (b : Bool). b && p x) (sym e) ∙ both x)
-
 -- the first image is that of the first
 first_image : {X Y : Type 0} (f : X → Y) (xs : List X) → first_of (map f xs) ≡ option_map f (first_of xs)
 first_image f [] = refl
@@ -42,10 +34,16 @@ first_captured after server =
     ap (λ (l : List (ℕ × UowRow)). option_map head_of (first_of l)) (filter_images (unit_row server) (λ r. nat_lt after r.0) there)
     ∙ ap (option_map head_of) (first_image (unit_row server) (filter (λ u. nat_lt after u.head.seq) there))
     ∙ heads (first_of (filter (λ u. nat_lt after u.head.seq) there))
-    ∙ ap (λ (l : List LogUnit). option_map (shown_head server) (first_of l)) (filter_both (λ u. nat_lt after u.head.seq) (λ u. nat_lt server.floor u.head.seq && nat_le u.head.seq server.captured) (λ u. nat_lt (max after server.floor) u.head.seq && nat_le u.head.seq server.captured) (λ u. moved (nat_lt server.floor u.head.seq) (nat_le u.head.seq server.captured) (nat_lt after u.head.seq) ∙ ap (λ (b : Bool). b && nat_le u.head.seq server.captured) (sym (below_higher after server.floor u.head.seq))) (units server.log))
+    ∙ ap (λ (l : List LogUnit). option_map (shown_head server) (first_of l)) (sym (filter_and within (λ u. nat_lt after u.head.seq) (units server.log)) ∙ filter_alike (λ u. within u && nat_lt after u.head.seq) next (units server.log) (all_always (λ u. (within u && nat_lt after u.head.seq) ≡ next u) alike (units server.log)))
   where
     there : List LogUnit
     there = units_between server.floor server.captured server.log
+
+    within : LogUnit → Bool
+    within u = nat_lt server.floor u.head.seq && nat_le u.head.seq server.captured
+
+    next : LogUnit → Bool
+    next u = nat_lt (max after server.floor) u.head.seq && nat_le u.head.seq server.captured
 
     heads : (o : Option LogUnit) → option_map head_of (option_map (unit_row server) o) ≡ option_map (shown_head server) o
     heads None = refl
@@ -56,7 +54,8 @@ first_captured after server =
     moved true true false = refl
     moved true false true = refl
     moved true false false = refl
-    moved false true true = refl
-    moved false true false = refl
-    moved false false true = refl
-    moved false false false = refl
+    moved false l true = refl
+    moved false l false = refl
+
+    alike : (u : LogUnit) → (within u && nat_lt after u.head.seq) ≡ next u
+    alike u = moved (nat_lt server.floor u.head.seq) (nat_le u.head.seq server.captured) (nat_lt after u.head.seq) ∙ ap (λ (b : Bool). b && nat_le u.head.seq server.captured) (sym (below_higher after server.floor u.head.seq))

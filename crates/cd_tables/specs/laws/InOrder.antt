@@ -1,8 +1,8 @@
 -- Lists in which each element stands in a relation to each later one.
-use Rattle.std.proofs.Common.{◌≡◌, ℕ, ◌<◌, Bool, true, false, cond, List, [], ◌∷◌, ◌++◌, map, Option, Some, None, arith, IfSome, Less}
-use Rattle.std.specs.List.{AllByRecursion, filter, filter_map, flat_map, cons_option}
+use Rattle.std.proofs.Common.{◌≡◌, ℕ, ◌<◌, Bool, true, false, cond, ◌&&◌, List, [], ◌∷◌, ◌++◌, map, refl, ap, Less}
+use Rattle.std.specs.List.{AllByRecursion, filter, flat_map}
 use Rattle.world_store.specs.Words.{IsRising}
-use Rattle.repl_model.specs.Words.{bytes_cmp, all_weaker, all_append, all_filter, each_image, each_given, all_flat_map}
+use Rattle.repl_model.specs.Words.{bytes_cmp, all_weaker, all_append, each_image, all_flat_map}
 
 -- each element stands in a relation to each later one
 abbrev pub InOrder : {X : Type 0} → (X → X → Type 0) → List X → Type 0
@@ -18,27 +18,19 @@ pub all_always : {X : Type 0} (P : X → Type 0) → ((x : X) → P x) → (xs :
 all_always P f [] = tt
 all_always P f (x ∷ xs) = (f x, all_always P f xs)
 
--- what a filter keeps of a list in order is in order
-pub filter_in_order : {X : Type 0} (R : X → X → Type 0) (p : X → Bool) (xs : List X) → InOrder R xs → InOrder R (filter p xs)
-filter_in_order R p [] order = tt
-filter_in_order {X} R p (x ∷ xs) order = pick (p x) (filter_in_order R p xs order.1)
+-- what follows from two things holds of each element of which both hold
+pub all_both : {X : Type 0} (P Q R : X → Type 0) (xs : List X) → ((x : X) → P x → Q x → R x) → AllByRecursion P xs → AllByRecursion Q xs → AllByRecursion R xs
+all_both P Q R [] f ps qs = tt
+all_both P Q R (x ∷ xs) f ps qs = (f x ps.0 qs.0, all_both P Q R xs f ps.1 qs.1)
+
+-- a filter by two tests is one of what a filter by the other keeps
+pub filter_and : {X : Type 0} (q p : X → Bool) (xs : List X) → filter (λ x. q x && p x) xs ≡ filter p (filter q xs)
+filter_and q p [] = refl
+filter_and {X} q p (x ∷ xs) = pick (q x) (filter_and q p xs)
   where
-    pick : (t : Bool) → InOrder R (filter p xs) → InOrder R (cond t (x ∷ filter p xs) (filter p xs))
-    pick true rest = (all_filter (R x) p xs order.0, rest)
+    pick : (s : Bool) → filter (λ y. q y && p y) xs ≡ filter p (filter q xs) → cond (s && p x) (x ∷ filter (λ y. q y && p y) xs) (filter (λ y. q y && p y) xs) ≡ filter p (cond s (x ∷ filter q xs) (filter q xs))
+    pick true rest = ap (λ (l : List X). cond (p x) (x ∷ l) l) rest
     pick false rest = rest
-
--- what a function gives of elements whose numbers rise has numbers that rise, if each keeps its number
-pub given_rise : {X Y : Type 0} (f : X → Option Y) (at : X → ℕ) (of : Y → ℕ) → ((x : X) → IfSome (f x) (λ y. of y ≡ at x)) → (xs : List X) → InOrder (Below at) xs → InOrder (Below of) (filter_map f xs)
-given_rise f at of same [] order = tt
-given_rise {X} {Y} f at of same (x ∷ xs) order = pick (f x) (same x) (given_rise f at of same xs order.1)
-  where
-    later : (y : Y) (z : X) (o : Option Y) → of y ≡ at x → at x < at z → IfSome o (λ v. of v ≡ at z) → IfSome o (Below of y)
-    later y z None is lt e = tt
-    later y z (Some v) is lt e = omega (arith, is, lt, e)
-
-    pick : (o : Option Y) → IfSome o (λ y. of y ≡ at x) → InOrder (Below of) (filter_map f xs) → InOrder (Below of) (cons_option o (filter_map f xs))
-    pick None is rest = rest
-    pick (Some y) is rest = (each_given (Below of y) f xs (all_weaker (Below at x) (λ z. IfSome (f z) (Below of y)) xs (λ z lt. later y z (f z) is lt (same z)) order.0), rest)
 
 -- two lists in order are in order, one after the other, if each element of the one comes before those of the other
 pub append_in_order : {X : Type 0} (R : X → X → Type 0) (xs ys : List X) → InOrder R xs → InOrder R ys → AllByRecursion (λ x. AllByRecursion (R x) ys) xs → InOrder R (xs ++ ys)
@@ -57,8 +49,7 @@ lists_in_order {X} {Y} R S Of f step own (x ∷ xs) all order = append_in_order 
 -- rows of elements in order rise, if the key of an element's row is before those of later ones
 pub rows_rise : {X A Y : Type 0} (R : X → X → Type 0) (fits : X → Type 0) (key : A → List ℕ) (row : X → A × Y) → ((x z : X) → fits x → fits z → R x z → bytes_cmp (key (row x).0) (key (row z).0) ≡ Less) → (xs : List X) → AllByRecursion fits xs → InOrder R xs → IsRising key (map row xs)
 rows_rise R fits key row before [] all order = tt
-rows_rise {X} R fits key row before (x ∷ xs) all order = (each_image (λ r. bytes_cmp (key (row x).0) (key r.0) ≡ Less) row xs (later xs all.1 order.0), rows_rise R fits key row before xs all.1 order.1)
-  where
-    later : (zs : List X) → AllByRecursion fits zs → AllByRecursion (R x) zs → AllByRecursion (λ z. bytes_cmp (key (row x).0) (key (row z).0) ≡ Less) zs
-    later [] fit above = tt
-    later (z ∷ zs) fit above = (before x z all.0 fit.0 above.0, later zs fit.1 above.1)
+rows_rise R fits key row before (x ∷ xs) all order = (
+  each_image (λ r. bytes_cmp (key (row x).0) (key r.0) ≡ Less) row xs (all_both fits (R x) (λ z. bytes_cmp (key (row x).0) (key (row z).0) ≡ Less) xs (λ z fit r. before x z all.0 fit r) all.1 order.0),
+  rows_rise R fits key row before xs all.1 order.1,
+)

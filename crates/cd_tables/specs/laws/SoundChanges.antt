@@ -4,18 +4,18 @@ use Rattle.std.specs.List.{AllByRecursion}
 use Rattle.std.specs.Cmp.{nat_cmp_is}
 use Rattle.std.specs.Ordering.{nat_cmp, ordering_then}
 use Rattle.std.proofs.lemmas.List.{length-map}
-use Rattle.std.proofs.lemmas.Option.{same_Some}
 use Rattle.std.proofs.lemmas.Bool.{and_parts}
 use Rattle.world_store.specs.Words.{Is16, Is64, IsRow, IsChange, whole_order, IsChangeKey, change_key_spelling, change_key_cmp, IsChangeRow, order_change_key, RowFits}
-use Rattle.repl_model.specs.Words.{each_image, bytes_cmp, Values, images, IsValue, all_weaker, Change, CdRow, Registration, Placed, RegistrationKeepsRules, all_places, are_among, places_rise, table_of, units_between, shows_nothing, insert_row, update_row, delete_row, rows_of, rows_of_placed, change_rows, changes_between, LogIsSound, KeepsTable, Registered, Server, ServerTable, among_below, among_first, rising_few, all_flat_map}
+use Rattle.repl_model.specs.Words.{each_image, bytes_cmp, Values, images, IsValue, all_weaker, Change, CdRow, Registration, Placed, RegistrationKeepsRules, all_places, are_among, places_rise, table_of, units_between, shows_nothing, insert_row, update_row, delete_row, rows_of, rows_of_placed, change_rows, changes_between, LogIsSound, KeepsTable, Registered, Server, ServerTable, among_below, among_first, rising_few, at_place_in, at_one, all_flat_map}
 use Rattle.repl_types.specs.declared.record.Change.TheVariants.{Insert, Update, Delete, Start, Stop}
 use Rattle.repl_types.specs.declared.unit.Unit.{Unit as LogUnit}
 use Rattle.repl_types.specs.declared.value.Value.TheVariants.{Null}
 use Rattle.stored_commits.specs.units.StoredChanges.{stored_change}
+use Rattle.stored_commits.specs.laws.CapturedUnits.{place_of}
 use Rattle.cd_tables.specs.Captured.{ServerIsSound, captured_changes}
 use Rattle.cd_tables.specs.StoredRows.{AreChangeRows}
 use Rattle.cd_tables.specs.laws.InOrder.{InOrder, Below, all_always, lists_in_order, rows_rise}
-use Rattle.cd_tables.specs.laws.SoundUnits.{ChangeFits, UnitFits, place_of, seq_of, between_fit, between_rise}
+use Rattle.cd_tables.specs.laws.SoundUnits.{ChangeFits, UnitFits, seq_of, between_fit, between_rise}
 
 -- a change row has a spelling, under a key that has one
 abbrev pub ChangeRowFits : CdRow → Type 0
@@ -45,7 +45,7 @@ has_few_columns t reg keeps rules =
 -- ---- images
 
 -- the value at a place of a row of values, or NULL, is a value
-value_at : (row : Values) (place : ℕ) → AllByRecursion IsValue row → IsValue (slice_index_or row place Null)
+pub value_at : (row : Values) (place : ℕ) → AllByRecursion IsValue row → IsValue (slice_index_or row place Null)
 value_at [] place all = tt
 value_at (v ∷ vs) zero all = all.0
 value_at (v ∷ vs) (suc place) all = value_at vs place all.1
@@ -78,7 +78,7 @@ Precedes q r = (q.commitseq < r.commitseq)
     ⊎ ((q.intentseq.position ≡ r.intentseq.position) × (q.intentseq.sub < r.intentseq.sub))))
 
 -- a change row is of a unit
-abbrev IsOfUnit : LogUnit → CdRow → Type 0
+abbrev pub IsOfUnit : LogUnit → CdRow → Type 0
 IsOfUnit u r = r.commitseq ≡ u.head.seq
 
 -- a change row is of a change in a unit with this seq
@@ -149,7 +149,7 @@ module _ (reg : Registration) where
   -- ---- the rows of a unit
 
   -- the rows of a unit are of the unit
-  of_unit : (u : LogUnit) → AllByRecursion (IsOfUnit u) (change_rows reg u)
+  pub of_unit : (u : LogUnit) → AllByRecursion (IsOfUnit u) (change_rows reg u)
   unfolding change_rows
   of_unit u = all_flat_map (IsOfUnit u) (rows_of_placed reg u.head.seq) u.changes (all_always (λ placed. AllByRecursion (IsOfUnit u) (rows_of_placed reg u.head.seq placed)) (λ placed.
       of_own reg u.head.seq (AllByRecursion (IsOfUnit u)) placed tt (all_weaker (IsOfChange u.head.seq placed) (IsOfUnit u) (rows_of reg u.head.seq placed.pos placed.change) (λ r is. is.0) (of_change reg u.head.seq placed placed.change))) u.changes)
@@ -215,18 +215,12 @@ key_precedes q r fit more before = whole_order IsChangeKey change_key_spelling c
 
 -- ---- the change rows of a registration
 
--- what holds of each element holds of what stands at a place
-at_place : {X : Type 0} (P : X → Type 0) (xs : List X) (n : ℕ) (x : X) → slice_get xs n ≡ Some x → AllByRecursion P xs → P x
-at_place P [] n x is all = absurd cc
-at_place {X} P (y ∷ ys) zero x is all = subst P (same_Some y x is) all.0
-at_place P (y ∷ ys) (suc n) x is all = at_place P ys n x is all.1
-
 -- the change rows that a sound server has captured of a registration are rows as they stand in a table
 pub change_rows_are : (server : Server) → ServerIsSound server → (n : ℕ) (t : ServerTable) (r : Registered) → slice_get server.tables n ≡ Some t → t.registered ≡ Some r → AreChangeRows (captured_changes server r)
 change_rows_are server sound n t r at is = pick r.active
   where
     keeps : KeepsTable t
-    keeps = at_place KeepsTable server.tables n t at sound.tables
+    keeps = at_one KeepsTable server.tables t sound.tables (at_place_in server.tables n t at)
 
     few : HasFewColumns r.reg
     few = has_few_columns t r.reg keeps (subst (λ (o : Option Registered). IfSome o (λ q. RegistrationKeepsRules t.def q.reg)) is keeps.2)

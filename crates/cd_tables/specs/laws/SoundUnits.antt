@@ -1,26 +1,29 @@
 -- The units of a sound log, and the rows of the captured ones.
-use Rattle.std.proofs.Common.{◌≡◌, ℕ, ◌+◌, ◌<◌, ◌≤◌, ◌^◌, Bool, true, false, cond, ◌&&◌, List, [], ◌∷◌, Some, None, refl, arith, ◌==◌, nat_lt, nat_le, IfSome, find, nat_cmp}
-use Rattle.std.specs.List.{AllByRecursion, filter, enumerate_from}
+use Rattle.std.proofs.Common.{◌≡◌, ℕ, ◌<◌, ◌≤◌, ◌^◌, Bool, true, false, cond, ◌&&◌, List, [], ◌∷◌, length, Some, refl, arith, ◌==◌, nat_lt, nat_le, IfSome, find, nat_cmp}
+use Rattle.std.specs.List.{AllByRecursion}
 use Rattle.std.specs.Option.{option_map_or}
 use Rattle.world_store.specs.Words.{Is64, IsName, IsOrigin, b64, IsChange, IsLogRecord, whole_order, order64, IsUow, IsCode, key_before, RowFits}
-use Rattle.repl_model.specs.Words.{all_weaker, all_filter, LogRecord, Placed, At, positions, last_end, change_of, changes_up_to, unit_at, units, units_between, LogIsSound, Server, code_in, all_numbered, each_image, each_given}
+use Rattle.repl_model.specs.Words.{all_weaker, all_filter, Change, LogRecord, Placed, At, positions, unit_at, units, units_between, LogIsSound, Server, code_in, all_numbered, each_image, each_given}
 use Rattle.repl_types.specs.declared.record.LogRecord.TheVariants as records
 use Rattle.repl_types.specs.declared.unit.Unit.{Unit as LogUnit}
+use Rattle.stored_commits.specs.laws.LoggedRows.{RecordHas, UnitHas, units_have}
+use Rattle.stored_commits.specs.laws.CapturedUnits.{place_of, StandsWithin, units_within}
+use Rattle.stored_commits.specs.laws.Rising.{numbered_rise, filter_rises, given_rises}
 use Rattle.cd_tables.specs.Captured.{ServerIsSound, unit_row, captured_units}
 use Rattle.cd_tables.specs.StoredRows.{AreUnitRows}
-use Rattle.cd_tables.specs.laws.InOrder.{InOrder, Below, filter_in_order, given_rise, rows_rise}
+use Rattle.cd_tables.specs.laws.InOrder.{InOrder, Below, all_both, rows_rise}
 
 -- the number of a unit
 abbrev pub seq_of : LogUnit → ℕ
 seq_of u = u.head.seq
 
--- the number of a change
-abbrev pub place_of : Placed → ℕ
-place_of placed = placed.pos
+-- a change of a transaction, in its ranges
+abbrev HasRanges : Change → Type 0
+HasRanges change = (tx : ℕ) × IsChange tx change
 
--- the change is one of a transaction, in its ranges, at a position of eight bytes
+-- it is at a position of eight bytes
 abbrev pub ChangeFits : Placed → Type 0
-ChangeFits placed = Is64 placed.pos × ((tx : ℕ) × IsChange tx placed.change)
+ChangeFits placed = Is64 placed.pos × HasRanges placed.change
 
 -- A unit's names are names, its numbers have eight bytes, and its changes are in their ranges and rise by their
 -- positions.
@@ -32,82 +35,46 @@ pub record UnitFits (u : LogUnit) : Type 0 where
   pub rise : InOrder (Below place_of) u.changes
   pub changes : AllByRecursion ChangeFits u.changes
 
--- the records of a log are in their ranges, at positions of eight bytes
-abbrev RecordsFit : List LogRecord → Type 0
-RecordsFit log = AllByRecursion (RowFits Is64 IsLogRecord) (positions log)
+-- the names and the time of a unit are in their ranges
+abbrev HeadFits : LogUnit → Type 0
+HeadFits u = Is64 u.head.time × IsName u.head.authid × IsOrigin u.head.origin
 
--- numbered things are above a number before theirs
-numbered_above : {X : Type 0} (n b : ℕ) (xs : List X) → n < b → AllByRecursion (λ (r : ℕ × X). n < r.0) (enumerate_from b xs)
-numbered_above n b [] lt = tt
-numbered_above n b (x ∷ xs) lt = (lt, numbered_above n (b + 1) xs (omega arith))
+-- a record's change is in its ranges if the record is
+change_fits : (r : LogRecord) → IsLogRecord r → RecordHas HasRanges r
+change_fits (records.Change tx change) fit = (tx, fit)
+change_fits (records.Commit tx time authid origin) fit = tt
+change_fits (records.Abort tx) fit = tt
 
--- their numbers rise
-numbered_rise : {X : Type 0} (b : ℕ) (xs : List X) → InOrder (Below (λ (r : ℕ × X). r.0)) (enumerate_from b xs)
-numbered_rise b [] = tt
-numbered_rise b (x ∷ xs) = (numbered_above b (b + 1) xs (omega arith), numbered_rise (b + 1) xs)
+module _ (log : List LogRecord) (short : length log < 2 ^ 64) (typed : AllByRecursion IsLogRecord log) where
+  -- so is what a commit says of its unit
+  head_fits : (pos : ℕ) (r : LogRecord) → IsLogRecord r → IfSome (unit_at log (pos, r)) HeadFits
+  head_fits pos (records.Change tx change) fit = tt
+  head_fits pos (records.Commit tx time authid origin) fit = (fit.1, fit.2, fit.3)
+  head_fits pos (records.Abort tx) fit = tt
 
-module _ (tx : ℕ) where
-  -- a change has the position of its record
-  change_place : (r : At) → IfSome (change_of tx r) (λ placed. placed.pos ≡ r.0)
-  change_place (pos, records.Change t change) = pick (t == tx)
+  heads_fit : AllByRecursion HeadFits (units log)
+  unfolding units
+  heads_fit = each_given HeadFits (unit_at log) (positions log) (all_numbered IsLogRecord (λ (r : At). IfSome (unit_at log r) HeadFits) (2 ^ 64) 1 log (omega (arith, short)) typed (λ pos r lt fit. head_fits pos r fit))
+
+  -- so all units of the log are in their ranges
+  units_fit : AllByRecursion UnitFits (units log)
+  units_fit = all_both HeadFits (λ u. StandsWithin (length log) u × UnitHas HasRanges u) UnitFits (units log) unit_fits heads_fit
+      (all_both (StandsWithin (length log)) (UnitHas HasRanges) (λ u. StandsWithin (length log) u × UnitHas HasRanges u) (units log) (λ u within have. (within, have)) (units_within log) (units_have HasRanges log (all_weaker IsLogRecord (RecordHas HasRanges) log change_fits typed)))
     where
-      it : Placed
-      it = record { pos = pos; change = change }
-
-      pick : (own : Bool) → IfSome (cond own (Some it) None) (λ placed. placed.pos ≡ pos)
-      pick true = refl
-      pick false = tt
-  change_place (pos, records.Commit t time authid origin) = tt
-  change_place (pos, records.Abort t) = tt
-
-  -- and is in its ranges if the record is
-  change_fits : (r : At) → RowFits Is64 IsLogRecord r → IfSome (change_of tx r) ChangeFits
-  change_fits (pos, records.Change t change) fit = pick (t == tx)
-    where
-      it : Placed
-      it = record { pos = pos; change = change }
-
-      pick : (own : Bool) → IfSome (cond own (Some it) None) ChangeFits
-      pick true = (fit.0, (t, fit.1))
-      pick false = tt
-  change_fits (pos, records.Commit t time authid origin) fit = tt
-  change_fits (pos, records.Abort t) fit = tt
-
-  module _ (before : ℕ) (log : List LogRecord) where
-    -- a record stands after the last end of the transaction, and before a position
-    abbrev is_open : At → Bool
-    is_open r = nat_lt (last_end tx before log) r.0 && nat_lt r.0 before
-
-    -- the changes of a transaction rise by their positions
-    changes_rise : InOrder (Below place_of) (changes_up_to tx before log)
-    changes_rise = given_rise (change_of tx) (λ r. r.0) place_of change_place (filter is_open (positions log)) (filter_in_order (Below (λ (r : At). r.0)) is_open (positions log) (numbered_rise 1 log))
-
-    -- and are in their ranges
-    changes_fit : RecordsFit log → AllByRecursion ChangeFits (changes_up_to tx before log)
-    changes_fit fit = each_given ChangeFits (change_of tx) (filter is_open (positions log)) (all_filter (λ (r : At). IfSome (change_of tx r) ChangeFits) is_open (positions log) (all_weaker (RowFits Is64 IsLogRecord) (λ (r : At). IfSome (change_of tx r) ChangeFits) (positions log) change_fits fit))
-
--- the unit that a record ends is in its ranges
-unit_fits : (log : List LogRecord) → RecordsFit log → (r : At) → RowFits Is64 IsLogRecord r → IfSome (unit_at log r) UnitFits
-unit_fits log all (pos, records.Change tx change) fit = tt
-unit_fits log all (pos, records.Commit tx time authid origin) fit = record {
-  seq = fit.0;
-  time = fit.1.1;
-  authid = fit.1.2;
-  origin = fit.1.3;
-  rise = changes_rise tx pos log;
-  changes = changes_fit tx pos log all;
-}
-unit_fits log all (pos, records.Abort tx) fit = tt
-
--- so are all units of a log
-units_fit : (log : List LogRecord) → RecordsFit log → AllByRecursion UnitFits (units log)
-unfolding units
-units_fit log all = each_given UnitFits (unit_at log) (positions log) (all_weaker (RowFits Is64 IsLogRecord) (λ (r : At). IfSome (unit_at log r) UnitFits) (positions log) (unit_fits log all) all)
+      unit_fits : (u : LogUnit) → HeadFits u → StandsWithin (length log) u × UnitHas HasRanges u → UnitFits u
+      unit_fits u head has = record {
+        seq = omega (arith, short, has.0.seq);
+        time = head.0;
+        authid = head.1;
+        origin = head.2;
+        rise = has.0.rise;
+        changes = all_both (λ placed. placed.pos ≤ length log) (λ placed. HasRanges placed.change) ChangeFits u.changes (λ placed le fit. (omega (arith, short, le), fit)) has.0.within has.1;
+      }
 
 -- their seqs rise
 units_rise : (log : List LogRecord) → InOrder (Below seq_of) (units log)
 unfolding units
-units_rise log = given_rise (unit_at log) (λ r. r.0) seq_of seq_is (positions log) (numbered_rise 1 log)
+units_rise log = given_rises (unit_at log) (λ r. r.0) seq_of seq_is (positions log) (numbered_rise 1 log)
   where
     seq_is : (r : At) → IfSome (unit_at log r) (λ u. u.head.seq ≡ r.0)
     seq_is (pos, records.Change tx change) = tt
@@ -121,11 +88,11 @@ module _ (server : Server) (sound : LogIsSound server) (low high : ℕ) where
 
   -- the units between two points of a sound log are in their ranges
   pub between_fit : AllByRecursion UnitFits (units_between low high server.log)
-  between_fit = all_filter UnitFits is_between (units server.log) (units_fit server.log (all_numbered IsLogRecord (RowFits Is64 IsLogRecord) (2 ^ 64) 1 server.log (omega (arith, sound.short)) sound.typed (λ m x lt fits. (lt, fits))))
+  between_fit = all_filter UnitFits is_between (units server.log) (units_fit server.log (omega (arith, sound.short)) sound.typed)
 
   -- and their seqs rise
   pub between_rise : InOrder (Below seq_of) (units_between low high server.log)
-  between_rise = filter_in_order (Below seq_of) is_between (units server.log) (units_rise server.log)
+  between_rise = filter_rises seq_of is_between (units server.log) (units_rise server.log)
 
 -- ---- the unit-of-work table
 

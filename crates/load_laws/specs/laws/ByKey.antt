@@ -1,12 +1,12 @@
 -- Entries in the order of their keys: what stands in a table of them, and which they are.
-use Rattle.std.proofs.Common.{◌≡◌, ◌⊎◌, inl, inr, ℕ, Bool, true, false, cond, List, [], ◌∷◌, ◌++◌, length, Option, Some, refl, sym, ap, subst, ◌∙◌, arith, not, fold, Ordering, Less, Equal, Greater, length-append, append_assoc, append-nil}
+use Rattle.std.proofs.Common.{◌≡◌, ◌⊎◌, inl, inr, ℕ, Bool, true, List, [], ◌∷◌, ◌++◌, length, Some, refl, sym, ap, subst, ◌∙◌, arith, not, fold, Ordering, Less, Equal, Greater, length-append, append_assoc, append-nil}
 use Rattle.std.specs.List.{AllByRecursion, list_any}
 use Rattle.std.specs.FinMap.Entries.{by_order, put}
 use Rattle.std.proofs.lemmas.Bool.{and_parts}
 use Rattle.std.proofs.lemmas.List.Sums.{fold_push}
 use Rattle.std.proofs.lemmas.Map.Lookups.{exact_bytes}
-use Rattle.world_store.specs.Words.{Any, table_from_rows, same_is, same_itself, RowFits, by_key_fits, no_rows, tied_not_greater}
-use Rattle.repl_model.specs.Words.{bytes_cmp, all_differ, by_key, In, in_either, in_first, in_second, first_alone}
+use Rattle.world_store.specs.Words.{Any, put_table, table_from_rows, same_itself, RowFits, by_key_fits, no_rows}
+use Rattle.repl_model.specs.Words.{all_weaker, bytes_cmp, all_differ, by_key, In, in_either, in_first, in_second, first_alone}
 use Rattle.keep_core.specs.Contents.{Table, same_key, set_key}
 use Rattle.load_laws.specs.planned.Planned.{with_rows}
 
@@ -48,33 +48,6 @@ front_differs {X} same (z ∷ zs) x back differ y (inl is) e = first_alone same 
 front_differs same (z ∷ zs) x back differ y (inr i) e = front_differs same zs x back (and_parts (not (list_any (same z) (zs ++ x ∷ back))) (all_differ same (zs ++ x ∷ back)) differ).1 y i e
 
 module _ {K X : Type 0} (key : K → List ℕ) (key_fits : K → Type 0) (cmp : K → K → Ordering) (in_order : (x y : K) → key_fits x → key_fits y → bytes_cmp (key x) (key y) ≡ cmp x y) where
-  -- what is put stands at its key, and the rest as it did
-  put_stands : (value : X → List ℕ) (k : K) (v : X) (rows : List (K × X)) (q : List ℕ) → key_fits k → AllByRecursion (RowFits key_fits Any) rows → table_from_rows key value (put cmp k v rows) q ≡ set_key (table_from_rows key value rows) (key k) (Some (value v)) q
-  put_stands value k v [] q fits all = refl
-  put_stands value k v (r ∷ rs) q fits all = by_cmp (cmp k r.0) (in_order k r.0 fits all.0.0) (put_stands value k v rs q fits all.1)
-    where
-      rest : Option (List ℕ)
-      rest = table_from_rows key value rs q
-
-      hidden : (b : Bool) → cond b (Some (value v)) rest ≡ cond b (Some (value v)) (cond b (Some (value r.1)) rest)
-      hidden true = refl
-      hidden false = refl
-
-      turned : (a b : Bool) → (a ≡ true → b ≡ true → ⊥) → cond a (Some (value r.1)) (cond b (Some (value v)) rest) ≡ cond b (Some (value v)) (cond a (Some (value r.1)) rest)
-      turned true true apart = absurd (apart refl refl)
-      turned true false apart = refl
-      turned false b apart = refl
-
-      by_cmp : (o : Ordering) → bytes_cmp (key k) (key r.0) ≡ o → table_from_rows key value (put cmp k v rs) q ≡ cond (same_key (key k) q) (Some (value v)) rest
-          → table_from_rows key value (by_order o ((k, v) ∷ r ∷ rs) ((r.0, v) ∷ rs) (r ∷ put cmp k v rs)) q ≡ cond (same_key (key k) q) (Some (value v)) (cond (same_key (key r.0) q) (Some (value r.1)) rest)
-      by_cmp Less e later = refl
-      by_cmp Equal e later =
-          let same : key k ≡ key r.0 = exact_bytes (key k) (key r.0) e in
-          hidden (same_key (key r.0) q) ∙ ap (λ (l : List ℕ). cond (same_key l q) (Some (value v)) (cond (same_key (key r.0) q) (Some (value r.1)) rest)) (sym same)
-      by_cmp Greater e later =
-          ap (cond (same_key (key r.0) q) (Some (value r.1))) later
-          ∙ turned (same_key (key r.0) q) (same_key (key k) q) (λ a b. tied_not_greater (key k) (key r.0) (same_is (key k) q b ∙ sym (same_is (key r.0) q a)) e)
-
   -- a row whose key no other has gets a place among them
   put_between : (k : K) (v : X) (rows : List (K × X)) → key_fits k → AllByRecursion (RowFits key_fits Any) rows → ((r : K × X) → In r rows → key r.0 ≡ key k → ⊥) → (front : List (K × X)) × (back : List (K × X)) × (rows ≡ front ++ back) × (put cmp k v rows ≡ front ++ (k, v) ∷ back)
   put_between k v [] fits all other = ([], [], refl, refl)
@@ -114,7 +87,8 @@ module _ {K X : Type 0} (key : K → List ℕ) (key_fits : K → Type 0) (cmp : 
       ∙ ap (λ (t : Table). with_rows key value es t) (ap (table_from_rows key value) (one_more front e) ∙ put_is)
     where
       put_is : table_from_rows key value (put cmp e.0 e.1 (by_key cmp front)) ≡ set_key (table_from_rows key value (by_key cmp front)) (key e.0) (Some (value e.1))
-      put_is = λ i q. put_stands value e.0 e.1 (by_key cmp front) q (next_fits front e es all) (by_key_fits key key_fits Any cmp in_order front (all_front front (e ∷ es) all)) i
+      put_is = put_table key key_fits cmp in_order value e.0 e.1 (by_key cmp front) (next_fits front e es all)
+          (all_weaker (RowFits key_fits Any) (λ r. key_fits r.0) (by_key cmp front) (λ r fit. fit.0) (by_key_fits key key_fits Any cmp in_order front (all_front front (e ∷ es) all)))
 
   -- entries in the order of their keys make the table in which they are put
   pub by_key_table : (value : X → List ℕ) (entries : List (K × X)) → AllByRecursion (RowFits key_fits Any) entries → table_from_rows key value (by_key cmp entries) ≡ with_rows key value entries no_rows

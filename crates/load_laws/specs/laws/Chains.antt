@@ -1,8 +1,8 @@
 -- No target of a replica set is the source of another once accepted definitions are loaded.
-use Rattle.std.proofs.Common.{◌≡◌, ℕ, Bool, true, false, not, ◌&&◌, ◌⊎◌, inl, inr, List, [], map, Some, sym, ap, ap₂, subst, ◌∙◌, ◌==◌, unwrap_or, bytes_eq}
-use Rattle.std.specs.List.{AllByRecursion, list_all, list_any}
+use Rattle.std.proofs.Common.{◌≡◌, ℕ, Bool, true, false, not, ◌&&◌, ◌⊎◌, inl, inr, List, map, Some, sym, ap, ap₂, subst, ◌∙◌, ◌==◌, unwrap_or, bytes_eq}
+use Rattle.std.specs.List.{list_all, list_any}
 use Rattle.std.proofs.lemmas.Bool.{and_parts, and_from, both_ways, not-true, not_from_false, false_from_ne_true, or_parts}
-use Rattle.repl_model.specs.Words.{Member, SetDef, TargetSide, World, KnownSet, known_sets, is_replica, is_replica_set, IsFresh, KnownSetKeepsRules, MemberIsSound, ReplicaMemberIsSound, same_place, sources_of, targets_of, replica_sets, IsSound, In, at_one, passes_at, all_pass_from, any_from, some_passes, in_filter, kept_by, listed_in, in_flat_map, in_map, image_in, same_name, name_itself, name_stays, SetGrows, not_not}
+use Rattle.repl_model.specs.Words.{Member, SetDef, TargetSide, World, KnownSet, known_sets, is_replica, is_replica_set, KnownSetKeepsRules, MemberIsSound, ReplicaMemberIsSound, same_place, sources_of, targets_of, replica_sets, IsSound, In, at_one, passes_at, all_pass_from, any_from, some_passes, in_filter, kept_by, listed_in, in_flat_map, in_map, image_in, same_name, name_itself, name_stays, SetGrows, not_not}
 use Rattle.repl_commands.specs.declared.written.RawDefs.{RawDefs}
 use Rattle.repl_commands.specs.declared.written.RawMember.{RawMember}
 use Rattle.repl_commands.specs.declared.written.RawSet.{RawSet}
@@ -46,15 +46,12 @@ replicas_of_text raw w defs accepted def i some a j =
 
 -- and so are those of one that was known
 replicas_known : (w : World) → IsSound w → (k : KnownSet) → In k (known_sets w) → is_replica_set k.at_target.def ≡ true → (a : Member) → In a k.at_target.def.members → is_replica a.kind ≡ true
-replicas_known w sound k i some a j = by_kind (at_one KnownSetKeepsRules (known_sets w) k sound.definitions.sets i).members
-  where
-    by_kind : (AllByRecursion (MemberIsSound k) k.at_target.def.members × (k.at_source.t ≡ 0) × (k.at_source.d ≡ 0) × (k.at_source.codes ≡ []) × (k.at_target.signal ≡ 0))
-        ⊎ (AllByRecursion (ReplicaMemberIsSound k) k.at_target.def.members × (k.at_target.def.commit_count ≡ 0) × (k.at_target.def.max_minutes ≡ 0) × (k.at_target.flag ≡ false) × (k.at_target.trail ≡ [] → IsFresh k.at_source))
-        → is_replica a.kind ≡ true
-    by_kind (inl m) =
-        let one = some_passes (λ (b : Member). is_replica b.kind) k.at_target.def.members some in
-        absurd (both_ways (is_replica one.0.kind) (not-true (is_replica one.0.kind) (at_one (MemberIsSound k) k.at_target.def.members one.0 m.0 one.1).0) one.2)
-    by_kind (inr m) = (at_one (ReplicaMemberIsSound k) k.at_target.def.members a m.0 j).0
+replicas_known w sound k i some a j = elim (at_one KnownSetKeepsRules (known_sets w) k sound.definitions.sets i).members [
+  | inl m ↦
+      let one = some_passes (λ (b : Member). is_replica b.kind) k.at_target.def.members some in
+      absurd (both_ways (is_replica one.0.kind) (not-true (is_replica one.0.kind) (at_one (MemberIsSound k) k.at_target.def.members one.0 m.0 one.1).0) one.2)
+  | inr m ↦ (at_one (ReplicaMemberIsSound k) k.at_target.def.members a m.0 j).0
+]
 
 -- the members of a replica set that is known after a load are all replicas
 all_replicas : (raw : RawDefs) (w : World) (defs : Defs) → IsSound w → Accepted raw w defs → (l : KnownSet) → In l (known_sets (load_all defs w)) → is_replica_set l.at_target.def ≡ true → (a : Member) → In a l.at_target.def.members → is_replica a.kind ≡ true

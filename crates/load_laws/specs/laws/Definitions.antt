@@ -1,8 +1,8 @@
 -- The definitions of a world between two others.
-use Rattle.std.proofs.Common.{◌≡◌, ℕ, Bool, true, false, not, ◌||◌, ◌⊎◌, inl, inr, List, [], sym, ap₂, subst, ◌∙◌, IsTrue, is_some, bytes_eq}
+use Rattle.std.proofs.Common.{◌≡◌, ℕ, Bool, true, false, not, ◌||◌, ◌⊎◌, inl, inr, List, sym, ap₂, subst, ◌∙◌, IsTrue, is_some, bytes_eq}
 use Rattle.std.specs.List.{AllByRecursion, list_all}
 use Rattle.std.proofs.lemmas.Bool.{false≢true}
-use Rattle.repl_model.specs.Words.{all_weaker, LogRecord, SetDef, Member, units, SourceSide, TargetSide, Server, World, KnownSet, source_named, known_sets, is_replica, SetKeepsLimits, UnknownSource, UnknownTarget, IsFresh, has_sources, has_replicas, has_origin, ServerKeepsRules, MemberIsSound, ReplicaMemberIsSound, KnownSetKeepsRules, In, at_one, at_each, passes_at, ServerGrows, WorldGrows, IsBetween, server_stays, name_stays, log_stays, no_table, same_source, SetGrows, known_stands, source_in, at_source_in, HaveSameNames, names_stay, limits_stay, unknown_sources, unknown_targets, origin_stays}
+use Rattle.repl_model.specs.Words.{all_weaker, LogRecord, SetDef, Member, units, SourceSide, TargetSide, Server, World, KnownSet, source_named, known_sets, is_replica, SetKeepsLimits, UnknownSource, UnknownTarget, has_sources, has_replicas, has_origin, ServerKeepsRules, MemberIsSound, ReplicaMemberIsSound, KnownSetKeepsRules, In, at_one, at_each, passes_at, ServerGrows, WorldGrows, IsBetween, server_stays, name_stays, log_stays, no_table, same_source, SetGrows, known_stands, source_in, at_source_in, HaveSameNames, names_stay, limits_stay, unknown_sources, unknown_targets, origin_stays}
 
 -- ---- one server
 
@@ -73,7 +73,10 @@ pub set_keeps_rules : (k l : KnownSet) → SetGrows k l → SourcesStand k → R
 set_keeps_rules k l g sources replicas h = record {
   same = now.same;
   apart = ap₂ (λ (a b : List ℕ). not (bytes_eq a b)) (sym (name_stays k.source l.source g.source)) (sym (name_stays k.target l.target g.target)) ∙ now.apart;
-  members = by_kind now.members;
+  members = elim now.members [
+    | inl m ↦ inl (at_each (MemberIsSound k) members (λ member i. read_only member i (at_one (MemberIsSound with_rows) members member m.0 i)), m.1, m.2, m.3, m.4)
+    | inr m ↦ inr (at_each (ReplicaMemberIsSound k) members (λ member i. replica member i (at_one (ReplicaMemberIsSound with_rows) members member m.0 i)), m.1, m.2, m.3, m.4)
+  ];
 }
   where
     with_rows : KnownSet
@@ -100,10 +103,3 @@ set_keeps_rules k l g sources replicas h = record {
 
     replica : (member : Member) → In member members → ReplicaMemberIsSound with_rows member → ReplicaMemberIsSound k member
     replica member i m = (m.0, (m.1.0, m.1.1, same_source member.source k.source l.source m.1.0 g.source (source_stands member i) m.1.2, same_source member.target k.target l.target m.1.1 g.target (replica_stands member i m.0) m.1.3, m.1.4))
-
-    by_kind : (AllByRecursion (MemberIsSound with_rows) members × (k.at_source.t ≡ 0) × (k.at_source.d ≡ 0) × (k.at_source.codes ≡ []) × (k.at_target.signal ≡ 0))
-        ⊎ (AllByRecursion (ReplicaMemberIsSound with_rows) members × (k.at_target.def.commit_count ≡ 0) × (k.at_target.def.max_minutes ≡ 0) × (k.at_target.flag ≡ false) × (k.at_target.trail ≡ [] → IsFresh k.at_source))
-        → (AllByRecursion (MemberIsSound k) members × (k.at_source.t ≡ 0) × (k.at_source.d ≡ 0) × (k.at_source.codes ≡ []) × (k.at_target.signal ≡ 0))
-        ⊎ (AllByRecursion (ReplicaMemberIsSound k) members × (k.at_target.def.commit_count ≡ 0) × (k.at_target.def.max_minutes ≡ 0) × (k.at_target.flag ≡ false) × (k.at_target.trail ≡ [] → IsFresh k.at_source))
-    by_kind (inl m) = inl (at_each (MemberIsSound k) members (λ member i. read_only member i (at_one (MemberIsSound with_rows) members member m.0 i)), m.1, m.2, m.3, m.4)
-    by_kind (inr m) = inr (at_each (ReplicaMemberIsSound k) members (λ member i. replica member i (at_one (ReplicaMemberIsSound with_rows) members member m.0 i)), m.1, m.2, m.3, m.4)

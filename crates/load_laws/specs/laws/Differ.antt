@@ -1,5 +1,6 @@
 -- The names of tables and of sets differ once accepted definitions are loaded.
-use Rattle.std.proofs.Common.{List, ◌≡◌, ◌≤◌, Bool, not, true, ◌&&◌, ◌++◌, Option, Some, None, sym, ap, ap₂, subst, ◌∙◌, filter, is_none, is_some, count_by, filter_map, bytes_eq}
+use Rattle.std.proofs.Common.{List, refl, map, find, ◌≡◌, ◌≤◌, Bool, not, true, ◌&&◌, ◌++◌, Option, Some, None, sym, ap, ap₂, subst, ◌∙◌, filter, is_none, is_some, count_by, filter_map, bytes_eq}
+use Rattle.std.proofs.Math.Path.{fun_ext}
 use Rattle.std.proofs.lemmas.Bool.{and_parts, and_from, false≢true, leb-true}
 use Rattle.repl_model.specs.Words.{SetDef, ServerTable, SourceSide, TargetSide, Server, World, server_table, same_set, source_side, target_side, all_differ, In, passes_at, in_map, in_filter, embeds_differ, differ_images, same_name, name_itself, same_id, id_itself, not_not}
 use Rattle.repl_commands.specs.declared.written.RawDefs.{RawDefs}
@@ -12,7 +13,7 @@ use Rattle.checked_defs.specs.Rules.{names_table, names_raw_set, table_stands_on
 use Rattle.checked_defs.specs.Broken.{table_breaks, set_breaks}
 use Rattle.checked_defs.specs.declared.rule.Rule.TheVariants.{Once}
 use Rattle.load_laws.specs.rules.laws.Kept.{rule_kept}
-use Rattle.load_laws.specs.worlds.Loads.{new_tables, fresh_source, fresh_target, new_sources, new_targets, register}
+use Rattle.load_laws.specs.worlds.Loads.{new_tables, fresh_source, fresh_target, register}
 use Rattle.load_laws.specs.rules.Accepted.{Accepted, context_in}
 use Rattle.load_laws.specs.rules.StaysSound.{HoldsLoaded}
 use Rattle.load_laws.specs.laws.PartsOfSound.{TableNamesDiffer, SourceNamesDiffer, TargetNamesDiffer}
@@ -94,50 +95,37 @@ sets_once raw w defs accepted = subst (λ (d : Defs). all_differ same_def d.sets
     tables : List TableAt
     tables = (context_in w raw).tables
 
+-- The names of the sets at one side of a server differ, if those that stand there do, and the new ones are accepted
+-- sets of which none stands there.
+rows_differ : (raw : RawDefs) (w : World) (defs : Defs) → Accepted raw w defs → {Side : Type 0} (def_of : Side → SetDef) (fresh : SetDef → Side) → ((def : SetDef) → def_of (fresh def) ≡ def)
+    → (sides : List Side) (is_new : SetDef → Bool) → ((def : SetDef) → is_new def ≡ true → find (λ side. same_set def.id (def_of side).id) sides ≡ None)
+    → all_differ (λ a b. same_set (def_of a).id (def_of b).id) sides ≡ true → all_differ (λ a b. same_set (def_of a).id (def_of b).id) (sides ++ map fresh (filter is_new defs.sets)) ≡ true
+rows_differ raw w defs accepted {Side} def_of fresh defined sides is_new none differ = differ_together same_row sides (map fresh (filter is_new defs.sets)) differ new_differ apart
+  where
+    same_row : Side → Side → Bool
+    same_row a b = same_set (def_of a).id (def_of b).id
+
+    new_differ : all_differ same_row (map fresh (filter is_new defs.sets)) ≡ true
+    new_differ = differ_images fresh same_row (filter is_new defs.sets)
+        ∙ ap (λ (f : SetDef → SetDef). all_differ (λ a b. same_set (f a).id (f b).id) (filter is_new defs.sets)) (fun_ext defined)
+        ∙ embeds_differ (λ y x. (y ≡ x) × (is_new x ≡ true)) same_def same_def (λ x z y v p q e. ap₂ same_def (sym p.0) (sym q.0) ∙ e)
+        (filter is_new defs.sets) defs.sets (embeds_kept is_new defs.sets) (sets_once raw w defs accepted)
+
+    apart : (x y : Side) → In x sides → In y (map fresh (filter is_new defs.sets)) → same_row x y ≡ true → ⊥
+    apart x y i j e =
+        let r = in_map fresh (filter is_new defs.sets) y j in
+        let k = in_filter is_new defs.sets r.0 r.1 in
+        let name : (def_of x).id ≡ r.0.id = same_id (def_of x).id (def_of y).id e ∙ ap (λ (side : Side). (def_of side).id) r.2 ∙ ap (λ (def : SetDef). def.id) (defined r.0) in
+        false≢true (sym (ap (λ (o : Option Side). is_some o) (none r.0 k.1)) ∙ found_some (λ (side : Side). same_set r.0.id (def_of side).id) sides x i (ap (same_set r.0.id) name ∙ id_itself r.0.id))
+
 -- the names of the sets at their sources differ
 pub source_names_differ : HoldsLoaded SourceNamesDiffer
-source_names_differ raw w defs sound accepted = each_loaded (λ s. all_differ same_row s.source_sets ≡ true) defs w (λ s i.
-    differ_together same_row s.source_sets (new_sources defs s) (server_rules w s sound i).source_names (new_differ s) (apart s))
-  where
-    same_row : SourceSide → SourceSide → Bool
-    same_row a b = same_set a.def.id b.def.id
-
-    is_new : Server → SetDef → Bool
-    is_new s def = bytes_eq def.source s.name && is_none (source_side def.id s)
-
-    new_differ : (s : Server) → all_differ same_row (new_sources defs s) ≡ true
-    new_differ s = differ_images fresh_source same_row (filter (is_new s) defs.sets)
-        ∙ embeds_differ (λ y x. (y ≡ x) × (is_new s x ≡ true)) same_def same_def (λ x z y v p q e. ap₂ same_def (sym p.0) (sym q.0) ∙ e)
-        (filter (is_new s) defs.sets) defs.sets (embeds_kept (is_new s) defs.sets) (sets_once raw w defs accepted)
-
-    apart : (s : Server) (x y : SourceSide) → In x s.source_sets → In y (new_sources defs s) → same_row x y ≡ true → ⊥
-    apart s x y i j e =
-        let r = in_map fresh_source (filter (is_new s) defs.sets) y j in
-        let k = in_filter (is_new s) defs.sets r.0 r.1 in
-        let none = none_there (source_side r.0.id s) (and_parts (bytes_eq r.0.source s.name) (is_none (source_side r.0.id s)) k.1).1 in
-        let name : x.def.id ≡ r.0.id = same_id x.def.id y.def.id e ∙ ap (λ (side : SourceSide). side.def.id) r.2 in
-        false≢true (sym (ap (λ (o : Option SourceSide). is_some o) none) ∙ found_some (λ (side : SourceSide). same_set r.0.id side.def.id) s.source_sets x i (ap (same_set r.0.id) name ∙ id_itself r.0.id))
+source_names_differ raw w defs sound accepted = each_loaded (λ s. all_differ (λ a b. same_set a.def.id b.def.id) s.source_sets ≡ true) defs w (λ s i.
+    rows_differ raw w defs accepted (λ (side : SourceSide). side.def) fresh_source (λ def. refl) s.source_sets (λ def. bytes_eq def.source s.name && is_none (source_side def.id s))
+    (λ def e. none_there (source_side def.id s) (and_parts (bytes_eq def.source s.name) (is_none (source_side def.id s)) e).1) (server_rules w s sound i).source_names)
 
 -- the names of the sets at their targets differ
 pub target_names_differ : HoldsLoaded TargetNamesDiffer
-target_names_differ raw w defs sound accepted = each_loaded (λ s. all_differ same_row s.target_sets ≡ true) defs w (λ s i.
-    differ_together same_row s.target_sets (new_targets defs s) (server_rules w s sound i).target_names (new_differ s) (apart s))
-  where
-    same_row : TargetSide → TargetSide → Bool
-    same_row a b = same_set a.def.id b.def.id
-
-    is_new : Server → SetDef → Bool
-    is_new s def = bytes_eq def.target s.name && is_none (target_side def.id s)
-
-    new_differ : (s : Server) → all_differ same_row (new_targets defs s) ≡ true
-    new_differ s = differ_images fresh_target same_row (filter (is_new s) defs.sets)
-        ∙ embeds_differ (λ y x. (y ≡ x) × (is_new s x ≡ true)) same_def same_def (λ x z y v p q e. ap₂ same_def (sym p.0) (sym q.0) ∙ e)
-        (filter (is_new s) defs.sets) defs.sets (embeds_kept (is_new s) defs.sets) (sets_once raw w defs accepted)
-
-    apart : (s : Server) (x y : TargetSide) → In x s.target_sets → In y (new_targets defs s) → same_row x y ≡ true → ⊥
-    apart s x y i j e =
-        let r = in_map fresh_target (filter (is_new s) defs.sets) y j in
-        let k = in_filter (is_new s) defs.sets r.0 r.1 in
-        let none = none_there (target_side r.0.id s) (and_parts (bytes_eq r.0.target s.name) (is_none (target_side r.0.id s)) k.1).1 in
-        let name : x.def.id ≡ r.0.id = same_id x.def.id y.def.id e ∙ ap (λ (side : TargetSide). side.def.id) r.2 in
-        false≢true (sym (ap (λ (o : Option TargetSide). is_some o) none) ∙ found_some (λ (side : TargetSide). same_set r.0.id side.def.id) s.target_sets x i (ap (same_set r.0.id) name ∙ id_itself r.0.id))
+target_names_differ raw w defs sound accepted = each_loaded (λ s. all_differ (λ a b. same_set a.def.id b.def.id) s.target_sets ≡ true) defs w (λ s i.
+    rows_differ raw w defs accepted (λ (side : TargetSide). side.def) fresh_target (λ def. refl) s.target_sets (λ def. bytes_eq def.target s.name && is_none (target_side def.id s))
+    (λ def e. none_there (target_side def.id s) (and_parts (bytes_eq def.target s.name) (is_none (target_side def.id s)) e).1) (server_rules w s sound i).target_names)

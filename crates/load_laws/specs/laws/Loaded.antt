@@ -3,7 +3,7 @@ use Rattle.std.proofs.Common.{◌≡◌, ℕ, zero, suc, true, List, [], ◌++�
 use Rattle.std.specs.List.{AllByRecursion}
 use Rattle.std.specs.Option.{option_map, option_map_or, option_and_then, option_or}
 use Rattle.std.proofs.lemmas.Bool.{and_parts}
-use Rattle.world_store.specs.Words.{Decided, RejectedUnit, UnitKey, SetState, SourceRow, change_key_spelling, unit_key_spelling, member_key_spelling, source_row_spelling, change_row_spelling, decided_spelling, rejected_spelling, state_spelling, last_number_spelling, entry_spelling, first_decided, first_read_only, first_replica, b32, b64, key_spelling, table_from_rows, change_rows_of, rejected_rows, source_rows, Holds, no_rows, source_table, change_table, prune_table, state_table, target_table, trail_table, tables, with_first, first_table, state_of, trail_rows, no_first, all_kept}
+use Rattle.world_store.specs.Words.{Decided, RejectedUnit, UnitKey, SetState, SourceRow, change_key_spelling, unit_key_spelling, member_key_spelling, source_row_spelling, change_row_spelling, decided_spelling, rejected_spelling, state_spelling, last_number_spelling, entry_spelling, first_decided, first_read_only, first_replica, b32, b64, key_spelling, table_from_rows, change_rows_of, rejected_rows, source_rows, Holds, no_rows, source_table, change_table, prune_table, state_table, target_table, trail_table, tables, with_first, first_table, state_of, trail_rows, no_first, all_kept, table_at, number_rows}
 use Rattle.repl_model.specs.Words.{all_weaker, SetDef, Values, record_fits, is_replica_set, Registered, ServerTable, SourceSide, TargetSide, Server, World, server_table, each_image, all_of}
 use Rattle.repl_types.specs.declared.area.Area.TheVariants as areas
 use Rattle.keep_core.specs.Contents.{Contents, Table}
@@ -15,8 +15,7 @@ use Rattle.load_laws.specs.stored.LoadedServers.{Loaded}
 use Rattle.load_laws.specs.laws.StoredLists.{numbered_lists_stay, place_more, place_map}
 use Rattle.load_laws.specs.laws.FirstStates.{numbered_more, numbered_lists_more}
 use Rattle.load_laws.specs.laws.SourceTables.{no_source_rows}
-use Rattle.load_laws.specs.laws.Targets.{table_at, table_none}
-use Rattle.load_laws.specs.laws.States.{state_new, number_rows, first_number_rows_of, numbers_new}
+use Rattle.load_laws.specs.laws.States.{first_number_rows_of, state_new, numbers_new, table_new}
 
 -- what isn't there
 pub none_there : {X : Type 0} (o : Option X) → is_none o ≡ true → o ≡ None
@@ -92,7 +91,7 @@ module _ (defs : Defs) (server : Server) where
     targets_loaded : (n : ℕ) → target_table world (load_server defs server) n ≡ target_table world server n
     targets_loaded n =
         let place = n % 64 in
-        place_more (table_at world place) no_rows server.target_sets (new_targets defs server) (n / 64) (all_new_targets (λ side. table_at world place side ≡ no_rows) (λ def. table_none world place (fresh_target def) refl))
+        place_more (table_at world place) no_rows server.target_sets (new_targets defs server) (n / 64) (all_new_targets (λ side. table_at world place side ≡ no_rows) (λ def. table_new world def place))
 
     -- so do the trails
     trails_loaded : (n : ℕ) → trail_table world (load_server defs server) n ≡ trail_table world server n

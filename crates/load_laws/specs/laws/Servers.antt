@@ -1,11 +1,11 @@
 -- What each server of a world keeps once accepted definitions are loaded.
-use Rattle.std.proofs.Common.{◌≡◌, true, ◌&&◌, ◌⊎◌, inl, inr, ◌++◌, sym, subst, ◌∙◌, ◌≤◌, length, filter, is_some, is_none, bytes_eq}
+use Rattle.std.proofs.Common.{ℕ, List, Bool, map, refl, ap, ◌≡◌, true, ◌&&◌, ◌⊎◌, inl, inr, ◌++◌, sym, subst, ◌∙◌, ◌≤◌, length, filter, is_some, is_none, bytes_eq}
 use Rattle.std.specs.List.{AllByRecursion}
 use Rattle.std.proofs.lemmas.Bool.{and_parts}
 use Rattle.repl_model.specs.Words.{is_name, all_weaker, Unit, IsSetDef, SetDef, units, SourceSide, TargetSide, Server, World, server_named, source_side, target_side, table_limit, set_limit, SetKeepsLimits, UnknownSource, UnknownTarget, has_origin, ServerKeepsRules, IsSound, In, at_one, at_each, in_map, in_filter, in_either, each_image, same_name, names_stay, limits_stay, unknown_sources, unknown_targets, origin_stays}
 use Rattle.repl_commands.specs.declared.written.RawDefs.{RawDefs}
 use Rattle.spelled_defs.specs.declared.defs.Defs.{Defs}
-use Rattle.load_laws.specs.worlds.Loads.{fresh_source, fresh_target, new_sources, new_targets, load_server, load_all}
+use Rattle.load_laws.specs.worlds.Loads.{fresh_source, fresh_target, load_server, load_all}
 use Rattle.load_laws.specs.worlds.laws.Loaded.{server_loads}
 use Rattle.load_laws.specs.rules.Accepted.{IsSetWithin, IsServerWithin, Accepted}
 use Rattle.load_laws.specs.rules.StaysSound.{HoldsLoaded}
@@ -53,38 +53,44 @@ set_within raw w defs def accepted i =
       target = names_stay w (load_all defs w) (world_loads defs w) def.target ∙ servers.1;
     }
 
+-- The sets at one side of a server keep the limits, and what else is to hold of them, if those that stand there do, and
+-- the new ones are accepted sets of that server.
+sides_keep_limits : (raw : RawDefs) (w : World) (defs : Defs) → Accepted raw w defs → (s : Server) {Side : Type 0} (def_of : Side → SetDef) (fresh : SetDef → Side) → ((def : SetDef) → def_of (fresh def) ≡ def)
+    → (end_of : SetDef → List ℕ) (has_none : SetDef → Bool) (sides : List Side) (Before After : Side → Type 0)
+    → AllByRecursion (λ side. (end_of (def_of side) ≡ s.name) × SetKeepsLimits w (def_of side) × Before side) sides
+    → (AllByRecursion Before sides → AllByRecursion After (sides ++ map fresh (filter (λ def. bytes_eq (end_of def) s.name && has_none def) defs.sets)))
+    → AllByRecursion (λ side. (end_of (def_of side) ≡ s.name) × SetKeepsLimits (load_all defs w) (def_of side) × After side) (sides ++ map fresh (filter (λ def. bytes_eq (end_of def) s.name && has_none def) defs.sets))
+sides_keep_limits raw w defs accepted s {Side} def_of fresh defined end_of has_none sides Before After kept steps =
+    at_each (λ side. (end_of (def_of side) ≡ s.name) × SetKeepsLimits (load_all defs w) (def_of side) × After side) (sides ++ new) (λ side j.
+    let one = at_side side (in_either sides new side j) in (one.0, one.1, at_one After (sides ++ new) side (steps (all_weaker {X = Side} Here Before sides (λ x h. h.2) kept)) j))
+  where
+    is_new : SetDef → Bool
+    is_new def = bytes_eq (end_of def) s.name && has_none def
+
+    new : List Side
+    new = map fresh (filter is_new defs.sets)
+
+    Here : Side → Type 0
+    Here side = (end_of (def_of side) ≡ s.name) × SetKeepsLimits w (def_of side) × Before side
+
+    at_side : (side : Side) → In side sides ⊎ In side new → (end_of (def_of side) ≡ s.name) × SetKeepsLimits (load_all defs w) (def_of side)
+    at_side side (inl j) =
+        let x = at_one Here sides side kept j in
+        (x.0, limits_stay w (load_all defs w) (names_stay w (load_all defs w) (world_loads defs w)) (def_of side) x.1)
+    at_side side (inr j) =
+        let r = in_map fresh (filter is_new defs.sets) side j in
+        let k = in_filter is_new defs.sets r.0 r.1 in
+        subst (λ (def : SetDef). (end_of def ≡ s.name) × SetKeepsLimits (load_all defs w) def) (sym (ap def_of r.2 ∙ defined r.0))
+        (same_name (end_of r.0) s.name (and_parts (bytes_eq (end_of r.0) s.name) (has_none r.0) k.1).0, set_within raw w defs r.0 accepted k.0)
+
 -- the sets at their sources keep the limits, and have had no step if they don't stand at their targets too
 pub sources_keep_limits : HoldsLoaded SourcesKeepLimits
-sources_keep_limits raw w defs sound accepted = each_loaded (λ s. AllByRecursion (λ (side : SourceSide). (side.def.source ≡ s.name) × SetKeepsLimits (load_all defs w) side.def × UnknownSource (load_all defs w) s side) s.source_sets) defs w (λ s i. at_each (λ (side : SourceSide). (side.def.source ≡ s.name) × SetKeepsLimits (load_all defs w) side.def × UnknownSource (load_all defs w) (load_server defs s) side) (s.source_sets ++ new_sources defs s) (λ side j. ((at_side s i side (in_either s.source_sets (new_sources defs s) side j)).0, (at_side s i side (in_either s.source_sets (new_sources defs s) side j)).1, at_one (UnknownSource (load_all defs w) (load_server defs s)) (s.source_sets ++ new_sources defs s) side (steps s i) j)))
-  where
-    steps : (s : Server) → In s w → AllByRecursion (UnknownSource (load_all defs w) (load_server defs s)) (s.source_sets ++ new_sources defs s)
-    steps s i = unknown_sources w (load_all defs w) (world_loads defs w) s (load_server defs s) (server_loads defs s)
-        (all_weaker (λ side. (side.def.source ≡ s.name) × SetKeepsLimits w side.def × UnknownSource w s side) (UnknownSource w s) s.source_sets (λ side x. x.2) (server_rules w s sound i).sources)
-
-    at_side : (s : Server) → In s w → (side : SourceSide) → In side s.source_sets ⊎ In side (new_sources defs s) → (side.def.source ≡ s.name) × SetKeepsLimits (load_all defs w) side.def
-    at_side s i side (inl j) =
-        let x = at_one (λ (side : SourceSide). (side.def.source ≡ s.name) × SetKeepsLimits w side.def × UnknownSource w s side) s.source_sets side (server_rules w s sound i).sources j in
-        (x.0, limits_stay w (load_all defs w) (names_stay w (load_all defs w) (world_loads defs w)) side.def x.1)
-    at_side s i side (inr j) =
-        let r = in_map fresh_source (filter (λ def. bytes_eq def.source s.name && is_none (source_side def.id s)) defs.sets) side j in
-        let k = in_filter (λ (def : SetDef). bytes_eq def.source s.name && is_none (source_side def.id s)) defs.sets r.0 r.1 in
-        subst (λ (side : SourceSide). (side.def.source ≡ s.name) × SetKeepsLimits (load_all defs w) side.def) (sym r.2)
-        (same_name r.0.source s.name (and_parts (bytes_eq r.0.source s.name) (is_none (source_side r.0.id s)) k.1).0, set_within raw w defs r.0 accepted k.0)
+sources_keep_limits raw w defs sound accepted = each_loaded (λ s. AllByRecursion (λ (side : SourceSide). (side.def.source ≡ s.name) × SetKeepsLimits (load_all defs w) side.def × UnknownSource (load_all defs w) s side) s.source_sets) defs w (λ s i.
+    sides_keep_limits raw w defs accepted s (λ (side : SourceSide). side.def) fresh_source (λ def. refl) (λ def. def.source) (λ def. is_none (source_side def.id s)) s.source_sets (UnknownSource w s) (UnknownSource (load_all defs w) (load_server defs s))
+    (server_rules w s sound i).sources (unknown_sources w (load_all defs w) (world_loads defs w) s (load_server defs s) (server_loads defs s)))
 
 -- the sets at their targets do, likewise
 pub targets_keep_limits : HoldsLoaded TargetsKeepLimits
-targets_keep_limits raw w defs sound accepted = each_loaded (λ s. AllByRecursion (λ (side : TargetSide). (side.def.target ≡ s.name) × SetKeepsLimits (load_all defs w) side.def × UnknownTarget (load_all defs w) s side) s.target_sets) defs w (λ s i. at_each (λ (side : TargetSide). (side.def.target ≡ s.name) × SetKeepsLimits (load_all defs w) side.def × UnknownTarget (load_all defs w) (load_server defs s) side) (s.target_sets ++ new_targets defs s) (λ side j. ((at_side s i side (in_either s.target_sets (new_targets defs s) side j)).0, (at_side s i side (in_either s.target_sets (new_targets defs s) side j)).1, at_one (UnknownTarget (load_all defs w) (load_server defs s)) (s.target_sets ++ new_targets defs s) side (steps s i) j)))
-  where
-    steps : (s : Server) → In s w → AllByRecursion (UnknownTarget (load_all defs w) (load_server defs s)) (s.target_sets ++ new_targets defs s)
-    steps s i = unknown_targets w (load_all defs w) (world_loads defs w) s (load_server defs s) (server_loads defs s)
-        (all_weaker (λ side. (side.def.target ≡ s.name) × SetKeepsLimits w side.def × UnknownTarget w s side) (UnknownTarget w s) s.target_sets (λ side x. x.2) (server_rules w s sound i).targets)
-
-    at_side : (s : Server) → In s w → (side : TargetSide) → In side s.target_sets ⊎ In side (new_targets defs s) → (side.def.target ≡ s.name) × SetKeepsLimits (load_all defs w) side.def
-    at_side s i side (inl j) =
-        let x = at_one (λ (side : TargetSide). (side.def.target ≡ s.name) × SetKeepsLimits w side.def × UnknownTarget w s side) s.target_sets side (server_rules w s sound i).targets j in
-        (x.0, limits_stay w (load_all defs w) (names_stay w (load_all defs w) (world_loads defs w)) side.def x.1)
-    at_side s i side (inr j) =
-        let r = in_map fresh_target (filter (λ def. bytes_eq def.target s.name && is_none (target_side def.id s)) defs.sets) side j in
-        let k = in_filter (λ (def : SetDef). bytes_eq def.target s.name && is_none (target_side def.id s)) defs.sets r.0 r.1 in
-        subst (λ (side : TargetSide). (side.def.target ≡ s.name) × SetKeepsLimits (load_all defs w) side.def) (sym r.2)
-        (same_name r.0.target s.name (and_parts (bytes_eq r.0.target s.name) (is_none (target_side r.0.id s)) k.1).0, set_within raw w defs r.0 accepted k.0)
+targets_keep_limits raw w defs sound accepted = each_loaded (λ s. AllByRecursion (λ (side : TargetSide). (side.def.target ≡ s.name) × SetKeepsLimits (load_all defs w) side.def × UnknownTarget (load_all defs w) s side) s.target_sets) defs w (λ s i.
+    sides_keep_limits raw w defs accepted s (λ (side : TargetSide). side.def) fresh_target (λ def. refl) (λ def. def.target) (λ def. is_none (target_side def.id s)) s.target_sets (UnknownTarget w s) (UnknownTarget (load_all defs w) (load_server defs s))
+    (server_rules w s sound i).targets (unknown_targets w (load_all defs w) (world_loads defs w) s (load_server defs s) (server_loads defs s)))

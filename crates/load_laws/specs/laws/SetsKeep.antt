@@ -298,7 +298,10 @@ module _ (raw : RawDefs) (w : World) (defs : Defs) (sound : IsSound w) (accepted
   grown_keeps k l i j g = record {
     same = now.same;
     apart = ap₂ (λ (s t : List ℕ). not (bytes_eq s t)) (name_stays k.source l.source g.source) (name_stays k.target l.target g.target) ∙ now.apart;
-    members = by_kind now.members;
+    members = elim now.members [
+      | inl m ↦ inl (at_each (MemberIsSound l) l.at_target.def.members (λ a n. read_only a n (at_one (MemberIsSound before) l.at_target.def.members a m.0 n)), m.1, m.2, m.3, m.4)
+      | inr m ↦ inr (all_weaker (ReplicaMemberIsSound before) (ReplicaMemberIsSound l) l.at_target.def.members replica m.0, m.1, m.2, m.3, m.4)
+    ];
   }
     where
       with_rows : SourceSide → TargetSide → KnownSet
@@ -334,13 +337,6 @@ module _ (raw : RawDefs) (w : World) (defs : Defs) (sound : IsSound w) (accepted
           sound_before.1.4,
         ),
       )
-
-      by_kind : (AllByRecursion (MemberIsSound before) l.at_target.def.members × (l.at_source.t ≡ 0) × (l.at_source.d ≡ 0) × (l.at_source.codes ≡ []) × (l.at_target.signal ≡ 0))
-          ⊎ (AllByRecursion (ReplicaMemberIsSound before) l.at_target.def.members × (l.at_target.def.commit_count ≡ 0) × (l.at_target.def.max_minutes ≡ 0) × (l.at_target.flag ≡ false) × (l.at_target.trail ≡ [] → IsFresh l.at_source))
-          → (AllByRecursion (MemberIsSound l) l.at_target.def.members × (l.at_source.t ≡ 0) × (l.at_source.d ≡ 0) × (l.at_source.codes ≡ []) × (l.at_target.signal ≡ 0))
-          ⊎ (AllByRecursion (ReplicaMemberIsSound l) l.at_target.def.members × (l.at_target.def.commit_count ≡ 0) × (l.at_target.def.max_minutes ≡ 0) × (l.at_target.flag ≡ false) × (l.at_target.trail ≡ [] → IsFresh l.at_source))
-      by_kind (inl m) = inl (at_each (MemberIsSound l) l.at_target.def.members (λ a n. read_only a n (at_one (MemberIsSound before) l.at_target.def.members a m.0 n)), m.1, m.2, m.3, m.4)
-      by_kind (inr m) = inr (all_weaker (ReplicaMemberIsSound before) (ReplicaMemberIsSound l) l.at_target.def.members replica m.0, m.1, m.2, m.3, m.4)
 
   -- a known set keeps the rules
   set_keeps : (l : KnownSet) → IsKnown l → KnownSetKeepsRules l

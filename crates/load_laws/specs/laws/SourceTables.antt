@@ -7,10 +7,9 @@ use Rattle.std.specs.FinMap.{empty, entries}
 use Rattle.std.proofs.lemmas.Bool.{and_parts, or_cases}
 use Rattle.std.proofs.lemmas.Slice.Eq.{bytes_eq-Decides}
 use Rattle.world_store.specs.Words.{SourceRow, source_rows}
-use Rattle.repl_model.specs.Words.{Values, all_weaker, all_filter, Change, LogRecord, TableDef, Placed, Unit, Rows, table_of, effect, after_change, after_changes, At, positions, last_end, change_of, changes_up_to, unit_at, units, last_commit, unplaced, after_units, units_up_to, source_at, table_named, change_fits, is_change_applicable, is_signal, is_signal_applicable, record_fits, ServerTable, Server, tables_of, registered_of, server_table, entries_empty}
+use Rattle.repl_model.specs.Words.{Values, all_weaker, all_filter, Change, LogRecord, TableDef, Placed, Unit, Rows, table_of, effect, after_change, after_changes, At, positions, last_end, change_of, changes_up_to, unit_at, units, last_commit, unplaced, after_units, units_up_to, source_at, table_named, change_fits, is_change_applicable, is_signal, is_signal_applicable, record_fits, ServerTable, Server, tables_of, registered_of, server_table, entries_empty, each_given}
 use Rattle.repl_types.specs.declared.record.Change.TheVariants.{Insert, Update, Delete, Start, Stop}
 use Rattle.repl_types.specs.declared.record.LogRecord.TheVariants as records
-use Rattle.load_laws.specs.laws.StoredLists.{all_given}
 
 -- a change leaves the rows of a table
 abbrev Leaves : TableDef → Change → Type 0
@@ -101,7 +100,7 @@ module _ (def : TableDef) where
   -- the units of a log whose records leave it
   units_leave : (log : List LogRecord) → AllByRecursion (RecordLeaves def) log → AllByRecursion (UnitLeaves def) (units log)
   unfolding units
-  units_leave log all = all_given (UnitLeaves def) (unit_at log) (positions log) (all_weaker {X = At} (λ r. RecordLeaves def r.1) (λ r. IfSome (unit_at log r) (UnitLeaves def)) (positions log) one records_leave)
+  units_leave log all = each_given (UnitLeaves def) (unit_at log) (positions log) (all_weaker {X = At} (λ r. RecordLeaves def r.1) (λ r. IfSome (unit_at log r) (UnitLeaves def)) (positions log) one records_leave)
     where
       records_leave : AllByRecursion (λ (r : At). RecordLeaves def r.1) (positions log)
       records_leave = placed_leave 1 log all
@@ -109,7 +108,7 @@ module _ (def : TableDef) where
       changes : (tx before : ℕ) → AllByRecursion (λ placed. Leaves def placed.change) (changes_up_to tx before log)
       changes tx before =
           let within = λ (r : At). nat_lt (last_end tx before log) r.0 && nat_lt r.0 before in
-          all_given (λ placed. Leaves def placed.change) (change_of tx) (filter within (positions log))
+          each_given (λ placed. Leaves def placed.change) (change_of tx) (filter within (positions log))
           (all_weaker {X = At} (λ r. RecordLeaves def r.1) (λ r. IfSome (change_of tx r) (λ placed. Leaves def placed.change)) (filter within (positions log)) (change_of_leaves tx) (all_filter (λ (r : At). RecordLeaves def r.1) within (positions log) records_leave))
 
       one : (r : At) → RecordLeaves def r.1 → IfSome (unit_at log r) (UnitLeaves def)

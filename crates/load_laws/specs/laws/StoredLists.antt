@@ -1,6 +1,6 @@
 -- What holds of each element of a list, and what stands at a place of two lists, one after the other.
-use Rattle.std.proofs.Common.{◌≡◌, ℕ, zero, suc, ◌+◌, List, [], ◌∷◌, ◌++◌, map, get_or, refl, ap, ◌∙◌, Option, Some, None, IfSome, fold, sum_by, slice_get}
-use Rattle.std.specs.List.{AllByRecursion, cons_option, enumerate_from, filter_map, flat_map}
+use Rattle.std.proofs.Common.{◌≡◌, ℕ, zero, suc, ◌+◌, List, [], ◌∷◌, ◌++◌, map, get_or, refl, ap, ◌∙◌, slice_get}
+use Rattle.std.specs.List.{AllByRecursion, enumerate_from, flat_map}
 use Rattle.std.specs.Option.{option_map_or}
 use Rattle.repl_model.specs.Words.{all_parts}
 
@@ -17,43 +17,18 @@ all_read P [] n d all none = none
 all_read P (x ∷ xs) zero d all none = all.0
 all_read P (x ∷ xs) (suc n) d all none = all_read P xs n d all.1 none
 
--- what holds of each element holds of the one at a place
-pub all_at : {X : Type 0} (P : X → Type 0) (xs : List X) (n : ℕ) → AllByRecursion P xs → IfSome (slice_get xs n) P
-all_at P [] n all = tt
-all_at P (x ∷ xs) zero all = all.0
-all_at P (x ∷ xs) (suc n) all = all_at P xs n all.1
-
--- what holds of whatever a function gives holds of each that it gives
-pub all_given : {X Y : Type 0} (P : Y → Type 0) (f : X → Option Y) (xs : List X) → AllByRecursion (λ x. IfSome (f x) P) xs → AllByRecursion P (filter_map f xs)
-all_given P f [] all = tt
-all_given {X} {Y} P f (x ∷ xs) all = pick (f x) all.0 (all_given P f xs all.1)
-  where
-    pick : (o : Option Y) → IfSome o P → AllByRecursion P (filter_map f xs) → AllByRecursion P (cons_option o (filter_map f xs))
-    pick None h rest = rest
-    pick (Some y) h rest = (h, rest)
-
 -- what holds of all lists that a function gives, one after another, holds of each of them
 pub each_list : {X Y : Type 0} (P : Y → Type 0) (f : X → List Y) (xs : List X) → AllByRecursion P (flat_map f xs) → AllByRecursion (λ x. AllByRecursion P (f x)) xs
 each_list P f [] all = tt
 each_list P f (x ∷ xs) all = let parts = all_parts P (f x) (flat_map f xs) all in (parts.0, each_list P f xs parts.1)
 
--- ---- functions that agree at each element
-
--- their sums are equal
-pub sums_alike : {X : Type 0} (f g : X → ℕ) (xs : List X) → AllByRecursion (λ x. f x ≡ g x) xs → sum_by f xs ≡ sum_by g xs
-sums_alike {X} f g xs all = from 0 xs all
-  where
-    from : (a : ℕ) (xs : List X) → AllByRecursion (λ x. f x ≡ g x) xs → fold (λ a x. a + f x) a xs ≡ fold (λ a x. a + g x) a xs
-    from a [] all = refl
-    from a (x ∷ xs) all = ap (λ (n : ℕ). fold (λ a x. a + f x) (a + n) xs) all.0 ∙ from (a + g x) xs all.1
+-- ---- places and numbers
 
 -- further elements of which there are none leave the lists of numbered elements
 pub numbered_lists_stay : {X Y : Type 0} (f : ℕ × X → List Y) (b : ℕ) (xs ys : List X) → AllByRecursion (λ y. (n : ℕ) → f (n, y) ≡ []) ys → flat_map f (enumerate_from b (xs ++ ys)) ≡ flat_map f (enumerate_from b xs)
 numbered_lists_stay f b [] [] all = refl
 numbered_lists_stay {X} {Y} f b [] (y ∷ ys) all = ap (λ (l : List Y). l ++ flat_map f (enumerate_from (b + 1) ys)) (all.0 b) ∙ numbered_lists_stay f (b + 1) [] ys all.1
 numbered_lists_stay {X} {Y} f b (x ∷ xs) ys all = ap (λ (l : List Y). f (b, x) ++ l) (numbered_lists_stay f (b + 1) xs ys all)
-
--- ---- places
 
 -- nothing is made of a place at which something stands that counts as nothing
 place_none : {X Z : Type 0} (f : X → Z) (z : Z) (xs : List X) (n : ℕ) → AllByRecursion (λ x. f x ≡ z) xs → option_map_or f (slice_get xs n) z ≡ z

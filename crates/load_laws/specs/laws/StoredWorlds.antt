@@ -2,8 +2,8 @@
 use Rattle.std.proofs.Common.{◌≡◌, ◌⊎◌, ℕ, zero, suc, Bool, true, false, cond, List, [], ◌∷◌, ◌++◌, map, refl, sym, ap, inl, inr, ◌∙◌, IsTrue, Option, Some, None, IfSome, find, is_some, bytes_eq}
 use Rattle.std.specs.List.{AllByRecursion, filter_map}
 use Rattle.std.specs.Option.{option_map, option_map_or, option_and_then, option_or}
-use Rattle.world_store.specs.Words.{source_of, source_time}
-use Rattle.repl_model.specs.Words.{all_weaker, Member, SetDef, time_at, SourceTable, Registered, ServerTable, SourceSide, TargetSide, Server, World, KnownSet, as_source, source_named, server_named, source_side, known_from, known_sets, empty_server, ServerKeepsRules, SetKeepsLimits, UnknownTarget, KnownSetKeepsRules, MemberIsSound, ReplicaMemberIsSound, IsSound, given_each}
+use Rattle.world_store.specs.Words.{source_of, source_time, MemberStays, SideStays, is_unread, is_same}
+use Rattle.repl_model.specs.Words.{all_weaker, Member, SetDef, time_at, SourceTable, synchpoint, Registered, ServerTable, SourceSide, TargetSide, Server, World, KnownSet, as_source, source_named, server_named, source_side, known_from, known_sets, empty_server, ServerKeepsRules, SetKeepsLimits, UnknownTarget, KnownSetKeepsRules, MemberIsSound, ReplicaMemberIsSound, IsSound, given_each, all_of}
 use Rattle.spelled_defs.specs.declared.defs.Defs.{Defs}
 use Rattle.load_laws.specs.worlds.Loads.{new_tables, registration_in, register, load_server, load_at, server_at}
 use Rattle.load_laws.specs.laws.StoredLists.{all_with, all_read, each_list}
@@ -26,7 +26,7 @@ named_loads defs name (s ∷ ss) (suc n) = pick (bytes_eq name s.name) (named_lo
     pick false rest = rest
 
 -- the time at a point of a set's source stays
-pub time_stays : (defs : Defs) (world : World) (n : ℕ) (def : SetDef) (point : ℕ) → source_time (load_at defs n world) def point ≡ source_time world def point
+time_stays : (defs : Defs) (world : World) (n : ℕ) (def : SetDef) (point : ℕ) → source_time (load_at defs n world) def point ≡ source_time world def point
 time_stays defs world n def point = elim (named_loads defs def.source world n) [
   | inl same ↦ ap (λ (o : Option Server). option_map_or (λ source. time_at source.log point) o 0) same
   | inr loaded ↦ ap (λ (o : Option Server). option_map_or (λ source. time_at source.log point) o 0) loaded ∙ grown (server_named def.source world)
@@ -69,36 +69,34 @@ member_stays defs world n def member s e = elim (named_loads defs def.source wor
 
 -- ---- sets at their targets
 
--- each member of a set has the same source in both worlds
-abbrev pub MembersStay : World → World → SetDef → Type 0
-MembersStay before after def = AllByRecursion (λ member. source_of after def member ≡ source_of before def member) def.members
-
--- so it is, or the set's trail is empty
-abbrev pub SourcesStay : World → World → TargetSide → Type 0
-SourcesStay before after side = (side.trail ≡ []) ⊎ MembersStay before after side.def
-
--- the sources of a set's members stay if it keeps the rules at both its ends, or has an empty trail
-side_sources_stay : (defs : Defs) (world : World) (n : ℕ) (target : Server) (side : TargetSide) → IfSome (known_from world target side) KnownSetKeepsRules → UnknownTarget world target side → SourcesStay world (load_at defs n world) side
-side_sources_stay defs world n target side known has = elim has [
-  | inl stands ↦ inr (at (server_named side.def.source world) refl stands known)
-  | inr fresh ↦ inl fresh.1
-]
+-- a set stays if it keeps the rules at both its ends, or has an empty trail
+side_stays : (defs : Defs) (world : World) (n : ℕ) (target : Server) (side : TargetSide) → IfSome (known_from world target side) KnownSetKeepsRules → UnknownTarget world target side → SideStays world (load_at defs n world) side
+side_stays defs world n target side known has = record {
+  time = time_stays defs world n side.def (synchpoint side.trail);
+  sources = elim has [
+    | inl stands ↦ at (server_named side.def.source world) refl stands known
+    | inr fresh ↦ all_of Stays side.def.members (λ member. is_unread fresh.1)
+  ];
+}
   where
+    Stays : Member → Type 0
+    Stays = MemberStays world (load_at defs n world) side
+
     set_at : Server → SourceSide → KnownSet
     set_at source at_source = record { source = source; at_source = at_source; target = target; at_target = side }
 
-    of_member : (source : Server) (member : Member) (s : SourceTable) → server_named side.def.source world ≡ Some source → source_named member.source source ≡ Some s → source_of (load_at defs n world) side.def member ≡ source_of world side.def member
-    of_member source member s named e = member_stays defs world n side.def member s (ap (option_and_then (source_named member.source)) named ∙ e)
+    of_member : (source : Server) (member : Member) (s : SourceTable) → server_named side.def.source world ≡ Some source → source_named member.source source ≡ Some s → Stays member
+    of_member source member s named e = is_same (member_stays defs world n side.def member s (ap (option_and_then (source_named member.source)) named ∙ e))
 
-    with_side : (source : Server) (o : Option SourceSide) → server_named side.def.source world ≡ Some source → IsTrue (is_some (option_map (set_at source) o)) → IfSome (option_map (set_at source) o) KnownSetKeepsRules → MembersStay world (load_at defs n world) side.def
+    with_side : (source : Server) (o : Option SourceSide) → server_named side.def.source world ≡ Some source → IsTrue (is_some (option_map (set_at source) o)) → IfSome (option_map (set_at source) o) KnownSetKeepsRules → AllByRecursion Stays side.def.members
     with_side source None named stands known = absurd cc
     with_side source (Some at_source) named stands known = elim known.members [
-      | inl read_only ↦ all_weaker {X = Member} (MemberIsSound (set_at source at_source)) (λ member. source_of (load_at defs n world) side.def member ≡ source_of world side.def member) side.def.members (λ member sound. of_member source member sound.2.0 named sound.2.1) read_only.0
-      | inr replica ↦ all_weaker {X = Member} (ReplicaMemberIsSound (set_at source at_source)) (λ member. source_of (load_at defs n world) side.def member ≡ source_of world side.def member) side.def.members (λ member sound. of_member source member sound.1.0 named sound.1.2) replica.0
+      | inl read_only ↦ all_weaker {X = Member} (MemberIsSound (set_at source at_source)) Stays side.def.members (λ member sound. of_member source member sound.2.0 named sound.2.1) read_only.0
+      | inr replica ↦ all_weaker {X = Member} (ReplicaMemberIsSound (set_at source at_source)) Stays side.def.members (λ member sound. of_member source member sound.1.0 named sound.1.2) replica.0
     ]
 
     at : (o : Option Server) → server_named side.def.source world ≡ o → IsTrue (is_some (option_and_then (λ source. option_map (set_at source) (source_side side.def.id source)) o))
-        → IfSome (option_and_then (λ source. option_map (set_at source) (source_side side.def.id source)) o) KnownSetKeepsRules → MembersStay world (load_at defs n world) side.def
+        → IfSome (option_and_then (λ source. option_map (set_at source) (source_side side.def.id source)) o) KnownSetKeepsRules → AllByRecursion Stays side.def.members
     at None named stands known = absurd cc
     at (Some source) named stands known = with_side source (source_side side.def.id source) named stands known
 
@@ -110,10 +108,10 @@ each_known world all =
     (λ target sets. given_each KnownSetKeepsRules (known_from world target) target.target_sets sets)
     (each_list KnownSetKeepsRules (λ (target : Server). filter_map (known_from world target) target.target_sets) world all)
 
--- so they do of each set whose target a server of a sound world is
-pub all_sources_stay : (defs : Defs) (world : World) (n m : ℕ) → IsSound world → AllByRecursion (SourcesStay world (load_at defs n world)) (server_at world m).target_sets
+-- so each set stays whose target a server of a sound world is
+pub all_sources_stay : (defs : Defs) (world : World) (n m : ℕ) → IsSound world → AllByRecursion (SideStays world (load_at defs n world)) (server_at world m).target_sets
 all_sources_stay defs world n m sound =
-    all_read (λ server. AllByRecursion (SourcesStay world (load_at defs n world)) server.target_sets) world m (empty_server [])
-    (all_with {X = Server} (λ target. AllByRecursion (λ side. IfSome (known_from world target side) KnownSetKeepsRules) target.target_sets) (ServerKeepsRules world) (λ server. AllByRecursion (SourcesStay world (load_at defs n world)) server.target_sets) world
-    (λ target sets keeps. all_with {X = TargetSide} (λ side. IfSome (known_from world target side) KnownSetKeepsRules) (λ side. (side.def.target ≡ target.name) × SetKeepsLimits world side.def × UnknownTarget world target side) (SourcesStay world (load_at defs n world)) target.target_sets (λ side known kept. side_sources_stay defs world n target side known kept.2) sets keeps.targets)
+    all_read (λ server. AllByRecursion (SideStays world (load_at defs n world)) server.target_sets) world m (empty_server [])
+    (all_with {X = Server} (λ target. AllByRecursion (λ side. IfSome (known_from world target side) KnownSetKeepsRules) target.target_sets) (ServerKeepsRules world) (λ server. AllByRecursion (SideStays world (load_at defs n world)) server.target_sets) world
+    (λ target sets keeps. all_with {X = TargetSide} (λ side. IfSome (known_from world target side) KnownSetKeepsRules) (λ side. (side.def.target ≡ target.name) × SetKeepsLimits world side.def × UnknownTarget world target side) (SideStays world (load_at defs n world)) target.target_sets (λ side known kept. side_stays defs world n target side known kept.2) sets keeps.targets)
     (each_known world sound.definitions.sets) sound.definitions.servers) tt

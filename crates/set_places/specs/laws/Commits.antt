@@ -1,13 +1,12 @@
 -- One transaction of one server, from its beginning to its commit.
 use Rattle.std.proofs.Common.{◌≡◌, ◌⊎◌, inl, inr, ℕ, ◌<◌, false, List, length, get_or, refl, sym, ap, subst, ◌∙◌, Option, Some, None, IsSome, slice_get, bytes_eq, set}
 use Rattle.std.proofs.lemmas.List.{length-map, get_or-set_same}
-use Rattle.world_store.specs.Words.{Holds, Stands}
+use Rattle.world_store.specs.Words.{Holds, Stands, stands_with_server}
 use Rattle.site_store.specs.Words.{Contents, Kept, NoDamage, AllClosed, names, held, work, sees, IsOpenAt, Bounds, no_access, both, Passes, Begins, Commits, AtServer, Fails, InDoubt, HoldsOrInDoubt, Rules, Shows, Damages, at_most_itself, passes_then, blames_by, took, closed_again, begun_sees, Looks, GoesOn, Stops, Breaks, blames_after, stops_as, stops_after, put_fails, write_fails_on}
 use Rattle.site_store.specs.declared.sites.Sites.{Sites}
 use Rattle.repl_model.specs.Words.{Area, DamageCause, Fault, with_server, IsSound, Server, World, In}
 use Rattle.repl_types.specs.declared.fault.Fault.TheVariants as faults
 use Rattle.set_places.specs.Steps.{HasBecome, BlamesUnchanged, HasStepped, CommitsStep, MayCommitStep}
-use Rattle.set_places.specs.laws.Changing.{stands_with_server}
 use Rattle.set_places.specs.laws.Standing.{revealed_at_place}
 
 module _ {K : Type 0} (kept : K → Kept) where

@@ -8,7 +8,8 @@ use Rattle.repl_model.specs.Words.{Area, Unit, defined_table_spelling, DefinedTa
 use Rattle.repl_types.specs.declared.area.Area.TheVariants as areas
 use Rattle.keep_core.specs.Contents.{Contents, Table}
 use Rattle.world_commits.specs.captures.Captures.{with_registration, with_units}
-use Rattle.world_commits.specs.captures.laws.Servers.{States, in_states, with_states, states_after, by_states}
+use Rattle.world_commits.specs.captures.laws.Servers.{states_after, by_states}
+use Rattle.world_commits.specs.laws.Changed.{States, in_states, with_states}
 use Rattle.stored_commits.specs.units.StoredCaptures.{HasCaptured}
 use Rattle.stored_commits.specs.captures.CapturedServers.{is_of_capture, Captured, HoldsCaptured}
 

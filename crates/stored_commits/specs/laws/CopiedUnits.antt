@@ -11,7 +11,7 @@ use Rattle.stored_commits.specs.records.SourceTables.{rows_table, RowsStand, Sta
 use Rattle.stored_commits.specs.records.laws.StandingRows.{table_of_entries}
 use Rattle.stored_commits.specs.copies.ChangedCopies.{copy_table, with_change, with_changes}
 use Rattle.stored_commits.specs.laws.Images.{KeepsCopies}
-use Rattle.stored_commits.specs.copies.laws.LoggedChanges.{UnitHas}
+use Rattle.stored_commits.specs.laws.LoggedRows.{UnitHas}
 use Rattle.stored_commits.specs.laws.FirstUnits.{first_units}
 use Rattle.stored_commits.specs.laws.CopiedChange.{change_copied}
 use Rattle.stored_commits.specs.laws.StoredCopies.{IsCopyOf, one_copy, copy_of, rows_copied}

@@ -5,13 +5,12 @@ use Rattle.std.specs.Cmp.{IsTotalOrder, ranked}
 use Rattle.std.specs.FinMap.{IsAntisymmetric}
 use Rattle.std.specs.Ordering.{nat_cmp}
 use Rattle.std.proofs.lemmas.Cmp.{nat_cmp_total, on_total, then_total}
-use Rattle.world_store.specs.Words.{Is32, IsChange, IsLogRecord, whole_order, InFlightKey, in_flight_key_spelling, in_flight_key_cmp, IsInFlightKey, in_flight_spelling, order_in_flight_key, table_from_rows, in_flight_key, in_flight_rows, both_tie}
+use Rattle.world_store.specs.Words.{Is32, IsChange, IsLogRecord, whole_order, InFlightKey, in_flight_key_spelling, in_flight_key_cmp, IsInFlightKey, in_flight_spelling, order_in_flight_key, table_from_rows, in_flight_key, in_flight_rows, both_tie, sorted_rises, put_table}
 use Rattle.repl_model.specs.Words.{bytes_cmp, all_weaker, all_filter, Change, LogRecord, Placed, each_image, each_given, At, positions, open_changes, by_key, Server, is_open_at, LogIsSound, log_limit}
 use Rattle.repl_types.specs.declared.record.Change.TheVariants.{Insert, Update, Delete, Start, Stop}
 use Rattle.repl_types.specs.declared.record.LogRecord.TheVariants as records
 use Rattle.stored_commits.specs.records.InFlight.{InFlightRow, in_flight_row, InFlightRowsStand, ChangeIsInFlight, EndLeavesOthers, OpenChangesAreRows, OpenPositionsAreRows}
 use Rattle.stored_commits.specs.laws.LoggedPuts.{by_key_all, by_key_sorted, by_key_push, by_key_same, by_key_kept}
-use Rattle.stored_commits.specs.laws.PutTables.{sorted_rises, put_table}
 use Rattle.stored_commits.specs.laws.OpenEntries.{entry, open_entries, entries_change, entries_end}
 use Rattle.stored_commits.specs.laws.OwnEntries.{own_entries, open_sorted}
 
@@ -75,7 +74,7 @@ row_keys_fit server sound = all_weaker FitsRow (λ row. IsInFlightKey row.0) (in
 -- they rise
 pub in_flight_stand : InFlightRowsStand
 in_flight_stand server sound = record {
-  rise = sorted_rises in_flight_key_spelling IsInFlightKey in_flight_key_cmp in_flight_total spelled_in_order (in_flight_rows server) (row_keys_fit server sound) (by_key_sorted in_flight_key_cmp in_flight_total in_flight_exact (open_entries server.log));
+  rise = sorted_rises in_flight_key_spelling IsInFlightKey in_flight_key_cmp spelled_in_order (in_flight_rows server) (row_keys_fit server sound) (by_key_sorted in_flight_key_cmp in_flight_total in_flight_exact (open_entries server.log));
   fit = rows_fit server sound;
 }
 
@@ -88,7 +87,7 @@ change_in_flight server tx change sound small =
     let short : length server.log ≤ log_limit = sound.short in
     ap (λ (es : List InFlightRow). table_from_rows in_flight_key_spelling in_flight_spelling (by_key in_flight_key_cmp es)) (entries_change server.log tx change)
     ∙ ap (table_from_rows in_flight_key_spelling in_flight_spelling) (by_key_push in_flight_key_cmp in_flight_total in_flight_exact (open_entries server.log) (entry key))
-    ∙ put_table in_flight_key_spelling IsInFlightKey in_flight_key_cmp in_flight_total spelled_in_order in_flight_spelling key (record {}) (in_flight_rows server) (small, omega arith) (row_keys_fit server sound)
+    ∙ put_table in_flight_key_spelling IsInFlightKey in_flight_key_cmp spelled_in_order in_flight_spelling key (record {}) (in_flight_rows server) (small, omega arith) (row_keys_fit server sound)
 
 -- an end leaves the rows of the others
 pub end_leaves_others : EndLeavesOthers

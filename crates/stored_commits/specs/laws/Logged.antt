@@ -1,13 +1,12 @@
 -- A server with further records of its log holds what the world calls for there.
 use Rattle.std.proofs.Common.{zero, suc, List, refl, sym, ap, ◌∙◌, bytes_eq}
-use Rattle.world_store.specs.Words.{tables, with_first, first_table, no_rows, Holds}
+use Rattle.world_store.specs.Words.{tables, with_first, first_table, no_rows, Holds, tables_stay}
 use Rattle.repl_model.specs.Words.{LogRecord, Server, World, NumbersAreSound, with_more, grown, at_one, found_in}
 use Rattle.repl_types.specs.declared.area.Area.TheVariants as areas
 use Rattle.keep_core.specs.Contents.{Contents}
 use Rattle.world_commits.specs.logs.laws.Servers.{longer_world, world_grows}
 use Rattle.stored_commits.specs.logs.LongerServers.{Logged, StillHolds, LoggedHolds, OthersHold}
 use Rattle.stored_commits.specs.laws.Sides.{all_stay}
-use Rattle.stored_commits.specs.laws.LogStays.{tables_stay}
 use Rattle.stored_commits.specs.laws.LoggedCaptures.{changes_stay, uow_stays, capture_stays}
 
 -- a server of a sound world holds, as it is, what the world with the longer log of one server calls for

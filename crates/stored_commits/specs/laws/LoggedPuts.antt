@@ -6,13 +6,8 @@ use Rattle.std.specs.FinMap.{IsAntisymmetric}
 use Rattle.std.specs.FinMap.Entries.{by_order, find, put, where_key, below_all, is_sorted, is_sorted-put, is_sorted-where_key, find-put, find-where_key, same_entries}
 use Rattle.std.specs.Ordering.{is_lt, eq_by_cmp, ordering_reverse}
 use Rattle.std.proofs.lemmas.List.Sums.{fold_push}
-use Rattle.world_store.specs.Words.{is_equal, is_less}
+use Rattle.world_store.specs.Words.{is_equal, is_less, both_pass}
 use Rattle.repl_model.specs.Words.{by_key}
-
--- two tests that both pass
-pub both_pass : (a b : Bool) → T (a && b) → T a × T b
-both_pass true b e = (tt, e)
-both_pass false b e = absurd e
 
 -- and the other way round
 pub pass_both : (a b : Bool) → T a → T b → T (a && b)

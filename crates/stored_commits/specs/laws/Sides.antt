@@ -3,10 +3,10 @@ use Rattle.std.proofs.Common.{◌≡◌, ℕ, ◌≤◌, true, List, [], length,
 use Rattle.std.specs.List.{AllByRecursion}
 use Rattle.std.specs.Option.{option_map, option_map_or, option_and_then}
 use Rattle.std.proofs.lemmas.Bool.{false≢true}
-use Rattle.world_store.specs.Words.{source_of, source_time}
-use Rattle.repl_model.specs.Words.{LogRecord, Member, time_at, SourceTable, Trail, synchpoint, base_of, Registered, ServerTable, TargetSide, Server, World, KnownSet, as_source, server_table, source_named, server_named, known_from, SetKeepsLimits, UnknownTarget, ServerKeepsRules, IsSound, lengthened, EndsWithin, In, at_one, at_each, find_image, known_stands, known_in, known_side, time_stays_longer}
+use Rattle.world_store.specs.Words.{source_of, SourceStays, MemberStays, SideStays, is_same, is_longer, reach_within}
+use Rattle.repl_model.specs.Words.{LogRecord, Member, time_at, SourceTable, Trail, synchpoint, base_of, Registered, ServerTable, TargetSide, Server, World, KnownSet, as_source, server_table, source_named, server_named, known_from, SetKeepsLimits, UnknownTarget, ServerKeepsRules, IsSound, EndsWithin, all_of, In, at_one, at_each, find_image, known_stands, known_in, known_side, time_stays_longer}
 use Rattle.world_commits.specs.logs.laws.Servers.{more_for, longer, longer_world, source_longer}
-use Rattle.stored_commits.specs.laws.Trails.{none_ends, reach_within, known_ends}
+use Rattle.stored_commits.specs.laws.Trails.{none_ends, known_ends}
 
 -- ---- in a sound world
 
@@ -44,27 +44,6 @@ side_ends world sound server side i j =
 
 -- ---- in two worlds
 
--- A source in two worlds: it is the same, with a log that may be longer, and a trail ends within the log before.
-pub record SourceStays (trail : Trail) (before after : Option SourceTable) : Type 0 where
-  pub more : List LogRecord
-  pub is : after ≡ option_map (lengthened more) before
-  pub within : IfSome before (λ source. EndsWithin (length source.log) trail)
-
--- A set at its target in two worlds: the time at its point is the same, and so is the source of any member,
--- with a log that may be longer; the trail rises from its last refresh.
-pub record SideStays (before after : World) (side : TargetSide) : Type 0 where
-  pub time : source_time after side.def (synchpoint side.trail) ≡ source_time before side.def (synchpoint side.trail)
-  pub sources : (member : Member) → SourceStays side.trail (source_of before side.def member) (source_of after side.def member)
-  pub rises : base_of side.trail ≤ synchpoint side.trail
-
--- what is made of a source stays if it is made alike of one whose log is longer
-pub made_alike : {Z : Type 0} (f : SourceTable → Z) (z : Z) (trail : Trail) (before after : Option SourceTable) → ((more : List LogRecord) (source : SourceTable) → EndsWithin (length source.log) trail → f (lengthened more source) ≡ f source) → SourceStays trail before after → option_map_or f after z ≡ option_map_or f before z
-made_alike {Z} f z trail before after alike stays = ap (λ (o : Option SourceTable). option_map_or f o z) stays.is ∙ at before stays.within
-  where
-    at : (o : Option SourceTable) → IfSome o (λ source. EndsWithin (length source.log) trail) → option_map_or f (option_map (lengthened stays.more) o) z ≡ option_map_or f o z
-    at None within = refl
-    at (Some source) within = alike stays.more source within
-
 -- what holds of a server's log holds of that of its registered table
 of_log : (P : List LogRecord → Type 0) (name : List ℕ) (server : Server) → P server.log → IfSome (source_named name server) (λ source. P source.log)
 of_log P name server h = by_table (server_table name server)
@@ -86,8 +65,7 @@ module _ (name : List ℕ) (more : List LogRecord) (world : World) where
   side_stays : (side : TargetSide) → SideEnds world side → SideStays world (longer_world name more world) side
   side_stays side ends = record {
     time = ap (λ (o : Option Server). option_map_or (λ source. time_at source.log point) o 0) (named_longer side.def.source) ∙ time_of (server_named side.def.source world) ends.0;
-    sources = λ member. subst (SourceStays side.trail (source_of world side.def member)) (sym (ap (option_and_then (source_named member.source)) (named_longer side.def.source))) (source_in member (server_named side.def.source world) ends.0);
-    rises = ends.1;
+    sources = all_of (MemberStays world (longer_world name more world) side) side.def.members (λ member. subst (SourceStays side.trail (source_of world side.def member)) (sym (ap (option_and_then (source_named member.source)) (named_longer side.def.source))) (source_in member (server_named side.def.source world) ends.0));
   }
     where
       point : ℕ
@@ -98,12 +76,13 @@ module _ (name : List ℕ) (more : List LogRecord) (world : World) where
       time_of (Some source) within = time_stays_longer source.log (more_for name more source) point (reach_within (length source.log) 0 side.trail (omega arith) within)
 
       source_in : (member : Member) (o : Option Server) → IfSome o (λ source. EndsWithin (length source.log) side.trail) → SourceStays side.trail (option_and_then (source_named member.source) o) (option_and_then (source_named member.source) (option_map (longer name more) o))
-      source_in member None within = record { more = []; is = refl; within = tt }
-      source_in member (Some source) within = record {
+      source_in member None within = is_same refl
+      source_in member (Some source) within = is_longer (record {
         more = more_for name more source;
         is = source_longer member.source (more_for name more source) source;
         within = of_log (λ log. EndsWithin (length log) side.trail) member.source source within;
-      }
+        rises = ends.1;
+      })
 
   -- each set whose target is a server of a sound world stays
   pub all_stay : IsSound world → (server : Server) → In server world → AllByRecursion (SideStays world (longer_world name more world)) server.target_sets

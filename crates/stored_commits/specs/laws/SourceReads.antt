@@ -5,11 +5,10 @@ use Rattle.std.specs.List.{AllByRecursion}
 use Rattle.std.specs.Ordering.{eq_by_cmp}
 use Rattle.std.proofs.lemmas.Option.{none-some, same_Some}
 use Rattle.std.specs.FinMap.{get, entries, get-entries}
-use Rattle.world_store.specs.Words.{IsKey, IsRow, key_spelling, row_spelling, one_whole, order_key, one_row, SourceRow, source_row_spelling, IsSourceRow}
+use Rattle.world_store.specs.Words.{IsKey, IsRow, key_spelling, row_spelling, one_whole, order_key, one_row, SourceRow, source_row_spelling, IsSourceRow, table_finds}
 use Rattle.repl_model.specs.Words.{all_weaker, Values, key_cmp, key_cmp_total, TableDef, Rows, key_of, is_row}
 use Rattle.stored_commits.specs.records.SourceTables.{StandsUnderKey, RowsStand}
 use Rattle.stored_commits.specs.records.SourceReads.{RowStandsAtKey, Found, values_read, ReadFindsRow, InsertIsDecided, DeleteIsDecided, UpdateIsDecided, MoveIsDecided}
-use Rattle.stored_commits.specs.laws.PutTables.{table_finds}
 use Rattle.stored_commits.specs.laws.StoredRows.{entries_fit, entries_table}
 use Rattle.stored_commits.specs.records.laws.StandingRows.{key_fits}
 

@@ -4,8 +4,8 @@ use Rattle.std.specs.List.{enumerate_from}
 use Rattle.std.specs.Option.{option_map_or, option_or}
 use Rattle.std.proofs.lemmas.List.{length-map, map-append}
 use Rattle.std.proofs.lemmas.Option.{none-some, slice_get_cases}
-use Rattle.world_store.specs.Words.{b32, b64, first_read_only, first_replica, first_number, member_key_spelling, state_spelling, last_number_spelling, entry_spelling, MemberKey, LastNumber, SetState, TrailEntry, table_from_rows, numbered_push, no_rows, target_table, tables, with_first, first_table, state_of, trail_entry, trail_rows, source_time, set_state_rows, numbered_members, shown, Holds}
-use Rattle.repl_model.specs.Words.{Area, Member, SetDef, is_replica_set, Entry, refresh, block, base_of, TargetSide, Server, World, KnownSet, known_sets, ServerKeepsRules, read_only_sets, IsSound, In, at_one, id_itself}
+use Rattle.world_store.specs.Words.{b32, b64, member_key_spelling, state_spelling, last_number_spelling, entry_spelling, MemberKey, LastNumber, SetState, TrailEntry, table_from_rows, numbered_push, no_rows, target_table, tables, with_first, first_table, state_of, trail_entry, trail_rows, source_time, set_state_rows, numbered_members, shown, Holds}
+use Rattle.repl_model.specs.Words.{Area, Member, SetDef, Entry, refresh, block, base_of, TargetSide, Server, World, KnownSet, known_sets, ServerKeepsRules, read_only_sets, IsSound, In, at_one, id_itself}
 use Rattle.repl_types.specs.declared.area.Area.TheVariants as areas
 use Rattle.keep_core.specs.Contents.{Contents, Table, same_key, set_key}
 use Rattle.world_commits.specs.actions.laws.Signals.{set_stands}
@@ -14,8 +14,9 @@ use Rattle.stored_commits.specs.actions.StoredSteps.{NoneNumbered, PutsStep, Has
 use Rattle.stored_commits.specs.actions.laws.Numbered.{large_in_order}
 use Rattle.stored_commits.specs.actions.laws.ShortTrails.{trail_short}
 use Rattle.stored_commits.specs.actions.laws.States.{not_replica, longer_state_is, side_after}
-use Rattle.stored_commits.specs.laws.OneRow.{OneChanges, numbered_stay, numbered_lists_stay, lists_of_one_stay, row_changes, stands_changed}
+use Rattle.stored_commits.specs.laws.OneRow.{OneChanges, lists_of_one_stay, row_changes, stands_changed}
 use Rattle.stored_commits.specs.laws.Steps.{by_name, longer, cleared, made_twice, ChangesSet, entry_changes, refresh_changes, one_set_changes, same_after_step, same_after_refresh}
+use Rattle.stored_commits.specs.laws.TargetRows.{first_states_stay, first_numbers_stay}
 use Rattle.stored_commits.specs.laws.Numbers.{last_number_row, last_numbers_stay}
 use Rattle.stored_commits.specs.laws.ActedTargets.{target_is, no_target, has_source, source_is}
 
@@ -24,7 +25,7 @@ past_end : {X : Type 0} (xs : List X) (n : ℕ) → slice_get xs n ≡ None → 
 past_end xs n none = elim (slice_get_cases xs n).1 [ inl x ↦ absurd (none-some x.0 (sym none ∙ x.2)) | inr past ↦ past.0 ]
 
 -- a record that is put is there, whatever a missing one stands for
-put_shown : (first t : Table) (key value : List ℕ) → with_first first (set_key t key (Some value)) ≡ set_key (with_first first t) key (Some value)
+pub put_shown : (first t : Table) (key value : List ℕ) → with_first first (set_key t key (Some value)) ≡ set_key (with_first first t) key (Some value)
 put_shown first t key value = λ i q. by_key q (same_key key q) i
   where
     by_key : (q : List ℕ) (b : Bool) → option_or (cond b (Some value) (t q)) (first q) ≡ cond b (Some value) (option_or (t q) (first q))
@@ -93,19 +94,13 @@ module _ (world after_it : World) (k : KnownSet) (number : ℕ) (change : Target
 
     -- ---- states
 
-    -- what missing states stand for stays
-    first_states_stay : first_table target areas.SetState 0 ≡ first_table k.target areas.SetState 0
-    unfolding first_table
-    first_states_stay = ap (table_from_rows b32 state_spelling)
-        (numbered_stay (λ (s : ℕ × TargetSide). (s.0, cond (is_replica_set s.1.def) first_replica first_read_only)) change (λ n s. ap (λ (def : SetDef). (n, cond (is_replica_set def) first_replica first_read_only)) (changes.defined s)) 0 k.target.target_sets)
-
     -- the state of the set is put in its place
     states_are : (before now : Contents) (state : SetState) → Holds world k.target before → state_of world side ≡ state
         → now areas.SetState 0 ≡ set_key (before areas.SetState 0) (b32 number) (Some (state_spelling state))
         → shown target areas.SetState 0 (now areas.SetState 0) ≡ tables after_it target areas.SetState 0
     unfolding tables
     states_are before now state holds is_state put =
-        ap₂ (λ (first t : Table). with_first first t) first_states_stay put
+        ap₂ (λ (first t : Table). with_first first t) (first_states_stay k.target change changes.defined) put
         ∙ put_shown (first_table k.target areas.SetState 0) (before areas.SetState 0) (b32 number) (state_spelling state)
         ∙ ap (λ (t : Table). set_key t (b32 number) (Some (state_spelling state))) (holds areas.SetState 0)
         ∙ ap (λ (s : SetState). set_key (table_from_rows b32 state_spelling (set_state_rows world k.target)) (b32 number) (Some (state_spelling s))) (sym is_state ∙ sym (ap (state_of world) becomes))
@@ -114,18 +109,12 @@ module _ (world after_it : World) (k : KnownSet) (number : ℕ) (change : Target
 
     -- ---- last numbers
 
-    -- what missing last numbers stand for stays
-    first_numbers_stay : first_table target areas.SetState 1 ≡ first_table k.target areas.SetState 1
-    unfolding first_table
-    first_numbers_stay = ap (table_from_rows member_key_spelling last_number_spelling)
-        (numbered_lists_stay (λ (s : ℕ × TargetSide). map (λ m. (record { set = s.0; member = m.0 }, first_number)) (numbered_members s.1.def)) change (λ n s. ap (λ (def : SetDef). map (λ m. (record { set = n; member = m.0 }, first_number)) (numbered_members def)) (changes.defined s)) 0 k.target.target_sets)
-
     -- last numbers stay
     numbers_are : (before now : Contents) → Holds world k.target before → NoneNumbered k.at_target.def → now areas.SetState 1 ≡ before areas.SetState 1
         → shown target areas.SetState 1 (now areas.SetState 1) ≡ tables after_it target areas.SetState 1
     unfolding tables
     numbers_are before now holds none same =
-        ap₂ (λ (first t : Table). with_first first t) first_numbers_stay same
+        ap₂ (λ (first t : Table). with_first first t) (first_numbers_stay k.target change changes.defined) same
         ∙ holds areas.SetState 1
         ∙ sym (alike areas.SetState 1 ∙ ap (table_from_rows member_key_spelling last_number_spelling) (lists_of_one_stay rows change k.target.target_sets number k.at_target one stay 0))
       where

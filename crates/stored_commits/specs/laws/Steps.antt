@@ -1,14 +1,15 @@
 -- What the target of a set holds after a block or a refresh.
 use Rattle.std.proofs.Common.{◌≡◌, ◌≢◌, ℕ, zero, suc, Bool, true, false, cond, List, [], ◌∷◌, ◌++◌, map, Option, refl, sym, ap, subst, ◌∙◌, ◌/◌, ◌%◌, ◌==◌, slice_get, true≢false, eq-eqb}
 use Rattle.std.specs.Option.{option_map_or}
-use Rattle.world_store.specs.Words.{b64, set_spelling, set_cmp, entry_spelling, table_from_rows, target_set_rows, source_of, trail_rows, no_rows, member_table, tables, with_first, first_table, Holds}
-use Rattle.repl_model.specs.Words.{Area, SetId, target_set_spelling, SetDef, TargetSet, by_key, Entry, TargetSide, Server, World, KnownSet, same_set, known_sets, ServerKeepsRules, read_only_sets, IsSound, with_entry, refreshed, In, at_one}
+use Rattle.world_store.specs.Words.{b64, set_spelling, entry_spelling, table_from_rows, target_set_rows, source_of, trail_rows, no_rows, member_table, tables, with_first, first_table, Holds}
+use Rattle.repl_model.specs.Words.{Area, target_set_spelling, SetDef, Entry, TargetSide, Server, World, KnownSet, same_set, known_sets, ServerKeepsRules, read_only_sets, IsSound, with_entry, refreshed, In, at_one}
 use Rattle.repl_types.specs.declared.area.Area.TheVariants as areas
 use Rattle.keep_core.specs.Contents.{Contents}
 use Rattle.world_commits.specs.actions.laws.Signals.{set_stands}
 use Rattle.stored_commits.specs.actions.ActedServers.{HasTargetNumber, Acted, with_step, with_refresh, BlockHolds, RefreshHolds, OthersHoldAfterStep}
-use Rattle.stored_commits.specs.laws.OneRow.{OneChanges, one_changes, places_stay, numbered_stay}
-use Rattle.stored_commits.specs.laws.ActedWorlds.{tables_stay}
+use Rattle.stored_commits.specs.laws.OneRow.{OneChanges, one_changes, places_stay}
+use Rattle.stored_commits.specs.laws.TargetRows.{definitions_stay}
+use Rattle.stored_commits.specs.laws.ActedWorlds.{same_tables}
 
 -- what a function makes of what another made of the elements of a list
 pub made_twice : {X : Type 0} (f g : X → X) (xs : List X) → map f (map g xs) ≡ map (λ x. f (g x)) xs
@@ -99,17 +100,13 @@ step_holds : (world after_it : World) (k : KnownSet) (number : ℕ) (change : Ta
     → Holds after_it k.target before → Acted number after_it (record k.target { target_sets = map change k.target.target_sets }) before now
     → Holds after_it (record k.target { target_sets = map change k.target.target_sets }) now
 step_holds world after_it k number change before now sound i is changes holds acted =
-    acted_holds after_it k.target (map change sides) number definitions (places_stay change sides number k.at_target one) before now holds acted
+    acted_holds after_it k.target (map change sides) number (definitions_stay k.target change changes.defined) (places_stay change sides number k.at_target one) before now holds acted
   where
     sides : List TargetSide
     sides = k.target.target_sets
 
     one : OneChanges change sides number k.at_target
     one = one_set_changes world k number change sound i is changes
-
-    definitions : target_set_rows (record k.target { target_sets = map change sides }) ≡ target_set_rows k.target
-    definitions = ap (λ (rows : List (SetId × TargetSet)). by_key set_cmp rows)
-        (numbered_stay (λ (s : ℕ × TargetSide). (s.1.def.id, record { number = s.0; def = s.1.def })) change (λ n side. ap (λ (def : SetDef). (def.id, record { number = n; def = def })) (changes.defined side)) 0 sides)
 
 -- ---- blocks and refreshes
 
@@ -148,11 +145,11 @@ refresh_changes def entry = record {
 
 -- the tables of each server, as it is, are the same after one more entry
 pub same_after_step : (world : World) (k : KnownSet) (entry : Entry) (server : Server) (a : Area) (n : ℕ) → tables (with_step world k entry) server a n ≡ tables world server a n
-same_after_step world k entry = tables_stay (λ server. server.source_sets) (λ server. (with_entry k.at_target.def entry server).target_sets) k.target.name world
+same_after_step world k entry = same_tables (λ server. server.source_sets) (λ server. (with_entry k.at_target.def entry server).target_sets) k.target.name world
 
 -- and after a refresh
 pub same_after_refresh : (world : World) (k : KnownSet) (entry : Entry) (server : Server) (a : Area) (n : ℕ) → tables (with_refresh world k entry) server a n ≡ tables world server a n
-same_after_refresh world k entry = tables_stay (λ server. server.source_sets) (λ server. (refreshed k.at_target.def entry server).target_sets) k.target.name world
+same_after_refresh world k entry = same_tables (λ server. server.source_sets) (λ server. (refreshed k.at_target.def entry server).target_sets) k.target.name world
 
 -- so each server holds, as it is, what the world after one more entry calls for
 after_step : (world : World) (k : KnownSet) (entry : Entry) (server : Server) (held : Contents) → Holds world server held → Holds (with_step world k entry) server held

@@ -4,14 +4,13 @@ use Rattle.std.specs.List.{AllByRecursion}
 use Rattle.std.specs.FinMap.{insert, remove, entries, entries-insert}
 use Rattle.std.specs.FinMap.Entries.{where_key}
 use Rattle.std.specs.Ordering.{eq_by_cmp}
-use Rattle.world_store.specs.Words.{IsKey, IsRow, key_spelling, row_spelling, order_key, table_from_rows}
+use Rattle.world_store.specs.Words.{IsKey, IsRow, key_spelling, row_spelling, order_key, table_from_rows, put_table, removed_table}
 use Rattle.repl_model.specs.Words.{Values, key_cmp, all_weaker, all_filter, key_cmp_total, exact_key, Change, TableDef, Rows, key_of, table_of, effect, after_change, entries_remove}
 use Rattle.repl_types.specs.declared.record.Change.TheVariants.{Insert, Update, Delete, Start, Stop}
 use Rattle.keep_core.specs.Contents.{Table, set_key}
 use Rattle.stored_commits.specs.records.SourceTables.{rows_table, StandsUnderKey, RowsStand, HasRows, TypedChangesHaveRows, with_effect, ChangeIsStored, RowsStayStanding, with_changes, ChangesAreStored}
 use Rattle.stored_commits.specs.records.laws.StandingRows.{table_of_entries, key_fits}
 use Rattle.stored_commits.specs.laws.LoggedPuts.{put_all}
-use Rattle.stored_commits.specs.laws.PutTables.{put_table, removed_table}
 
 -- ---- keys
 
@@ -42,7 +41,7 @@ put_stored : (def : TableDef) (rows : Rows) (key row : Values) → RowsStand def
 put_stored def rows key row stand fits =
     entries_table (insert rows key row)
     ∙ ap (table_from_rows key_spelling row_spelling) (entries-insert key_cmp_total rows key row)
-    ∙ put_table key_spelling IsKey key_cmp key_cmp_total order_key row_spelling key row (entries rows) fits (entries_fit def rows stand)
+    ∙ put_table key_spelling IsKey key_cmp order_key row_spelling key row (entries rows) fits (entries_fit def rows stand)
     ∙ ap (λ (t : Table). set_key t (key_spelling key) (Some (row_spelling row))) (sym (entries_table rows))
 
 -- the stored table after the row of a key is removed

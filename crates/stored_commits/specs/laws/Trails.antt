@@ -1,10 +1,7 @@
 -- Where the trails of sound sets end.
 use Rattle.std.proofs.Common.{◌≡◌, ℕ, ◌≤◌, Bool, true, false, not, List, [], ◌∷◌, length, refl, sym, ap, subst, ◌∙◌, arith, fold, nat_lt, lt-ltb}
-use Rattle.repl_model.specs.Words.{LogRecord, Trail, refresh, block, load, settle, point_after, synchpoint, base_after, base_of, World, KnownSet, known_sets, is_replica_set, replica_sets, read_only_sets, loaded_sets, SettlesFrom, IsReplicaTrail, ReplicaMarksAreSound, GoesOn, TrailIsSound, IsSound, EndsWithin, In, at_one, kept_by, trail_within, last_commit_within}
-
--- the point that the targets have reached after some entries, from one on
-abbrev pub reach : ℕ → Trail → ℕ
-reach point trail = fold (λ point e. point_after e) point trail
+use Rattle.world_store.specs.Words.{reach}
+use Rattle.repl_model.specs.Words.{LogRecord, Trail, refresh, block, load, settle, synchpoint, base_after, base_of, World, KnownSet, known_sets, is_replica_set, replica_sets, read_only_sets, loaded_sets, SettlesFrom, IsReplicaTrail, ReplicaMarksAreSound, GoesOn, TrailIsSound, IsSound, EndsWithin, In, at_one, kept_by, trail_within, last_commit_within}
 
 -- Where a trail ends: within a log of this length, and at no lower point than its last refresh.
 pub record EndsAt (len : ℕ) (trail : Trail) : Type 0 where
@@ -14,14 +11,6 @@ pub record EndsAt (len : ℕ) (trail : Trail) : Type 0 where
 -- an empty trail ends within any log
 pub none_ends : (len : ℕ) → EndsAt len []
 none_ends len = record { within = tt; rises = omega arith }
-
--- the point that is reached is within the log
-pub reach_within : (len point : ℕ) (trail : Trail) → point ≤ len → EndsWithin len trail → reach point trail ≤ len
-reach_within len point [] h within = h
-reach_within len point (refresh p q ∷ trail) h within = reach_within len p trail within.0.0 within.1
-reach_within len point (block low high q ∷ trail) h within = reach_within len high trail within.0.1.0 within.1
-reach_within len point (load m f rows ∷ trail) h within = reach_within len m trail within.0.0 within.1
-reach_within len point (settle m f rejected applied ∷ trail) h within = reach_within len m trail within.0.0 within.1
 
 -- ---- read-only sets
 

@@ -1,11 +1,11 @@
 -- What is seen at servers that stand for a world: proofs, and nothing to believe.
-use Rattle.std.proofs.Common.{◌≡◌, ℕ, zero, suc, ◌<◌, Bool, true, false, cond, List, [], ◌∷◌, length, map, get_or, refl, sym, ap, subst, ◌∙◌, arith, Option, Some, None, IfSome, bytes_eq}
+use Rattle.std.proofs.Common.{◌≡◌, ℕ, zero, suc, ◌<◌, Bool, true, false, cond, List, [], ◌∷◌, length, map, get_or, inl, inr, refl, sym, ap, subst, ◌∙◌, arith, Option, Some, None, IfSome, bytes_eq}
 use Rattle.std.specs.List.{AllByRecursion, AllZip}
 use Rattle.std.proofs.lemmas.List.{length-map}
 use Rattle.world_store.specs.Words.{short_text, IsName, set_spelling, IsSet, table_from_rows, table_rows, registration_rows, source_set_rows, target_set_rows, tables, definition_table, Holds, Reveals, Stands, RowFits, AreRows, table_rows_are, registration_rows_are, source_rows_are, target_rows_are}
 use Rattle.site_store.specs.Words.{Contents, Table, Kept, seen_of, AllClosed, AreApart, HasNone, IsPlace, names, held, work, sees, Bounds, Stays, Blames, IsSpelt, IsNoDamage, rows_spelt, spelt_undamaged, no_damage}
 use Rattle.site_store.specs.declared.sites.Sites.{Sites}
-use Rattle.repl_model.specs.Words.{SetId, all_weaker, Fault, defined_table_spelling, IsDefinedTable, defined_registration_spelling, IsDefinedRegistration, source_set_spelling, IsSourceSet, target_set_spelling, IsTargetSet, TargetSet, empty_server, Server, World, server_named, server_in, ServerKeepsRules, name_itself, same_name}
+use Rattle.repl_model.specs.Words.{SetId, all_weaker, Fault, defined_table_spelling, IsDefinedTable, defined_registration_spelling, IsDefinedRegistration, source_set_spelling, IsSourceSet, target_set_spelling, IsTargetSet, TargetSet, empty_server, Server, World, server_named, server_in, ServerKeepsRules, In, name_itself, same_name}
 use Rattle.repl_types.specs.declared.area.Area.TheVariants as areas
 use Rattle.stored_defs.specs.Reading.{HasRecords}
 use Rattle.stored_defs.specs.Rules.{rules, ShowsDamage}
@@ -19,11 +19,17 @@ all_at_place P (x ∷ xs) zero d all lt = all.0
 all_at_place P (x ∷ xs) (suc n) d all lt = all_at_place P xs n d all.1 (omega arith)
 
 -- what holds of two lists place by place holds at each place
-zip_at_place : {X Y : Type 0} (R : X → Y → Type 0) (xs : List X) (ys : List Y) (n : ℕ) (d : X) (e : Y) → AllZip R xs ys → n < length xs → R (get_or xs n d) (get_or ys n e)
+pub zip_at_place : {X Y : Type 0} (R : X → Y → Type 0) (xs : List X) (ys : List Y) (n : ℕ) (d : X) (e : Y) → AllZip R xs ys → n < length xs → R (get_or xs n d) (get_or ys n e)
 zip_at_place R [] ys n d e all lt = absurd (omega arith)
 zip_at_place R (x ∷ xs) [] n d e all lt = absurd all
 zip_at_place R (x ∷ xs) (y ∷ ys) zero d e all lt = all.0
 zip_at_place R (x ∷ xs) (y ∷ ys) (suc n) d e all lt = zip_at_place R xs ys n d e all.1 (omega arith)
+
+-- what stands at a place is in the list
+pub in_at : {X : Type 0} (xs : List X) (n : ℕ) (d : X) → n < length xs → In (get_or xs n d) xs
+in_at [] n d lt = absurd (omega arith)
+in_at (x ∷ xs) zero d lt = inl refl
+in_at (x ∷ xs) (suc n) d lt = inr (in_at xs n d (omega arith))
 
 -- a function of what another gives
 map_again : {X Y Z : Type 0} (f : Y → Z) (g : X → Y) (xs : List X) → map f (map g xs) ≡ map (λ x. f (g x)) xs

@@ -1,10 +1,11 @@
--- What stays sound with the next action of a read-only set.
-use Rattle.std.specs.Prelude.{◌≡◌, ◌+◌, ◌≤◌, length}
+-- Which actions of a read-only set may be made, and that a world stays sound with each of these.
+use Rattle.std.specs.Prelude.{◌≡◌, ℕ, ◌+◌, ◌<◌, ◌≤◌, false, IsTrue, length, None, ⊤}
+use Rattle.repl_model.specs.Trails.{synchpoint, base_of}
 use Rattle.repl_model.specs.World.{World, KnownSet, known_sets}
 use Rattle.repl_model.specs.SoundLogs.{log_limit}
 use Rattle.repl_model.specs.SoundDefinitions.{read_only_sets}
-use Rattle.repl_model.specs.Sound.{IsSound}
-use Rattle.repl_model.specs.NextActions.{next_action, signals}
+use Rattle.repl_model.specs.Sound.{is_seq, IsSound}
+use Rattle.repl_model.specs.NextActions.{gap_of, is_new, Action, signals, refreshes, blocks, reports, idles, refuses, next_action}
 use Rattle.repl_model.specs.AfterActions.{signal_records, after_action}
 use Rattle.lists.specs.laws.Members.{In}
 
@@ -12,9 +13,32 @@ use Rattle.lists.specs.laws.Members.{In}
 abbrev pub HasRoom : KnownSet → Type 0
 HasRoom k = length k.source.log + length (signal_records k.at_source.def k.source.log) ≤ log_limit
 
--- A world stays sound with the next action of a read-only set that is known there, if the log of its source has
--- room for a signal, should that be the action.
-abbrev pub NextActionsSound : Type 0
-NextActionsSound = (world : World) (k : KnownSet) → IsSound world → In k (read_only_sets (known_sets world))
-    → (next_action k ≡ signals → HasRoom k)
-    → IsSound (after_action world k (next_action k))
+-- a refresh may be made: the set's last signal is later than its last refresh
+abbrev pub MayRefresh : KnownSet → Type 0
+MayRefresh k = base_of k.at_target.trail < k.at_source.signal
+
+-- A block may be made up to a point: the set was refreshed and has no gap, and the point is the seq of a captured unit
+-- above the point that its targets have reached.
+pub record MayBlock (k : KnownSet) (upto : ℕ) : Type 0 where
+  pub refreshed : is_new k.at_target.trail ≡ false
+  pub gap : gap_of k ≡ None
+  pub above : synchpoint k.at_target.trail < upto
+  pub captured : upto ≤ k.source.captured
+  pub seq : IsTrue (is_seq k.source.log upto)
+
+-- An action may be made. A report always may.
+abbrev pub MayMake : KnownSet → Action → Type 0
+MayMake k signals = HasRoom k
+MayMake k refreshes = MayRefresh k
+MayMake k (blocks upto) = MayBlock k upto
+MayMake k reports = ⊤
+MayMake k idles = ⊤
+MayMake k (refuses place) = ⊤
+
+-- a world stays sound with an action that a read-only set that is known there may make
+abbrev pub ActionsSound : Type 0
+ActionsSound = (world : World) (k : KnownSet) (action : Action) → IsSound world → In k (read_only_sets (known_sets world)) → MayMake k action → IsSound (after_action world k action)
+
+-- what such a set does next may be made, if the log of its source has room for a signal, should that be the action
+abbrev pub NextMayBeMade : Type 0
+NextMayBeMade = (world : World) (k : KnownSet) → IsSound world → In k (read_only_sets (known_sets world)) → (next_action k ≡ signals → HasRoom k) → MayMake k (next_action k)

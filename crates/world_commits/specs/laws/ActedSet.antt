@@ -1,11 +1,16 @@
 -- Which server, and which of its rows, a known set has.
-use Rattle.std.proofs.Common.{◌≡◌, ℕ, true, List, Option, sym, ap, subst, ◌∙◌, is_some, option_map, option_and_then, bytes_eq}
-use Rattle.repl_model.specs.Words.{SetId, SourceSide, Server, World, KnownSet, same_set, source_side, known_from, all_differ, In, only_one, same_name, name_itself, same_id, id_itself, StandsIn}
+use Rattle.std.proofs.Common.{◌≡◌, ℕ, true, List, Option, Some, sym, ap, subst, ◌∙◌, is_some, option_map, option_and_then, bytes_eq}
+use Rattle.repl_model.specs.Words.{SetId, SourceSide, Server, World, KnownSet, same_set, source_side, server_named, known_from, all_differ, In, only_one, found_alone, same_name, name_itself, same_id, id_itself, StandsIn}
 
 -- servers of one name are one, if names differ
 pub same_server : (world : World) (a b : Server) → all_differ (λ s t. bytes_eq s.name t.name) world ≡ true → In a world → In b world → bytes_eq a.name b.name ≡ true → a ≡ b
 same_server world a b differ i j e = only_one (λ (s t : Server). bytes_eq s.name t.name) world a b differ i j e
     (subst (λ (name : List ℕ). bytes_eq b.name name ≡ true) (sym (same_name a.name b.name e)) (name_itself b.name))
+
+-- a server of a world is the one of its name, if names differ
+pub named_alone : (name : List ℕ) (world : World) (server : Server) → all_differ (λ a b. bytes_eq a.name b.name) world ≡ true → In server world → bytes_eq name server.name ≡ true → server_named name world ≡ Some server
+named_alone name world server differ i e = found_alone (λ (a b : Server). bytes_eq a.name b.name) (λ (a : Server). bytes_eq name a.name)
+    (λ a b of_a of_b. ap (λ (n : List ℕ). bytes_eq n b.name) (sym (same_name name a.name of_a)) ∙ of_b) world server differ i e
 
 -- what is named as a set is one, if no two of some are named as one set
 pub same_named : {X : Type 0} (id_of : X → SetId) (xs : List X) (x y : X) → all_differ (λ a b. same_set (id_of a) (id_of b)) xs ≡ true → In x xs → In y xs → same_set (id_of x) (id_of y) ≡ true → x ≡ y

@@ -2,7 +2,7 @@
 use Rattle.std.proofs.Common.{◌≡◌, ℕ, ◌<◌, ◌≤◌, Bool, true, ◌&&◌, ◌⊎◌, inl, inr, List, [], ◌∷◌, map, Option, Some, refl, sym, ap, subst, arith, ◌==◌, nat_lt, nat_le, filter, fold}
 use Rattle.std.specs.List.{enumerate_from, last_or}
 use Rattle.std.specs.Option.{option_map_or}
-use Rattle.std.proofs.lemmas.Bool.{and_parts, and_from, or_cases, lt-ltb, le-leb, ltb-true, eqb-true, eq-eqb}
+use Rattle.std.proofs.lemmas.Bool.{and_parts, and_from, or_cases, lt-ltb, le-leb, ltb-true, leb-true, eqb-true, eq-eqb}
 use Rattle.repl_model.specs.Words.{LogRecord, Unit, SetDef, units, last_seq, last_commit, units_between, is_seq, is_seq_or_zero, is_within, first_cut, In, any_from, some_passes, in_filter, kept_by, in_map, numbered_in}
 use Rattle.world_commits.specs.captures.laws.Units.{Rise, units_rise}
 
@@ -91,15 +91,16 @@ cut_of_some : (def : SetDef) (us : List Unit) (u : Unit) → In u us → (v : Un
 cut_of_some def [] u i = absurd i
 cut_of_some def (v ∷ vs) u i = cut_is_unit def v vs
 
--- a block of the units after one point and up to another ends at a seq above the first, if the other is a seq above it
-pub cut_above : (def : SetDef) (log : List LogRecord) (low high : ℕ) → low < high → is_seq log high ≡ true → let point = option_map_or (λ u. u.head.seq) (first_cut def (units_between low high log)) 0 in (low < point) × (is_seq log point ≡ true)
+-- a block of the units after one point and up to another ends at a seq between them, if the other is a seq above it
+pub cut_above : (def : SetDef) (log : List LogRecord) (low high : ℕ) → low < high → is_seq log high ≡ true → let point = option_map_or (λ u. u.head.seq) (first_cut def (units_between low high log)) 0 in (low < point) × (point ≤ high) × (is_seq log point ≡ true)
 cut_above def log low high above e =
     let u = some_passes (λ (v : Unit). v.head.seq == high) (units log) e in
     let at : u.0.head.seq ≡ high = eqb-true u.0.head.seq high u.2 in
     let cut = cut_of_some def (units_between low high log) u.0 (kept_by is_between (units log) u.0 u.1 (and_from (nat_lt low u.0.head.seq) (nat_le u.0.head.seq high) (lt-ltb low u.0.head.seq (omega (arith, at, above))) (le-leb u.0.head.seq high (omega (arith, at))))) in
     let kept = in_filter is_between (units log) cut.0 cut.1 in
-    subst (λ (point : ℕ). (low < point) × (is_seq log point ≡ true)) (ap (λ (o : Option Unit). option_map_or (λ v. v.head.seq) o 0) (sym cut.2))
-    (ltb-true low cut.0.head.seq (and_parts (nat_lt low cut.0.head.seq) (nat_le cut.0.head.seq high) kept.1).0, unit_has_seq log cut.0.head.seq cut.0 kept.0 refl)
+    let within = and_parts (nat_lt low cut.0.head.seq) (nat_le cut.0.head.seq high) kept.1 in
+    subst (λ (point : ℕ). (low < point) × (point ≤ high) × (is_seq log point ≡ true)) (ap (λ (o : Option Unit). option_map_or (λ v. v.head.seq) o 0) (sym cut.2))
+    (ltb-true low cut.0.head.seq within.0, leb-true cut.0.head.seq high within.1, unit_has_seq log cut.0.head.seq cut.0 kept.0 refl)
   where
     is_between : Unit → Bool
     is_between u = nat_lt low u.head.seq && nat_le u.head.seq high

@@ -1,18 +1,32 @@
 -- A world stays sound when the log of one of its servers is made longer.
-use Rattle.std.proofs.Common.{◌≡◌, Bool, true, false, cond, not, List, [], ◌∷◌, length, Option, Some, refl, sym, ap, subst, ◌∙◌, IsTrue, is_some, nat_lt, ◌&&◌, ◌||◌, bytes_eq}
+use Rattle.std.proofs.Common.{◌≡◌, ℕ, Bool, true, false, cond, not, List, [], ◌∷◌, length, Option, Some, refl, sym, ap, subst, ◌∙◌, IsTrue, is_some, append-nil, filter, nat_lt, ◌&&◌, ◌||◌, bytes_eq}
 use Rattle.std.specs.List.{AllByRecursion, list_all}
 use Rattle.std.specs.Option.{option_map_or}
 use Rattle.std.proofs.lemmas.Bool.{and_from}
 use Rattle.std.proofs.lemmas.List.Folds.{list_all-append}
-use Rattle.repl_model.specs.Words.{all_weaker, SetId, Unit, Server, World, KnownSet, server_named, same_set, source_side, target_side, is_known, known_sets, comes_from, is_replica_set, LogIsSound, DefinitionsAreSound, has_origin, replica_sets, read_only_sets, loaded_sets, ReplicaMarksAreSound, IsExactlyOnce, IsIndependent, DecisionsAreCaptured, NumbersAreSound, SignalsAreSound, TrailIsSound, with_more, grown_server, grown, grown_set, new_units, NoneFrom, In, at_one, at_each, in_filter, each_image, found_in, known_stands, source_in, captured_grow, exactly_once_grows, independence_grows, known_sets_grow, marks_grow, numbers_grow, read_only_sets_grow, signals_grow, trail_grows, loaded_sets_grow, new_units_later}
+use Rattle.repl_model.specs.Words.{all_weaker, LogRecord, SetId, Unit, units, Server, World, KnownSet, server_named, same_set, source_side, target_side, is_known, known_sets, comes_from, is_replica_set, LogIsSound, DefinitionsAreSound, has_origin, replica_sets, read_only_sets, loaded_sets, ReplicaMarksAreSound, IsExactlyOnce, IsIndependent, DecisionsAreCaptured, NumbersAreSound, SignalsAreSound, TrailIsSound, with_more, grown_server, grown, grown_set, new_units, NoneFrom, In, at_one, at_each, in_filter, each_image, found_in, known_stands, source_in, captured_grow, exactly_once_grows, independence_grows, known_sets_grow, marks_grow, numbers_grow, read_only_sets_grow, signals_grow, trail_grows, loaded_sets_grow, new_units_later}
 use Rattle.world_commits.specs.logs.LongerLogs.{CanCome}
 use Rattle.world_commits.specs.logs.StaysSound.{GrowsSound, UsersRecordsStaySound}
-use Rattle.world_commits.specs.logs.laws.Units.{later_units}
+use Rattle.world_commits.specs.logs.laws.Units.{is_past, later_units, none_past_end}
 use Rattle.world_commits.specs.logs.laws.Servers.{world_grows}
 use Rattle.world_commits.specs.laws.Units.{HasNoOrigin, users_units}
-use Rattle.world_commits.specs.laws.LongerWorlds.{named_alone, new_of_named, none_of_others}
+use Rattle.world_commits.specs.laws.ActedSet.{named_alone}
 use Rattle.world_commits.specs.laws.LoggedDefinitions.{definitions_longer}
 use Rattle.world_commits.specs.laws.OneLog.{log_stays_sound}
+
+-- ---- the units that come
+
+-- the server of the name gets the units of its longer log
+pub new_of_named : (name : List ℕ) (more : List LogRecord) (server : Server) → bytes_eq name server.name ≡ true → new_units name more server ≡ later_units server.log more
+new_of_named name more server e = new_units_later name more server ∙ ap (λ (b : Bool). later_units server.log (cond b more [])) e
+
+-- a server of another name gets no units
+pub none_of_others : (name : List ℕ) (more : List LogRecord) (server : Server) → bytes_eq name server.name ≡ false → new_units name more server ≡ []
+none_of_others name more server e =
+    new_units_later name more server
+    ∙ ap (λ (b : Bool). later_units server.log (cond b more [])) e
+    ∙ ap (λ (log : List LogRecord). filter (is_past (length server.log)) (units log)) (append-nil server.log)
+    ∙ none_past_end server.log
 
 -- no units can come to any server
 none_can_come : (world : World) (server : Server) → CanCome world server []
@@ -86,7 +100,7 @@ from_none id [] h = refl
 from_none id (u ∷ us) h = and_from (not (comes_from id u)) (list_all (λ v. not (comes_from id v)) us) (ap (λ (o : Option SetId). not (option_map_or (same_set id) o false)) h.0) (from_none id us h.1)
 
 -- units without origins can come to any server
-can_come_to : (world : World) (server : Server) (us : List Unit) → AllByRecursion HasNoOrigin us → CanCome world server us
+pub can_come_to : (world : World) (server : Server) (us : List Unit) → AllByRecursion HasNoOrigin us → CanCome world server us
 can_come_to world server us h = record {
   origins = all_weaker HasNoOrigin (λ u. IsTrue (has_origin world server u)) us (λ u e. ap (λ (o : Option SetId). option_map_or (λ id. is_known world id && (is_some (source_side id server) || is_some (target_side id server))) o true) e) h;
   others = at_each (λ (k : KnownSet). IsTrue (list_all (λ u. not (comes_from k.at_target.def.id u)) us)) (replica_sets (known_sets world)) (λ k i. from_none k.at_target.def.id us h);

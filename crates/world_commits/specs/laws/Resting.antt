@@ -9,7 +9,7 @@ use Rattle.repl_types.specs.declared.refusal.GapPlace.TheVariants as gaps
 use Rattle.world_commits.specs.actions.Resting.{commits_world, refresh_steps, report_steps, steps_by_gap, steps_left, NextActionsRest}
 use Rattle.world_commits.specs.actions.laws.Signals.{set_stands, signal_is}
 use Rattle.world_commits.specs.laws.Commits.{seq_or_zero_up_to_last}
-use Rattle.world_commits.specs.laws.Trails.{BlocksNext, block_is_next, block_ends_above, reached_with, both_changes}
+use Rattle.world_commits.specs.laws.Trails.{BlocksNext, block_is_next, next_block_may, reached_with, both_changes}
 use Rattle.world_commits.specs.laws.KnownAfter.{grown_named, HasFewerLeft, fewer_at_source, fewer_at_target}
 
 -- ---- gaps
@@ -234,7 +234,7 @@ fewer_by_block k upto numbers next =
     known = block_is_next k upto next
 
     above : synchpoint k.at_target.trail < upto
-    above = (block_ends_above k upto numbers known).0
+    above = (next_block_may k upto numbers known).above
 
     before : steps_left k ≡ k.source.captured - synchpoint k.at_target.trail + 2
     before =

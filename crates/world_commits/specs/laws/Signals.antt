@@ -1,41 +1,27 @@
 -- A world whose action is the signal of a read-only set.
-use Rattle.std.proofs.Common.{◌≡◌, ℕ, Bool, true, false, cond, not, ◌&&◌, ◌||◌, List, [], ◌∷◌, length, Option, Some, refl, sym, ap, subst, ◌∙◌, append-nil, IsTrue, filter, is_some, option_map, option_and_then, bytes_eq}
+use Rattle.std.proofs.Common.{◌≡◌, ℕ, Bool, true, false, cond, not, ◌&&◌, ◌||◌, List, [], ◌∷◌, Option, Some, refl, sym, ap, subst, ◌∙◌, append-nil, IsTrue, is_some, option_map, option_and_then, bytes_eq}
 use Rattle.std.proofs.lemmas.Bool.{and_from, or_left, not-true, not_from_false, false_from_ne_true, both_ways}
-use Rattle.std.proofs.lemmas.Option.{same_Some}
-use Rattle.repl_model.specs.Words.{LogRecord, SetId, units, SourceSide, Server, World, KnownSet, same_set, server_named, source_side, target_side, known_from, known_sets, is_known, is_replica_set, LogIsSound, replica_sets, read_only_sets, ServerKeepsRules, KnownSetKeepsRules, IsSound, with_more, grown, new_units, signal_records, In, at_one, at_each, any_from, only_one, in_filter, kept_by, image_in, find_image, name_itself, same_id, id_itself, StandsIn, source_in, at_source_in, same_ids, known_in}
+use Rattle.repl_model.specs.Words.{LogRecord, SetId, Unit, SetDef, SourceSide, Server, World, KnownSet, same_set, source_side, target_side, known_from, known_sets, is_known, is_replica_set, replica_sets, read_only_sets, ServerKeepsRules, KnownSetKeepsRules, IsSound, with_more, grown, source_tables, signal_records, In, at_one, at_each, any_from, only_one, in_filter, kept_by, image_in, find_image, name_itself, same_id, id_itself, StandsIn, source_in, at_source_in, same_ids, known_in}
 use Rattle.world_commits.specs.logs.LongerLogs.{CanCome}
-use Rattle.world_commits.specs.logs.laws.Units.{is_past}
 use Rattle.world_commits.specs.logs.laws.Servers.{longer, longer_world, world_grows}
 use Rattle.world_commits.specs.actions.StaysSound.{HasRoom}
 use Rattle.world_commits.specs.actions.laws.Signals.{is_one_known, set_stands, source_is_named}
-use Rattle.world_commits.specs.laws.SignalUnits.{signal_unit, signal_comes}
-use Rattle.world_commits.specs.laws.SignalLogs.{log_with_signal}
-use Rattle.world_commits.specs.laws.LogsStaySound.{grows_sound}
+use Rattle.world_commits.specs.laws.OwnUnits.{own_unit}
+use Rattle.world_commits.specs.laws.OwnLogs.{own_grows_sound}
+use Rattle.world_commits.specs.laws.SignalLogs.{starts, signal_is_own, signal_may_follow}
 
 -- ---- the longer log
 
--- the log of a set's source stays sound with the set's signal, if it has room for it
-pub signal_log_sound : (world : World) (k : KnownSet) → IsSound world → In k (read_only_sets (known_sets world)) → HasRoom k
-    → LogIsSound (with_more (signal_records k.at_source.def k.source.log) k.source)
-signal_log_sound world k sound i room =
-    let stands = set_stands world k i in
-    let at = source_in world k stands in
-    log_with_signal world k.source k.at_source (at_one (ServerKeepsRules world) world k.source sound.definitions.servers at) (at_source_in world k stands) (at_one LogIsSound world k.source sound.logs at) room
+-- the unit of a set's signal after a log
+abbrev signal_unit : SetDef → List LogRecord → Unit
+signal_unit def log = own_unit (starts (source_tables def)) def.id.qual (Some def.id) log
 
--- the source gets the unit of the signal, and no other
-new_is_signal : (k : KnownSet) → new_units k.source.name (signal_records k.at_source.def k.source.log) k.source ≡ signal_unit k.at_source.def k.source.log ∷ []
-new_is_signal k =
-    let more = signal_records k.at_source.def k.source.log in
-    ap (λ (b : Bool). filter (is_past (length k.source.log)) (units (cond b (with_more more k.source) k.source).log)) (name_itself k.source.name)
-    ∙ signal_comes k.at_source.def k.source.log
-
--- the unit of the signal can come to the source without a step of a replica set
-pub signal_can_come : (world : World) (k : KnownSet) → IsSound world → In k (read_only_sets (known_sets world))
-    → CanCome world k.source (new_units k.source.name (signal_records k.at_source.def k.source.log) k.source)
-signal_can_come world k sound i = subst (CanCome world k.source) (sym (new_is_signal k)) (record {
+-- it can come to the set's source without a step of a replica set
+signal_can_come : (world : World) (k : KnownSet) → IsSound world → In k (read_only_sets (known_sets world)) → CanCome world k.source (signal_unit k.at_source.def k.source.log ∷ [])
+signal_can_come world k sound i = record {
   origins = (and_from (is_known world id) (is_some (source_side id k.source) || is_some (target_side id k.source)) known at_source, tt);
   others = at_each (λ (l : KnownSet). IsTrue (not (same_set l.at_target.def.id id) && true)) (replica_sets (known_sets world)) (λ l j. and_from (not (same_set l.at_target.def.id id)) true (not_from_false (same_set l.at_target.def.id id) (apart l j)) refl);
-})
+}
   where
     id : SetId
     id = k.at_source.def.id
@@ -61,15 +47,13 @@ signal_can_come world k sound i = subst (CanCome world k.source) (sym (new_is_si
 -- a world stays sound when the log of a set's source is longer by the set's signal
 pub signal_grows_sound : (world : World) (k : KnownSet) → IsSound world → In k (read_only_sets (known_sets world)) → HasRoom k
     → IsSound (grown k.source.name (signal_records k.at_source.def k.source.log) world)
-signal_grows_sound world k sound i room = grows_sound k.source.name more world sound
-    (λ server e. subst (λ (s : Server). LogIsSound (with_more more s)) (is_source server e) (signal_log_sound world k sound i room))
-    (λ server e. subst (λ (s : Server). CanCome world s (new_units k.source.name more s)) (is_source server e) (signal_can_come world k sound i))
-  where
-    more : List LogRecord
-    more = signal_records k.at_source.def k.source.log
-
-    is_source : (server : Server) → server_named k.source.name world ≡ Some server → k.source ≡ server
-    is_source server e = same_Some k.source server (sym (source_is_named world k i) ∙ e)
+signal_grows_sound world k sound i room =
+    let stands = set_stands world k i in
+    let def = k.at_source.def in
+    subst (λ (more : List LogRecord). IsSound (grown k.source.name more world)) (sym (signal_is_own def k.source.log))
+    (own_grows_sound k.source.name (starts (source_tables def)) def.id.qual (Some def.id) world k.source sound (source_is_named world k i)
+    (signal_may_follow world k.source k.at_source (at_one (ServerKeepsRules world) world k.source sound.definitions.servers (source_in world k stands)) (at_source_in world k stands) room)
+    (signal_can_come world k sound i))
 
 -- ---- the set in the longer world
 

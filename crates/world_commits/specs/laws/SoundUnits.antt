@@ -50,7 +50,7 @@ times_rise_push time (v ∷ us) u h g =
 
 -- one more unit leaves units sound, if its changes apply after theirs, its time isn't below theirs nor past
 -- the limit, and its starts and stops stand alone
-units_push : (tables : List TableDef) (us : List Unit) (u : Unit) → UnitsAreSound tables us
+pub units_push : (tables : List TableDef) (us : List Unit) (u : Unit) → UnitsAreSound tables us
     → list_all (λ def. all_apply def (unplaced u.changes) (after_units def us empty)) tables ≡ true → nat_le (last_time us) u.head.time ≡ true → u.head.time ≤ time_limit → signals_stand_alone u ≡ true
     → UnitsAreSound tables (us ++ u ∷ [])
 units_push tables us u h apply time early signals = record {

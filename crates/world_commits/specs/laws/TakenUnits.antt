@@ -7,7 +7,9 @@ use Rattle.repl_types.specs.declared.record.Change.TheVariants.{Insert, Update, 
 use Rattle.world_commits.specs.captures.Captures.{registered_after_change, registered_after, with_unit, with_units, uncaptured}
 use Rattle.world_commits.specs.captures.StaysSound.{AreNext, OthersAreNext}
 use Rattle.world_commits.specs.captures.laws.Units.{units_rise, is_after, others_after}
-use Rattle.world_commits.specs.captures.laws.Servers.{unit_keeps_rest, registrations_made}
+use Rattle.world_commits.specs.captures.laws.Servers.{unit_keeps_rest}
+use Rattle.world_commits.specs.laws.Changed.{registrations_made}
+use Rattle.world_commits.specs.laws.ChangedWorlds.{HasCapturedMore}
 
 -- ---- the next units
 
@@ -69,11 +71,6 @@ numbers_after_unit server u us e n =
           (all_weaker (IsUpTo server.captured) (λ r. IsUpTo u.head.seq (registered_after u.head.seq u.changes r)) (registered_of server) (λ r at. registered_up_to server.captured u r next.1 at) n.registered));
       shown = all_weaker (λ (c : ℕ × ℕ). (c.0 ≤ server.captured) × (0 < c.1) × (c.1 ≤ 4)) (λ c. (c.0 ≤ u.head.seq) × (0 < c.1) × (c.1 ≤ 4)) server.shown (λ c h. (omega (arith, h.0, next.1), h.1, h.2)) n.shown;
     }
-
--- A server has captured more than before, and its numbers are sound.
-pub record HasCapturedMore (before after : Server) : Type 0 where
-  pub point : before.captured ≤ after.captured
-  pub numbers : NumbersAreSound after
 
 -- a server that captures the next units has captured more
 pub captures_more : (us : List Unit) (server : Server) → NumbersAreSound server → AreNext server us → HasCapturedMore server (with_units us server)

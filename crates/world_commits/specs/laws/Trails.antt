@@ -5,10 +5,11 @@ use Rattle.std.proofs.lemmas.Bool.{true≢false, and_parts, and_from, or_right, 
 use Rattle.std.proofs.lemmas.List.Sums.{fold-append}
 use Rattle.std.proofs.lemmas.Simd.{map-map}
 use Rattle.std.proofs.Math.Path.{fun_ext}
-use Rattle.repl_model.specs.Words.{LogRecord, last_commit, Entry, Trail, refresh, block, load, settle, point_after, synchpoint, base_after, base_of, TargetSide, Server, World, KnownSet, same_set, known_sets, read_only_sets, is_seq, is_seq_or_zero, NumbersAreSound, is_base, GoesOn, SignalsAreSound, TrailIsSound, IsSound, block_end, Gap, gap_of, signals, refreshes, blocks, reports, idles, refuses, is_new, refresh_by_signal, by_gap, next_action, with_server, with_target_side, refreshed, is_base_aggregate, base_point, refresh_entry, block_entry, after_action, In, at_one, source_in}
-use Rattle.world_commits.specs.actions.laws.Signals.{is_one_known, set_stands}
+use Rattle.repl_model.specs.Words.{LogRecord, last_commit, Entry, Trail, refresh, block, load, settle, point_after, synchpoint, base_after, base_of, TargetSide, Server, World, KnownSet, same_set, known_sets, read_only_sets, is_seq, is_seq_or_zero, NumbersAreSound, is_base, GoesOn, SignalsAreSound, TrailIsSound, IsSound, block_end, Gap, gap_of, signals, refreshes, blocks, reports, idles, refuses, is_new, refresh_by_signal, by_gap, next_action, with_server, with_target_side, refreshed, is_base_aggregate, base_point, refresh_entry, block_entry, after_action, In, at_one}
+use Rattle.world_commits.specs.actions.StaysSound.{MayRefresh, MayBlock}
+use Rattle.world_commits.specs.actions.laws.Signals.{is_one_known}
 use Rattle.world_commits.specs.laws.Commits.{seq_up_to_last, last_is_seq, seq_above, seq_or_zero_up_to_last, cut_above}
-use Rattle.world_commits.specs.laws.TargetSides.{target_side_sound}
+use Rattle.world_commits.specs.laws.SetRows.{target_side_sound}
 
 -- ---- trails
 
@@ -58,9 +59,9 @@ base_is_seq k e = by_test (list_any (λ member. is_base_aggregate member.kind) k
 
 -- ---- what is next
 
--- a set whose next action is a refresh has a signal after the last one
-signal_before : (k : KnownSet) → next_action k ≡ refreshes → base_of k.at_target.trail < k.at_source.signal
-signal_before k e = by_signal (nat_le k.at_source.signal (base_of k.at_target.trail)) refl
+-- if the next action is a refresh, it may be made
+pub next_refresh_may : (k : KnownSet) → next_action k ≡ refreshes → MayRefresh k
+next_refresh_may k e = by_signal (nat_le k.at_source.signal (base_of k.at_target.trail)) refl
     (by_tests (is_new k.at_target.trail || k.at_target.flag) (nat_le k.source.captured (synchpoint k.at_target.trail)) (nat_lt k.at_source.mark (synchpoint k.at_target.trail)) (gap_of k) e)
   where
     by_disabled : (gap : Gap) (b : Bool) → cond b (refuses gap.place) (refresh_by_signal k) ≡ refreshes → refresh_by_signal k ≡ refreshes
@@ -119,11 +120,14 @@ block_is_next k upto e = by_tests (is_new k.at_target.trail || k.at_target.flag)
     }
     by_tests false false c (Some gap) old ahead is now = by_disabled gap gap.disabled now
 
--- the block then ends at a seq above the point that the targets have reached
-pub block_ends_above : (k : KnownSet) (upto : ℕ) → NumbersAreSound k.source → BlocksNext k upto → (synchpoint k.at_target.trail < upto) × (is_seq k.source.log upto ≡ true)
-block_ends_above k upto numbers known = subst (λ (point : ℕ). (synchpoint k.at_target.trail < point) × (is_seq k.source.log point ≡ true)) known.ends
-    (cut_above k.at_source.def k.source.log (synchpoint k.at_target.trail) k.source.captured known.ahead
-    (seq_above k.source.log (synchpoint k.at_target.trail) k.source.captured known.ahead numbers.captured))
+-- and the block may be made
+pub next_block_may : (k : KnownSet) (upto : ℕ) → NumbersAreSound k.source → BlocksNext k upto → MayBlock k upto
+next_block_may k upto numbers known = record { refreshed = known.old; gap = known.gap; above = cut.0; captured = cut.1; seq = cut.2 }
+  where
+    cut : (synchpoint k.at_target.trail < upto) × (upto ≤ k.source.captured) × (is_seq k.source.log upto ≡ true)
+    cut = subst (λ (point : ℕ). (synchpoint k.at_target.trail < point) × (point ≤ k.source.captured) × (is_seq k.source.log point ≡ true)) known.ends
+        (cut_above k.at_source.def k.source.log (synchpoint k.at_target.trail) k.source.captured known.ahead
+        (seq_above k.source.log (synchpoint k.at_target.trail) k.source.captured known.ahead numbers.captured))
 
 -- ---- one more entry
 
@@ -162,9 +166,9 @@ both_changes world k entry = ap (λ (f : Server → Server). with_server k.targe
         (map-map (if_its with_flag) (if_its with_trail) server.target_sets
         ∙ ap (λ (f : TargetSide → TargetSide). map f server.target_sets) (fun_ext (λ side. by_test side (same_set k.at_target.def.id side.def.id) refl)))
 
--- a world stays sound with a refresh of a read-only set, if that is its next action
-pub refresh_sound : (world : World) (k : KnownSet) → IsSound world → In k (read_only_sets (known_sets world)) → next_action k ≡ refreshes → IsSound (after_action world k refreshes)
-refresh_sound world k sound i next = subst IsSound (sym (both_changes world k (refresh_entry k)))
+-- a world stays sound with a refresh of a read-only set that may be made
+pub refresh_sound : (world : World) (k : KnownSet) → IsSound world → In k (read_only_sets (known_sets world)) → MayRefresh k → IsSound (after_action world k refreshes)
+refresh_sound world k sound i signal = subst IsSound (sym (both_changes world k (refresh_entry k)))
     (target_side_sound world k sound i (λ side. record side { flag = false; trail = side.trail ++ refresh_entry k ∷ [] }) (record { def = λ side. refl; signal = λ side. refl })
     (goes_further k.source.log 0 0 k.at_target.trail (refresh_entry k ∷ []) trail.goes
     (behind, omega (arith, signal, above), and_from (is_seq k.source.log (last_commit k.source.log)) (is_base k.source.log (base_point k)) last (base_is_seq k last), tt))
@@ -172,9 +176,6 @@ refresh_sound world k sound i next = subst IsSound (sym (both_changes world k (r
   where
     trail : TrailIsSound k
     trail = trail_at world k sound i
-
-    signal : base_of k.at_target.trail < k.at_source.signal
-    signal = signal_before k next
 
     signal_is_seq : is_seq k.source.log k.at_source.signal ≡ true
     signal_is_seq = seq_above k.source.log (base_of k.at_target.trail) k.at_source.signal signal (at_one SignalsAreSound (known_sets world) k sound.signals (is_one_known world k i)).0
@@ -188,25 +189,16 @@ refresh_sound world k sound i next = subst IsSound (sym (both_changes world k (r
     behind : synchpoint k.at_target.trail ≤ last_commit k.source.log
     behind = seq_or_zero_up_to_last k.source.log (synchpoint k.at_target.trail) (synchpoint_is_seq k trail)
 
--- a world stays sound with a block of a read-only set, if that is its next action
-pub block_sound : (world : World) (k : KnownSet) (upto : ℕ) → IsSound world → In k (read_only_sets (known_sets world)) → next_action k ≡ blocks upto → IsSound (after_action world k (blocks upto))
-block_sound world k upto sound i next = target_side_sound world k sound i (λ side. record side { trail = side.trail ++ block_entry k upto ∷ [] }) (record { def = λ side. refl; signal = λ side. refl })
+-- a world stays sound with a block of a read-only set that may be made
+pub block_sound : (world : World) (k : KnownSet) (upto : ℕ) → IsSound world → In k (read_only_sets (known_sets world)) → MayBlock k upto → IsSound (after_action world k (blocks upto))
+block_sound world k upto sound i may = target_side_sound world k sound i (λ side. record side { trail = side.trail ++ block_entry k upto ∷ [] }) (record { def = λ side. refl; signal = λ side. refl })
     (goes_further k.source.log 0 0 k.at_target.trail (block_entry k upto ∷ []) trail.goes
-    (refl, reaches.0, base_above_zero k.source.log k.at_target.trail trail.goes known.old, and_from (is_seq k.source.log upto) (is_base k.source.log (cond (upto == k.source.captured) (base_point k) None)) reaches.1 (read_at (upto == k.source.captured)), tt))
-    (subst (λ (n : ℕ). k.at_source.mark ≤ n) (sym (reached_with k.at_target.trail (block_entry k upto))) (omega (arith, trail.mark, reaches.0)))
+    (refl, may.above, base_above_zero k.source.log k.at_target.trail trail.goes may.refreshed, and_from (is_seq k.source.log upto) (is_base k.source.log (cond (upto == k.source.captured) (base_point k) None)) may.seq (read_at (upto == k.source.captured)), tt))
+    (subst (λ (n : ℕ). k.at_source.mark ≤ n) (sym (reached_with k.at_target.trail (block_entry k upto))) (omega (arith, trail.mark, may.above)))
   where
     trail : TrailIsSound k
     trail = trail_at world k sound i
 
-    known : BlocksNext k upto
-    known = block_is_next k upto next
-
-    numbers : NumbersAreSound k.source
-    numbers = at_one NumbersAreSound world k.source sound.numbers (source_in world k (set_stands world k i))
-
-    reaches : (synchpoint k.at_target.trail < upto) × (is_seq k.source.log upto ≡ true)
-    reaches = block_ends_above k upto numbers known
-
     read_at : (b : Bool) → is_base k.source.log (cond b (base_point k) None) ≡ true
-    read_at true = base_is_seq k (last_is_seq k.source.log upto reaches.1)
+    read_at true = base_is_seq k (last_is_seq k.source.log upto may.seq)
     read_at false = refl

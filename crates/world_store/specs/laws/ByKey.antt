@@ -1,24 +1,15 @@
 -- Entries in the order of their keys make rows that rise: proofs, and nothing to believe.
-use Rattle.std.proofs.Common.{◌≡◌, ℕ, ◌≤◌, ◌+◌, Bool, true, false, cond, List, [], ◌∷◌, length, refl, sym, ap, subst, ◌∙◌, arith, T, ◌&&◌, ◌||◌, fold, Option, Some, None, is_some, option_map, Ordering, Less, Equal, Greater}
+use Rattle.std.proofs.Common.{◌≡◌, ℕ, ◌≤◌, ◌+◌, Bool, true, false, cond, List, [], ◌∷◌, length, refl, sym, ap, subst, ◌∙◌, arith, T, ◌||◌, fold, Option, Some, None, is_some, option_map, Ordering, Less, Equal, Greater}
 use Rattle.std.specs.List.{AllByRecursion, list_any}
-use Rattle.std.specs.Ordering.{is_lt, is_eq, ordering_reverse, eq_by_cmp}
+use Rattle.std.specs.Ordering.{is_eq, ordering_reverse, eq_by_cmp}
 use Rattle.std.specs.Cmp.{IsTotalOrder}
-use Rattle.std.specs.FinMap.Entries.{by_order, find, put, below_all, is_sorted, is_sorted-put, find-put}
-use Rattle.repl_model.specs.Words.{bytes_cmp, by_key}
-use Rattle.rows_in_order.specs.Rows.{table_from_rows, AllAfter, IsRising}
+use Rattle.std.specs.FinMap.Entries.{by_order, find, put, is_sorted, is_sorted-put, find-put}
+use Rattle.row_codec.specs.Spelling.{Any}
+use Rattle.repl_model.specs.Words.{bytes_cmp, by_key, all_of}
+use Rattle.rows_in_order.specs.Rows.{table_from_rows, IsRising}
 use Rattle.rows_in_order.specs.laws.Before.{order}
 use Rattle.world_store.specs.SpelledRows.{RowFits}
-
--- a test of two that both pass
-both_pass : (a b : Bool) → T (a && b) → T a × T b
-both_pass true b e = (tt, e)
-both_pass false b e = absurd e
-
--- a test for less
-pub is_less : (o : Ordering) → T (is_lt o) → o ≡ Less
-is_less Less e = refl
-is_less Equal e = absurd e
-is_less Greater e = absurd e
+use Rattle.world_store.specs.laws.PutTables.{sorted_rises}
 
 -- sameness doesn't ask which comes first
 same_either : (o : Ordering) → is_eq (ordering_reverse o) ≡ is_eq o
@@ -39,15 +30,6 @@ spelled_order key = record {
 }
 
 module _ {K X : Type 0} (key : K → List ℕ) where
-  -- rows that are sorted by it rise
-  sorted_rises : (rows : List (K × X)) → T (is_sorted (spelled_cmp key) rows) → IsRising key rows
-  sorted_rises [] e = tt
-  sorted_rises (r ∷ rs) e = let p = both_pass (below_all (spelled_cmp key) r.0 rs) (is_sorted (spelled_cmp key) rs) e in (after rs p.0, sorted_rises rs p.1)
-    where
-      after : (rows : List (K × X)) → T (below_all (spelled_cmp key) r.0 rows) → AllAfter key (key r.0) rows
-      after [] e = tt
-      after (q ∷ qs) e = let p = both_pass (is_lt (bytes_cmp (key r.0) (key q.0))) (below_all (spelled_cmp key) r.0 qs) e in (is_less (bytes_cmp (key r.0) (key q.0)) p.0, after qs p.1)
-
   -- what stands at a key is what is found there
   table_finds : (value : X → List ℕ) (q : K) (rows : List (K × X)) → table_from_rows key value rows (key q) ≡ option_map value (find (spelled_cmp key) q rows)
   table_finds value q [] = refl
@@ -133,7 +115,7 @@ module _ {K X : Type 0} (key : K → List ℕ) where
       -- entries in the order of their keys rise
       pub by_key_rises : (entries : List (K × X)) → AllByRecursion (RowFits key_fits fits) entries → IsRising key (by_key cmp entries)
       unfolding by_key
-      by_key_rises entries all = subst (IsRising key) (sym (puts_alike entries [] all tt)) (sorted_rises (puts (spelled_cmp key) [] entries) (puts_sorted entries [] tt))
+      by_key_rises entries all = subst (IsRising key) (sym (puts_alike entries [] all tt)) (sorted_rises key Any (spelled_cmp key) (λ x y _ _. refl) (puts (spelled_cmp key) [] entries) (all_of (λ r. Any r.0) (puts (spelled_cmp key) [] entries) (λ r. tt)) (puts_sorted entries [] tt))
 
       -- what holds of all entries holds of them
       pub by_key_fits : (entries : List (K × X)) → AllByRecursion (RowFits key_fits fits) entries → AllByRecursion (RowFits key_fits fits) (by_key cmp entries)

@@ -2,32 +2,34 @@ use Rattle.std.proofs.Common.{Some, None, ◌<◌, ℕ, List, length, sym, subst
 use Rattle.std.proofs.lemmas.Result.{err_from_is_err_and}
 use Rattle.world_store.specs.Words.{key_spelling}
 use Rattle.site_store.specs.Words.{after_key, breaks_on, goes_none, goes_then, goes_open}
+use Rattle.repl_types.specs.declared.area.Area.TheVariants as areas
+use Rattle.cd_tables.specs.laws.ClearedTables.{HasCleared, cleared_none, cleared_next}
 use Rattle.apply_copies.specs.Clearing.{ClearsNext, Clears}
 use Rattle.apply_copies.specs.Rules.{target_rules}
 use Rattle.apply_copies.proofs.KeyRanks.{rank_rises, rank_small}
-use Rattle.apply_copies.proofs.ClearedRows.{HasCleared, cleared_none, cleared_next, cleared_all, cleared_shown}
+use Rattle.apply_copies.proofs.ClearedRows.{cleared_shown, clears_all}
 use Rattle.apply_copies.proofs.clearing.clear_rows.Goals as goal
 
 pub loop-key-init : goal.loop-key-init
-loop-key-init g c = record { stored = tt; goes = goes_none g.K.Keeper.kept c.args.sites.now c.args.target (HasCleared c.args.number (after_key key_spelling None)) c.requires.open (λ d. cleared_none c.args.number d); reads = λ s a none. omega arith }
+loop-key-init g c = record { stored = tt; goes = goes_none g.K.Keeper.kept c.args.sites.now c.args.target (HasCleared areas.Target c.args.number (after_key key_spelling None)) c.requires.open (λ d. cleared_none areas.Target c.args.number d); reads = λ s a none. omega arith }
 
 pub clear_next-requires-clause-server : goal.clear_next-requires-clause-server
 clear_next-requires-clause-server g c = subst (λ (l : List (List ℕ)). c.args.target < length l) (sym c.loop-key.invariant.goes.works.passes.names) c.requires.server
 
 pub clear_next-requires-clause-open : goal.clear_next-requires-clause-open
-clear_next-requires-clause-open g c = goes_open g.K.Keeper.kept c.args.sites.now c.loop-key.sites c.args.target (HasCleared c.args.number (after_key key_spelling c.loop-key.last)) c.requires.open c.loop-key.invariant.goes
+clear_next-requires-clause-open g c = goes_open g.K.Keeper.kept c.args.sites.now c.loop-key.sites c.args.target (HasCleared areas.Target c.args.number (after_key key_spelling c.loop-key.last)) c.requires.open c.loop-key.invariant.goes
 
 pub returns-in_err-key-clause-fault : goal.returns-in_err-key-clause-fault
 returns-in_err-key-clause-fault g c =
     let after = after_key key_spelling c.loop-key.last in
     let p = err_from_is_err_and c.from_residual.result c.from_residual.ensures.1 in
-    rw (p.1, p.2) (breaks_on (target_rules c.args.number) g.K.Keeper.kept c.args.sites.now c.loop-key.sites c.clear_next.new.sites c.args.target (HasCleared c.args.number after) c.in_err-key.field-0.0 c.requires.open (λ d e cleared. cleared_shown c.args.number after d e cleared c.args.number) c.loop-key.invariant.goes c.in_err-key.ensures.fault)
+    rw (p.1, p.2) (breaks_on (target_rules c.args.number) g.K.Keeper.kept c.args.sites.now c.loop-key.sites c.clear_next.new.sites c.args.target (HasCleared areas.Target c.args.number after) c.in_err-key.field-0.0 c.requires.open (λ d e cleared. cleared_shown c.args.number after d e cleared c.args.number) c.loop-key.invariant.goes c.in_err-key.ensures.fault)
 
 pub returns-in_default-clause-ok : goal.returns-in_default-clause-ok
 returns-in_default-clause-ok g c =
     let number = c.args.number in
     let after = after_key key_spelling c.loop-key.last in
-    goes_then g.K.Keeper.kept c.args.sites.now c.loop-key.sites c.clear_next.new.sites c.args.target (HasCleared number after) (ClearsNext number after None) (Clears number) c.requires.open c.loop-key.invariant.goes (rw c.in_default.is at c.in_ok-key.ensures.ok) (λ d e f cleared last. cleared_all number after d e f cleared last)
+    goes_then g.K.Keeper.kept c.args.sites.now c.loop-key.sites c.clear_next.new.sites c.args.target (HasCleared areas.Target number after) (ClearsNext number after None) (Clears number) c.requires.open c.loop-key.invariant.goes (rw c.in_default.is at c.in_ok-key.ensures.ok) (λ d e f cleared last. clears_all number after d e f cleared last)
 
 pub loop-key-smaller : goal.loop-key-smaller
 loop-key-smaller g c =
@@ -42,6 +44,6 @@ loop-key-preserved g c =
     let key = c.in-Some.key in
     record {
       stored = is.stored;
-      goes = goes_then g.K.Keeper.kept c.args.sites.now c.loop-key.sites c.clear_next.new.sites c.args.target (HasCleared number after) (ClearsNext number after (Some key)) (HasCleared number (key_spelling key)) c.requires.open c.loop-key.invariant.goes (rw c.in-Some.is at c.in_ok-key.ensures.ok) (λ d e f cleared next. cleared_next number after key d e f is.above cleared next);
+      goes = goes_then g.K.Keeper.kept c.args.sites.now c.loop-key.sites c.clear_next.new.sites c.args.target (HasCleared areas.Target number after) (ClearsNext number after (Some key)) (HasCleared areas.Target number (key_spelling key)) c.requires.open c.loop-key.invariant.goes (rw c.in-Some.is at c.in_ok-key.ensures.ok) (λ d e f cleared next. cleared_next areas.Target number after d e f cleared (key_spelling key) is.above next);
       reads = λ s a none. omega (arith, c.loop-key.invariant.reads s a none, c.in_ok-key.ensures.reads s a none);
     }

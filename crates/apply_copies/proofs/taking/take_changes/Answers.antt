@@ -2,10 +2,10 @@ use Rattle.std.proofs.Common.{Some, None, ◌≢◌, [], refl, sym, subst, arith
 use Rattle.std.proofs.lemmas.Result.{err_from_is_err_and}
 use Rattle.world_store.specs.Words.{IsChangeKey, CdKey}
 use Rattle.site_store.specs.Words.{work, sees, goes_none, goes_then}
+use Rattle.cd_tables.specs.laws.ChangeKeys.{rank_rises, rank_small}
 use Rattle.apply_copies.specs.ChangeRules.{change_source_rules}
 use Rattle.apply_copies.specs.Changing.{source_as, TakesNext, TakesAll}
 use Rattle.target_steps.specs.Taking.{counts_of}
-use Rattle.apply_copies.proofs.ChangeKeys.{rank_rises, rank_small}
 use Rattle.apply_copies.proofs.ChangeReads.{counted_next, counted_all}
 use Rattle.apply_copies.proofs.ChangesInTurn.{HasTaken, taken_none, taken_next, taken_all}
 use Rattle.apply_copies.proofs.Elsewhere.{open_elsewhere, sees_elsewhere, breaks_elsewhere}
@@ -52,7 +52,7 @@ returns-in_default-clause-ok g c =
 pub loop-next-smaller : goal.loop-next-smaller
 loop-next-smaller g c =
     let later = rw c.in-Some.is at c.in_ok-next.ensures.rises in
-    omega (arith, rank_rises c.loop-next.after c.in-Some.key c.loop-next.invariant.fits later, rank_small c.in-Some.key later.fits)
+    omega (arith, rank_rises (Some c.loop-next.after) c.in-Some.key c.loop-next.invariant.fits later.fits later.above, rank_small (Some c.in-Some.key) later.fits)
 
 pub loop-next-preserved : goal.loop-next-preserved
 loop-next-preserved g c =

@@ -1,11 +1,11 @@
-use Rattle.std.specs.Prelude.{◌-◌, ◌^◌}
+use Rattle.std.specs.Prelude.{◌-◌, ◌^◌, Some}
 use Rattle.world_store.specs.Words.{IsChangeKey}
 use Rattle.site_store.specs.Words.{sees, GoesOn}
+use Rattle.cd_tables.specs.laws.ChangeKeys.{rank_of}
 use Rattle.set_places.specs.Reading.{ReadsOnly}
 use Rattle.target_steps.specs.Taking.{ReadsCounted}
 use Rattle.apply_copies.specs.Changing.{source_as}
 use Rattle.apply_copies.specs.Taking.{is_of_changes}
-use Rattle.apply_copies.proofs.ChangeKeys.{rank_of}
 use Rattle.apply_copies.proofs.ChangesInTurn.{HasTaken}
 use Rattle.apply_copies.proofs.taking.take_changes.Given as goal
 
@@ -18,4 +18,4 @@ invariant-loop-next g l = record {
 }
 
 abbrev pub decreases-loop-next : goal.decreases-loop-next
-decreases-loop-next g l = 2 ^ 144 - rank_of l.after
+decreases-loop-next g l = 2 ^ 144 - rank_of (Some l.after)

@@ -31,7 +31,7 @@ returns-in_err-note-clause-fault g c =
     let p = err_from_is_err_and c.from_residual-in_err-note.result c.from_residual-in_err-note.ensures.1 in
     rw (p.1, p.2) (λ w k stands placed read_only next.
     let point : c.in_ok-known.known.synchpoint ≡ synchpoint k.at_target.trail = ap (λ (s : ReadOnlyState). s.synchpoint) (c.in_ok-known.ensures.state w k stands.sound placed (target_after kept set s0 s0 c.requires.closed w k stands placed (looks_none kept s0))) in
-    fails kept s0 s2 w k e reports (sym next) (may_back kept s0 s1 looks s2 w (after_action w k reports) e (c.in_err-note.ensures.fault w k (stands_on kept s0 s1 looks w stands) placed read_only (next, point))))
+    fails kept s0 s2 w k e reports (sym next) (may_back kept s0 s1 looks s2 w (after_action w k reports) e (c.in_err-note.ensures.fault w k (stands_on kept s0 s1 looks w stands) placed read_only point)))
 
 pub returns-in_err-note-clause-blames : goal.returns-in_err-note-clause-blames
 returns-in_err-note-clause-blames g c =
@@ -47,4 +47,4 @@ returns-clause-ok g c = λ w k stands placed read_only next.
     let set = c.args.set.now in
     let looks = c.in_ok-known.ensures.ok in
     let point : c.in_ok-known.known.synchpoint ≡ synchpoint k.at_target.trail = ap (λ (s : ReadOnlyState). s.synchpoint) (c.in_ok-known.ensures.state w k stands.sound placed (target_after kept set s0 s0 c.requires.closed w k stands placed (looks_none kept s0))) in
-    makes kept s0 s2 w k set.source (steps.Report c.in_ok-known.known.synchpoint) reports (sym next) (become_back kept s0 s1 looks s2 (after_action w k reports) (c.in_ok-note.ensures.ok w k (stands_on kept s0 s1 looks w stands) placed read_only (next, point))) (ap steps.Report point)
+    makes kept s0 s2 w k set.source (steps.Report c.in_ok-known.known.synchpoint) reports (sym next) (become_back kept s0 s1 looks s2 (after_action w k reports) (c.in_ok-note.ensures.ok w k (stands_on kept s0 s1 looks w stands) placed read_only point)) (ap steps.Report point)

@@ -2,7 +2,7 @@ use Rattle.std.proofs.Common.{◌≡◌, ◌∙◌, sym, ap}
 use Rattle.std.proofs.lemmas.Result.{err_from_is_err_and}
 use Rattle.repl_model.specs.Words.{after_action, signals, refreshes, blocks, reports, next_action}
 use Rattle.subs_sets.specs.Actions.{action_of}
-use Rattle.apply_cycle.proofs.StepCases.{makes, stands_on, become_back, refresh_blamed, block_blamed, report_blamed, reads_before, reads_then, reads_if_block, reads_unless_block, not_idle, refresh_acted, block_acted}
+use Rattle.apply_cycle.proofs.StepCases.{makes, fails, refresh_may, block_may, stands_on, become_back, may_back, refresh_blamed, block_blamed, report_blamed, reads_before, reads_then, reads_if_block, reads_unless_block, not_idle, refresh_acted, block_acted}
 use Rattle.apply_cycle.proofs.steps.step.Goals as goal
 
 pub returns-in_err-stepped-in-Refresh-clause-blames : goal.returns-in_err-stepped-in-Refresh-clause-blames
@@ -23,6 +23,49 @@ returns-in_err-stepped-in-Report-clause-blames g c =
     let p = err_from_is_err_and c.from_residual-in_err-stepped-in-Report.result c.from_residual-in_err-stepped-in-Report.ensures.1 in
     rw (p.1, p.2) (report_blamed g.K.Keeper.kept g.T.Targets.shows c.args.set.now c.args.sites.now c.next_action.new.sites c.report.new.sites c.in_ok-action.ensures.ok e c.in_err-stepped-in-Report.ensures.blames)
 
+pub returns-in_err-stepped-in-Refresh-clause-fault : goal.returns-in_err-stepped-in-Refresh-clause-fault
+returns-in_err-stepped-in-Refresh-clause-fault g c =
+    let kept = g.K.Keeper.kept in
+    let s0 = c.args.sites.now in
+    let s1 = c.next_action.new.sites in
+    let s2 = c.refresh_step.new.sites in
+    let set = c.args.set.now in
+    let looks = c.in_ok-action.ensures.ok in
+    let e = c.in_err-stepped-in-Refresh.field-0.0 in
+    let p = err_from_is_err_and c.from_residual-in_err-stepped-in-Refresh.result c.from_residual-in_err-stepped-in-Refresh.ensures.1 in
+    rw (p.1, p.2) (λ w k stands placed read_only each.
+    let next : refreshes ≡ next_action k = ap action_of (sym c.in-Refresh.is) ∙ c.in_ok-action.ensures.action w k stands placed read_only in
+    let may = c.in_err-stepped-in-Refresh.ensures.fault w k (stands_on kept s0 s1 looks w stands) placed read_only (refresh_may w k set stands.sound placed read_only next, each) in
+    fails kept s0 s2 w k e refreshes next (may_back kept s0 s1 looks s2 w (after_action w k refreshes) e may))
+
+pub returns-in_err-stepped-in-Block-clause-fault : goal.returns-in_err-stepped-in-Block-clause-fault
+returns-in_err-stepped-in-Block-clause-fault g c =
+    let kept = g.K.Keeper.kept in
+    let s0 = c.args.sites.now in
+    let s1 = c.next_action.new.sites in
+    let s2 = c.block_step.new.sites in
+    let set = c.args.set.now in
+    let looks = c.in_ok-action.ensures.ok in
+    let to = c.in-Block.to in
+    let e = c.in_err-stepped-in-Block.field-0.0 in
+    let p = err_from_is_err_and c.from_residual-in_err-stepped-in-Block.result c.from_residual-in_err-stepped-in-Block.ensures.1 in
+    rw (p.1, p.2) (λ w k stands placed read_only each.
+    let next : blocks to ≡ next_action k = ap action_of (sym c.in-Block.is) ∙ c.in_ok-action.ensures.action w k stands placed read_only in
+    let may = c.in_err-stepped-in-Block.ensures.fault w k (stands_on kept s0 s1 looks w stands) placed read_only (block_may w k set stands.sound placed read_only to next, each) in
+    fails kept s0 s2 w k e (blocks to) next (may_back kept s0 s1 looks s2 w (after_action w k (blocks to)) e may))
+
+pub returns-in_ok-stepped-in-Refresh-clause-ok : goal.returns-in_ok-stepped-in-Refresh-clause-ok
+returns-in_ok-stepped-in-Refresh-clause-ok g c = λ w k stands placed read_only each.
+    let kept = g.K.Keeper.kept in
+    let s0 = c.args.sites.now in
+    let s1 = c.next_action.new.sites in
+    let s2 = c.refresh_step.new.sites in
+    let set = c.args.set.now in
+    let looks = c.in_ok-action.ensures.ok in
+    let next : refreshes ≡ next_action k = ap action_of (sym c.in-Refresh.is) ∙ c.in_ok-action.ensures.action w k stands placed read_only in
+    let made = c.in_ok-stepped-in-Refresh.ensures.ok w k (stands_on kept s0 s1 looks w stands) placed read_only (refresh_may w k set stands.sound placed read_only next, each) in
+    makes kept s0 s2 w k set.source c.in_ok-stepped-in-Refresh.stepped refreshes next (become_back kept s0 s1 looks s2 (after_action w k refreshes) made.0) made.1
+
 pub returns-in_ok-stepped-in-Block-clause-ok : goal.returns-in_ok-stepped-in-Block-clause-ok
 returns-in_ok-stepped-in-Block-clause-ok g c = λ w k stands placed read_only each.
     let kept = g.K.Keeper.kept in
@@ -33,7 +76,7 @@ returns-in_ok-stepped-in-Block-clause-ok g c = λ w k stands placed read_only ea
     let looks = c.in_ok-action.ensures.ok in
     let to = c.in-Block.to in
     let next : blocks to ≡ next_action k = ap action_of (sym c.in-Block.is) ∙ c.in_ok-action.ensures.action w k stands placed read_only in
-    let made = c.in_ok-stepped-in-Block.ensures.ok w k (stands_on kept s0 s1 looks w stands) placed read_only (sym next, each) in
+    let made = c.in_ok-stepped-in-Block.ensures.ok w k (stands_on kept s0 s1 looks w stands) placed read_only (block_may w k set stands.sound placed read_only to next, each) in
     makes kept s0 s2 w k set.source c.in_ok-stepped-in-Block.stepped (blocks to) next (become_back kept s0 s1 looks s2 (after_action w k (blocks to)) made.0) made.1
 
 -- ---- what a block reads

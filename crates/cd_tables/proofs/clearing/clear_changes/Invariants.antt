@@ -1,16 +1,17 @@
 use Rattle.std.specs.Prelude.{◌-◌, ◌^◌, IfSome}
 use Rattle.world_store.specs.Words.{IsChangeKey, change_key_spelling}
 use Rattle.site_store.specs.Words.{after_key, GoesOn}
+use Rattle.repl_types.specs.declared.area.Area.TheVariants as areas
 use Rattle.cd_tables.specs.Reading.{ReadsNoLog}
-use Rattle.cd_tables.proofs.KeyRanks.{rank_of}
-use Rattle.cd_tables.proofs.ClearedRows.{HasCleared}
+use Rattle.cd_tables.specs.laws.ChangeKeys.{rank_of}
+use Rattle.cd_tables.specs.laws.ClearedTables.{HasCleared}
 use Rattle.cd_tables.proofs.clearing.clear_changes.Given as goal
 
 abbrev pub invariant-loop-key : goal.invariant-loop-key
 invariant-loop-key g l = record {
   reads : ReadsNoLog g.K.Keeper.kept l.fn.sites l.sites;
   fits : IfSome l.last IsChangeKey;
-  goes : GoesOn g.K.Keeper.kept l.fn.sites l.sites l.server (HasCleared l.number (after_key change_key_spelling l.last));
+  goes : GoesOn g.K.Keeper.kept l.fn.sites l.sites l.server (HasCleared areas.Cd l.number (after_key change_key_spelling l.last));
 }
 
 abbrev pub decreases-loop-key : goal.decreases-loop-key

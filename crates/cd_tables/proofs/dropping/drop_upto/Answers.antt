@@ -4,7 +4,7 @@ use Rattle.world_store.specs.Words.{change_key_spelling}
 use Rattle.site_store.specs.Words.{after_key, breaks_on, goes_none, goes_then, goes_open}
 use Rattle.cd_tables.specs.Dropping.{DropsNext, DropsUpto}
 use Rattle.cd_tables.specs.StoredRows.{row_rules}
-use Rattle.cd_tables.proofs.KeyRanks.{rank_rises, rank_small}
+use Rattle.cd_tables.specs.laws.ChangeKeys.{rank_rises, rank_small}
 use Rattle.cd_tables.proofs.DroppedRows.{HasDropped, dropped_none, dropped_next, dropped_all}
 use Rattle.cd_tables.proofs.dropping.drop_upto.Goals as goal
 

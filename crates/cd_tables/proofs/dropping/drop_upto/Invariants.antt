@@ -4,7 +4,7 @@ use Rattle.site_store.specs.Words.{after_key, GoesOn}
 use Rattle.repl_types.specs.declared.area.Area.TheVariants as areas
 use Rattle.cd_tables.specs.Reading.{ReadsOnlyIn}
 use Rattle.cd_tables.proofs.DroppedRows.{HasDropped}
-use Rattle.cd_tables.proofs.KeyRanks.{rank_of}
+use Rattle.cd_tables.specs.laws.ChangeKeys.{rank_of}
 use Rattle.cd_tables.proofs.dropping.drop_upto.Given as goal
 
 abbrev pub invariant-loop-key : goal.invariant-loop-key

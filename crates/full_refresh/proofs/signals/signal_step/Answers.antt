@@ -21,7 +21,7 @@ returns-in_err-known-clause-fault g c =
     let e = c.in_err-known.field-0.0 in
     let f = c.in_err-known.ensures.fault in
     let p = err_from_is_err_and c.from_residual.result c.from_residual.ensures.1 in
-    rw (p.1, p.2) (λ w k stands placed read_only next. unchanged kept set s0 s1 w (after_action w k signals) e f.held stands (mark_undamaged kept set s0 s1 c.requires.closed w k stands placed e f))
+    rw (p.1, p.2) (λ w k stands placed read_only. unchanged kept set s0 s1 w (after_action w k signals) e f.held stands (mark_undamaged kept set s0 s1 c.requires.closed w k stands placed e f))
 
 pub returns-in_err-known-clause-blames : goal.returns-in_err-known-clause-blames
 returns-in_err-known-clause-blames g c =
@@ -39,7 +39,7 @@ returns-in_err-head-clause-fault g c =
     let looks = c.in_ok-known.ensures.ok in
     let f = c.in_err-head.ensures.fault in
     let p = err_from_is_err_and c.from_residual-in_err-head.result c.from_residual-in_err-head.ensures.1 in
-    rw (p.1, p.2) (λ w k stands placed read_only next. unchanged kept set s0 s2 w (after_action w k signals) e (f.held ∙ looks.stays.held) stands (c.in_err-head.ensures.undamaged w (seen_as kept set s0 s1 c.requires.closed w k stands placed looks)))
+    rw (p.1, p.2) (λ w k stands placed read_only. unchanged kept set s0 s2 w (after_action w k signals) e (f.held ∙ looks.stays.held) stands (c.in_err-head.ensures.undamaged w (seen_as kept set s0 s1 c.requires.closed w k stands placed looks)))
 
 pub returns-in_err-head-clause-blames : goal.returns-in_err-head-clause-blames
 returns-in_err-head-clause-blames g c =
@@ -61,17 +61,17 @@ returns-in_err-seq-clause-fault g c =
     let looks = looks_then kept s0 s1 s2 first c.in_ok-head.ensures.ok in
     let may = c.in_err-seq.ensures.fault in
     let p = err_from_is_err_and c.from_residual-in_err-seq.result c.from_residual-in_err-seq.ensures.1 in
-    rw (p.1, p.2) (λ w k stands placed read_only next.
+    rw (p.1, p.2) (λ w k stands placed read_only.
     let marked : known ≡ record { mark = k.at_source.mark; signal = k.at_source.signal } = c.in_ok-known.ensures.mark w k stands.sound placed (revealed kept set s0 s1 c.requires.closed w k stands placed) in
     let end : head ≡ head_of k.source = c.in_ok-head.ensures.world w (seen_as kept set s0 s1 c.requires.closed w k stands placed first) ∙ ap head_of (place_is kept set s0 s1 c.requires.closed w k stands placed) in
     let records : unit_records unit ≡ signal_records k.at_source.def k.source.log = records_made kept set w k unit head.time placed c.in_ok-unit.ensures.unit (ap (λ (h : Head). h.time) end) in
     let r = revealed_after kept set s0 s2 c.requires.closed w k stands placed looks in
     record {
-      stands = may_have_signalled w k set stands.sound placed read_only next unit records known marked kept s0 s3 stands c.in_err-seq.field-0.0 (elim may.stepped [
+      stands = may_have_signalled w k set stands.sound placed read_only unit records known marked kept s0 s3 stands c.in_err-seq.field-0.0 (elim may.stepped [
         | inl same ↦ inl (same ∙ looks.stays.held)
         | inr stepped ↦ inr (stepped.0, stepped_after kept set s0 s2 s3 set.source (PutsSome set.at_source.number known unit) looks.stays.held stepped.1)
       ]);
-      undamaged = c.in_err-seq.ensures.undamaged k.source r.0 r.1 (whole w k set stands.sound placed read_only next unit records known marked r.0 r.2)
+      undamaged = c.in_err-seq.ensures.undamaged k.source r.0 r.1 (whole w k set stands.sound placed read_only unit records known marked r.0 r.2)
           (signal_fits k.source unit (source_tables set.at_source.def) (ap (λ (u : LogUnit). u.changes) c.in_ok-unit.ensures.unit));
     })
 
@@ -85,7 +85,7 @@ returns-in_err-seq-clause-blames g c =
     rw (p.1, p.2) (unit_blames kept c.args.set.now s0 s2 looks c.put_signal.new.sites c.in_ok-unit.unit c.in_err-seq.field-0.0 (ap (λ (u : LogUnit). u.changes) c.in_ok-unit.ensures.unit) c.in_err-seq.ensures.fault.blames)
 
 pub returns-clause-ok : goal.returns-clause-ok
-returns-clause-ok g c = λ w k stands placed read_only next.
+returns-clause-ok g c = λ w k stands placed read_only.
     let kept = g.K.Keeper.kept in
     let s0 = c.args.sites.now in
     let s1 = c.read_mark.new.sites in
@@ -102,5 +102,5 @@ returns-clause-ok g c = λ w k stands placed read_only next.
     let records : unit_records unit ≡ signal_records k.at_source.def k.source.log = records_made kept set w k unit head.time placed c.in_ok-unit.ensures.unit (ap (λ (h : Head). h.time) end) in
     let r = revealed_after kept set s0 s2 c.requires.closed w k stands placed looks in
     answered_after kept set s0 s2 s3 known unit r.0 c.in_ok-seq.seq looks.stays.held r.1 c.in_ok-seq.ensures.ok (λ (answer : Option ℕ). HasSignalled kept s0 s3 w k answer)
-    (λ full. has_answered w k set stands.sound placed read_only next unit records known marked kept s0 s3 stands r.0 r.2 None full)
-    (λ seq put. has_answered w k set stands.sound placed read_only next unit records known marked kept s0 s3 stands r.0 r.2 (Some seq) put)
+    (λ full. has_answered w k set stands.sound placed read_only unit records known marked kept s0 s3 stands r.0 r.2 None full)
+    (λ seq put. has_answered w k set stands.sound placed read_only unit records known marked kept s0 s3 stands r.0 r.2 (Some seq) put)

@@ -1,5 +1,4 @@
-use Rattle.std.proofs.Common.{◌≡◌, ◌<◌, ◌+◌, ◌*◌, ◌++◌, ℕ, List, length, take, append-nil, append_assoc, sym, ap, subst, ◌∙◌, arith, Option, IfSome, flat_map}
-use Rattle.std.proofs.lemmas.Result.{err_from_is_err_and}
+use Rattle.std.proofs.Common.{◌≡◌, ◌<◌, ◌+◌, ◌*◌, ◌++◌, ℕ, List, length, take, take_all, append-nil, append_assoc, sym, ap, subst, ◌∙◌, arith, Option, IfSome, flat_map}
 use Rattle.world_store.specs.Words.{short_text, IsName, definition_limit}
 use Rattle.site_store.specs.Words.{Contents, names, sees, reads_of_one, stays_then, stays_closed, stays_sees, stays_within}
 use Rattle.repl_model.specs.Words.{defined_registration_spelling, IsDefinedRegistration, DefinedRegistration, ServerTable, server_in}
@@ -10,15 +9,15 @@ use Rattle.stored_defs.specs.laws.Standing.{stands_on}
 use Rattle.shows.specs.servers.Status.{registration_text, text_at}
 use Rattle.shows.specs.servers.Rules.{rules, reads_at}
 use Rattle.shows.proofs.Contents.{registrations_read, tables_few}
-use Rattle.shows.proofs.Numbered.{text_more, take_enough}
+use Rattle.shows.proofs.Numbered.{text_more}
 use Rattle.shows.proofs.ReadingOne.{at_more, at_within, fails_on, one_at}
+use Rattle.shows.proofs.Passed.{passed}
 use Rattle.shows.proofs.registrations.add_registrations.Goals as goal
 
 pub returns-in_err-rows-clause-fault : goal.returns-in_err-rows-clause-fault
 returns-in_err-rows-clause-fault g c =
     let s0 = c.args.sites.now in
-    let p = err_from_is_err_and c.from_residual.result c.from_residual.ensures.1 in
-    rw (p.1, p.2) (fails_by_table IsName short_text IsDefinedRegistration defined_registration_spelling areas.Defs 1 rules (λ bytes h. h) (λ bytes h. h) g.K.Keeper.kept (λ s. s < length (names s0)) s0 c.read_records.new.sites c.args.server (reads_of_one definition_limit c.args.server areas.Defs) (reads_at (2 * definition_limit) c.args.server) c.in_err-rows.field-0.0 c.requires.server (one_at definition_limit (2 * definition_limit) c.args.server areas.Defs (omega arith)) c.in_err-rows.ensures.fault)
+    passed c.from_residual.result _ _ c.from_residual.ensures.1 (fails_by_table IsName short_text IsDefinedRegistration defined_registration_spelling areas.Defs 1 rules (λ bytes h. h) (λ bytes h. h) g.K.Keeper.kept (λ s. s < length (names s0)) s0 c.read_records.new.sites c.args.server (reads_of_one definition_limit c.args.server areas.Defs) (reads_at (2 * definition_limit) c.args.server) c.in_err-rows.field-0.0 c.requires.server (one_at definition_limit (2 * definition_limit) c.args.server areas.Defs (omega arith)) c.in_err-rows.ensures.fault)
 
 pub loop-number-init : goal.loop-number-init
 loop-number-init g c = record {
@@ -40,9 +39,7 @@ add_registration-requires-clause-stand g c =
     (subst (λ (o : Option Contents). IfSome o (AllStand defined_registration_spelling areas.Defs 1 c.in_ok-rows.rows)) (sym (stays_sees kept c.args.sites.now c.loop-number.sites (reads_at (definition_limit + c.loop-number.number) c.args.server) c.loop-number.invariant.stays c.args.server)) c.in_ok-rows.ensures.stand)
 
 pub returns-in_err-add_registration-clause-fault : goal.returns-in_err-add_registration-clause-fault
-returns-in_err-add_registration-clause-fault g c =
-    let p = err_from_is_err_and c.from_residual-in_err-add_registration.result c.from_residual-in_err-add_registration.ensures.1 in
-    rw (p.1, p.2) (fails_on g.K.Keeper.kept c.args.sites.now c.loop-number.sites c.add_registration.new.sites (reads_at (definition_limit + c.loop-number.number) c.args.server) (reads_at 1 c.args.server) (reads_at (2 * definition_limit) c.args.server) c.in_err-add_registration.field-0.0 (at_more (definition_limit + c.loop-number.number) 1 (2 * definition_limit) c.args.server (omega (arith, c.loop-number-test.true))) c.loop-number.invariant.stays c.in_err-add_registration.ensures.fault)
+returns-in_err-add_registration-clause-fault g c = passed c.from_residual-in_err-add_registration.result _ _ c.from_residual-in_err-add_registration.ensures.1 (fails_on g.K.Keeper.kept c.args.sites.now c.loop-number.sites c.add_registration.new.sites (reads_at (definition_limit + c.loop-number.number) c.args.server) (reads_at 1 c.args.server) (reads_at (2 * definition_limit) c.args.server) c.in_err-add_registration.field-0.0 (at_more (definition_limit + c.loop-number.number) 1 (2 * definition_limit) c.args.server (omega (arith, c.loop-number-test.true))) c.loop-number.invariant.stays c.in_err-add_registration.ensures.fault)
 
 pub loop-number-preserved : goal.loop-number-preserved
 loop-number-preserved g c =
@@ -54,7 +51,7 @@ loop-number-preserved g c =
       stays = stays_then kept s0 c.loop-number.sites c.add_registration.new.sites so_far (reads_at 1 c.args.server) (reads_at (definition_limit + (n + 1)) c.args.server) c.loop-number.invariant.stays c.in_ok-add_registration.ensures.ok (at_more (definition_limit + n) 1 (definition_limit + (n + 1)) c.args.server (omega arith));
       text = λ w is_world.
           let things : List ServerTable = (server_in w c.args.server).tables in
-          c.in_ok-add_registration.ensures.added w (stands_on kept s0 c.loop-number.sites so_far w c.loop-number.invariant.stays is_world) (c.as_slice.ensures ∙ registrations_read kept s0 c.requires.closed w is_world c.args.server c.in_ok-rows.rows c.requires.server c.in_ok-rows.ensures.records)
+          c.in_ok-add_registration.ensures.added w (stands_on kept s0 c.loop-number.sites so_far w c.loop-number.invariant.stays is_world) (c.as_slice.ensures ∙ registrations_read kept s0 c.requires.closed w is_world c.args.server c.requires.server c.in_ok-rows.rows c.in_ok-rows.ensures.records)
           ∙ ap (λ (l : List ℕ). l ++ text_at registration_text things n) (c.loop-number.invariant.text w is_world)
           ∙ append_assoc c.args.text.now.items (flat_map registration_text (take n things)) (text_at registration_text things n)
           ∙ ap (λ (l : List ℕ). c.args.text.now.items ++ l) (sym (text_more registration_text things n));
@@ -67,4 +64,4 @@ pub returns-clause-added : goal.returns-clause-added
 returns-clause-added g c = λ w is_world.
     let things : List ServerTable = (server_in w c.args.server).tables in
     c.loop-number.invariant.text w is_world
-    ∙ ap (λ (l : List ServerTable). c.args.text.now.items ++ flat_map registration_text l) (take_enough c.loop-number.number things (omega (arith, c.loop-number-test.false, tables_few g.K.Keeper.kept c.args.sites.now c.requires.closed w is_world c.args.server c.requires.server)))
+    ∙ ap (λ (l : List ServerTable). c.args.text.now.items ++ flat_map registration_text l) (take_all c.loop-number.number things (omega (arith, c.loop-number-test.false, tables_few g.K.Keeper.kept c.args.sites.now c.requires.closed w is_world c.args.server c.requires.server)))

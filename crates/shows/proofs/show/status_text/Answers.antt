@@ -1,5 +1,4 @@
 use Rattle.std.proofs.Common.{◌+◌, ◌*◌, ◌++◌, ℕ, List, ap, ◌∙◌, arith, flat_map}
-use Rattle.std.proofs.lemmas.Result.{err_from_is_err_and}
 use Rattle.world_store.specs.Words.{definition_limit}
 use Rattle.site_store.specs.Words.{stays_then}
 use Rattle.repl_model.specs.Words.{server_in}
@@ -8,21 +7,20 @@ use Rattle.shows.specs.servers.Status.{registration_text, set_text, last_line}
 use Rattle.shows.specs.servers.Rules.{reads_at, status_reads}
 use Rattle.shows.proofs.Contents.{status_parts}
 use Rattle.shows.proofs.ReadingOne.{at_more, fails_on}
+use Rattle.shows.proofs.Passed.{passed}
 use Rattle.shows.proofs.show.status_text.Goals as goal
 
 pub returns-in_err-add_sets-clause-fault : goal.returns-in_err-add_sets-clause-fault
 returns-in_err-add_sets-clause-fault g c =
     let half = 2 * definition_limit in
-    let p = err_from_is_err_and c.from_residual-in_err-add_sets.result c.from_residual-in_err-add_sets.ensures.1 in
-    rw (p.1, p.2) (fails_on g.K.Keeper.kept c.args.sites.now c.add_registrations.new.sites c.add_sets.new.sites (reads_at half c.args.server) (reads_at half c.args.server) (reads_at status_reads c.args.server) c.in_err-add_sets.field-0.0 (at_more half half status_reads c.args.server (omega arith)) c.in_ok-add_registrations.ensures.ok c.in_err-add_sets.ensures.fault)
+    passed c.from_residual-in_err-add_sets.result _ _ c.from_residual-in_err-add_sets.ensures.1 (fails_on g.K.Keeper.kept c.args.sites.now c.add_registrations.new.sites c.add_sets.new.sites (reads_at half c.args.server) (reads_at half c.args.server) (reads_at status_reads c.args.server) c.in_err-add_sets.field-0.0 (at_more half half status_reads c.args.server (omega arith)) c.in_ok-add_registrations.ensures.ok c.in_err-add_sets.ensures.fault)
 
 pub returns-in_err-add_last_line-clause-fault : goal.returns-in_err-add_last_line-clause-fault
 returns-in_err-add_last_line-clause-fault g c =
     let kept = g.K.Keeper.kept in
     let half = 2 * definition_limit in
     let both = stays_then kept c.args.sites.now c.add_registrations.new.sites c.add_sets.new.sites (reads_at half c.args.server) (reads_at half c.args.server) (reads_at (half + half) c.args.server) c.in_ok-add_registrations.ensures.ok c.in_ok-add_sets.ensures.ok (at_more half half (half + half) c.args.server (omega arith)) in
-    let p = err_from_is_err_and c.from_residual-in_err-add_last_line.result c.from_residual-in_err-add_last_line.ensures.1 in
-    rw (p.1, p.2) (fails_on kept c.args.sites.now c.add_sets.new.sites c.add_last_line.new.sites (reads_at (half + half) c.args.server) (reads_at 2 c.args.server) (reads_at status_reads c.args.server) c.in_err-add_last_line.field-0.0 (at_more (half + half) 2 status_reads c.args.server (omega arith)) both c.in_err-add_last_line.ensures.fault)
+    passed c.from_residual-in_err-add_last_line.result _ _ c.from_residual-in_err-add_last_line.ensures.1 (fails_on kept c.args.sites.now c.add_sets.new.sites c.add_last_line.new.sites (reads_at (half + half) c.args.server) (reads_at 2 c.args.server) (reads_at status_reads c.args.server) c.in_err-add_last_line.field-0.0 (at_more (half + half) 2 status_reads c.args.server (omega arith)) both c.in_err-add_last_line.ensures.fault)
 
 pub returns-clause-text : goal.returns-clause-text
 returns-clause-text g c = λ w is_world.

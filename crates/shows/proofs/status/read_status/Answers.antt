@@ -1,4 +1,3 @@
-use Rattle.std.proofs.lemmas.Result.{err_from_is_err_and}
 use Rattle.set_places.specs.laws.Standing.{source_revealed, target_revealed}
 use Rattle.prune_control.specs.Noting.{mark_rules}
 use Rattle.prune_control.specs.laws.Marks.{marks_undamaged}
@@ -11,45 +10,39 @@ use Rattle.site_store.specs.Words.{breaks_after, looks_then}
 use Rattle.shows.proofs.AfterReads.{source_before}
 use Rattle.shows.proofs.SetBlame.{mark_shows, memory_after, none_broken, state_shows}
 use Rattle.shows.proofs.KnownStatus.{status_is}
+use Rattle.shows.proofs.Passed.{passed}
 use Rattle.shows.proofs.status.read_status.Goals as goal
 
 pub returns-in_err-state-clause-fault : goal.returns-in_err-state-clause-fault
-returns-in_err-state-clause-fault g c =
-    let p = err_from_is_err_and c.from_residual.result c.from_residual.ensures.1 in
-    rw (p.1, p.2) (state_shows g.K.Keeper.kept c.args.sites.now c.read_only_state.new.sites c.in_err-state.field-0.0 c.args.set.now.target c.requires.placed.target.within c.in_err-state.ensures.fault)
+returns-in_err-state-clause-fault g c = passed c.from_residual.result _ _ c.from_residual.ensures.1 (state_shows g.K.Keeper.kept c.args.sites.now c.read_only_state.new.sites c.in_err-state.field-0.0 c.args.set.now.target c.requires.placed.target.within c.in_err-state.ensures.fault)
 
 pub returns-in_err-state-clause-undamaged : goal.returns-in_err-state-clause-undamaged
-returns-in_err-state-clause-undamaged g c =
-    let p = err_from_is_err_and c.from_residual.result c.from_residual.ensures.1 in
-    rw (p.1, p.2) (λ w k stands placed read_only. none_broken g.K.Keeper.kept c.args.sites.now c.requires.closed w stands state_rules (λ server d i holds. states_undamaged w server d stands.sound i holds) c.read_only_state.new.sites c.args.set.now.target c.in_err-state.field-0.0 c.requires.placed.target.within c.in_err-state.ensures.fault)
+returns-in_err-state-clause-undamaged g c = passed c.from_residual.result _ _ c.from_residual.ensures.1 (λ w k stands placed read_only. none_broken g.K.Keeper.kept c.args.sites.now c.requires.closed w stands state_rules (λ server d i holds. states_undamaged w server d stands.sound i holds) c.read_only_state.new.sites c.args.set.now.target c.in_err-state.field-0.0 c.requires.placed.target.within c.in_err-state.ensures.fault)
 
 pub returns-in_err-known-clause-fault : goal.returns-in_err-known-clause-fault
 returns-in_err-known-clause-fault g c =
-    let p = err_from_is_err_and c.from_residual-in_err-known.result c.from_residual-in_err-known.ensures.1 in
     let kept = g.K.Keeper.kept in
     let s0 = c.args.sites.now in
     let s2 = c.read_mark.new.sites in
     let source = c.args.set.now.source in
     let e = c.in_err-known.field-0.0 in
-    rw (p.1, p.2) (mark_shows kept s0 s2 e source c.requires.placed.source.within (breaks_after mark_rules kept s0 c.read_only_state.new.sites s2 source e c.in_ok-state.ensures.ok c.in_err-known.ensures.fault))
+    passed c.from_residual-in_err-known.result _ _ c.from_residual-in_err-known.ensures.1 (mark_shows kept s0 s2 e source c.requires.placed.source.within (breaks_after mark_rules kept s0 c.read_only_state.new.sites s2 source e c.in_ok-state.ensures.ok c.in_err-known.ensures.fault))
 
 pub returns-in_err-known-clause-undamaged : goal.returns-in_err-known-clause-undamaged
 returns-in_err-known-clause-undamaged g c =
-    let p = err_from_is_err_and c.from_residual-in_err-known.result c.from_residual-in_err-known.ensures.1 in
     let kept = g.K.Keeper.kept in
     let s0 = c.args.sites.now in
     let s2 = c.read_mark.new.sites in
     let source = c.args.set.now.source in
     let e = c.in_err-known.field-0.0 in
-    rw (p.1, p.2) (λ w k stands placed read_only. none_broken kept s0 c.requires.closed w stands mark_rules (λ server d i holds. marks_undamaged w server d stands.sound i holds) s2 source e c.requires.placed.source.within (breaks_after mark_rules kept s0 c.read_only_state.new.sites s2 source e c.in_ok-state.ensures.ok c.in_err-known.ensures.fault))
+    passed c.from_residual-in_err-known.result _ _ c.from_residual-in_err-known.ensures.1 (λ w k stands placed read_only. none_broken kept s0 c.requires.closed w stands mark_rules (λ server d i holds. marks_undamaged w server d stands.sound i holds) s2 source e c.requires.placed.source.within (breaks_after mark_rules kept s0 c.read_only_state.new.sites s2 source e c.in_ok-state.ensures.ok c.in_err-known.ensures.fault))
 
 pub returns-in_err-clone-clause-fault : goal.returns-in_err-clone-clause-fault
 returns-in_err-clone-clause-fault g c =
-    let p = err_from_is_err_and c.from_residual-in_err-clone.result c.from_residual-in_err-clone.ensures.1 in
     let kept = g.K.Keeper.kept in
     let s0 = c.args.sites.now in
     let s2 = c.read_mark.new.sites in
-    rw (p.1, p.2) (memory_after kept s0 s2 (looks_then kept s0 c.read_only_state.new.sites s2 c.in_ok-state.ensures.ok c.in_ok-known.ensures.ok) (ShowsDamage kept s0))
+    passed c.from_residual-in_err-clone.result _ _ c.from_residual-in_err-clone.ensures.1 (memory_after kept s0 s2 (looks_then kept s0 c.read_only_state.new.sites s2 c.in_ok-state.ensures.ok c.in_ok-known.ensures.ok) (ShowsDamage kept s0))
 
 pub returns-clause-ok : goal.returns-clause-ok
 returns-clause-ok g c = looks_then g.K.Keeper.kept c.args.sites.now c.read_only_state.new.sites c.read_mark.new.sites c.in_ok-state.ensures.ok c.in_ok-known.ensures.ok

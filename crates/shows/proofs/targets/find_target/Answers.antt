@@ -1,6 +1,5 @@
 use Rattle.std.proofs.Common.{List, length, refl, sym, subst, arith, IfSome}
 use Rattle.std.proofs.lemmas.Option.{slice_get_read}
-use Rattle.std.proofs.lemmas.Result.{err_from_is_err_and}
 use Rattle.world_store.specs.Words.{IsSet, set_spelling, definition_limit}
 use Rattle.site_store.specs.Words.{sees, looks_then, reads_of_one}
 use Rattle.repl_model.specs.Words.{IsTargetSet, target_set_spelling, TargetSet}
@@ -9,31 +8,29 @@ use Rattle.repl_types.specs.declared.area.Area.TheVariants as areas
 use Rattle.stored_defs.specs.laws.Standing.{none_damaged}
 use Rattle.shows.proofs.SetBlame.{definitions_later, definitions_show, rows_stop}
 use Rattle.shows.proofs.FoundTargets.{none_at_all, none_before_next}
+use Rattle.shows.proofs.Passed.{passed}
 use Rattle.shows.proofs.targets.find_target.Goals as goal
 
 pub returns-in_err-rows-clause-fault : goal.returns-in_err-rows-clause-fault
 returns-in_err-rows-clause-fault g c =
-    let p = err_from_is_err_and c.from_residual.result c.from_residual.ensures.1 in
     let kept = g.K.Keeper.kept in
     let s0 = c.args.sites.now in
     let e = c.in_err-rows.field-0.0 in
-    rw (p.1, p.2) (definitions_show kept s0 c.read_records.new.sites e (rows_stop kept s0 c.read_records.new.sites e c.args.server c.requires.server (reads_of_one definition_limit c.args.server areas.Defs) c.in_err-rows.ensures.fault))
+    passed c.from_residual.result _ _ c.from_residual.ensures.1 (definitions_show kept s0 c.read_records.new.sites e (rows_stop kept s0 c.read_records.new.sites e c.args.server c.requires.server (reads_of_one definition_limit c.args.server areas.Defs) c.in_err-rows.ensures.fault))
 
 pub returns-in_err-rows-clause-undamaged : goal.returns-in_err-rows-clause-undamaged
 returns-in_err-rows-clause-undamaged g c =
-    let p = err_from_is_err_and c.from_residual.result c.from_residual.ensures.1 in
     let kept = g.K.Keeper.kept in
     let s0 = c.args.sites.now in
     let e = c.in_err-rows.field-0.0 in
-    rw (p.1, p.2) (λ w stands. none_damaged kept s0 c.requires.closed w stands c.read_records.new.sites e (rows_stop kept s0 c.read_records.new.sites e c.args.server c.requires.server (reads_of_one definition_limit c.args.server areas.Defs) c.in_err-rows.ensures.fault).blames)
+    passed c.from_residual.result _ _ c.from_residual.ensures.1 (λ w stands. none_damaged kept s0 c.requires.closed w stands c.read_records.new.sites e (rows_stop kept s0 c.read_records.new.sites e c.args.server c.requires.server (reads_of_one definition_limit c.args.server areas.Defs) c.in_err-rows.ensures.fault).blames)
 
 pub returns-in_err-target-clause-fault : goal.returns-in_err-target-clause-fault
 returns-in_err-target-clause-fault g c =
-    let p = err_from_is_err_and c.from_residual-in_err-target.result c.from_residual-in_err-target.ensures.1 in
     let kept = g.K.Keeper.kept in
     let s0 = c.args.sites.now in
     let e = c.in_err-target.field-0.0 in
-    rw (p.1, p.2) (definitions_show kept s0 c.find_in.new.sites e (definitions_later kept s0 c.loop-row.sites c.loop-row.invariant.looks c.find_in.new.sites e c.in_err-target.ensures.fault))
+    passed c.from_residual-in_err-target.result _ _ c.from_residual-in_err-target.ensures.1 (definitions_show kept s0 c.find_in.new.sites e (definitions_later kept s0 c.loop-row.sites c.loop-row.invariant.looks c.find_in.new.sites e c.in_err-target.ensures.fault))
 
 pub returns-in-Some-clause-ok : goal.returns-in-Some-clause-ok
 returns-in-Some-clause-ok g c = looks_then g.K.Keeper.kept c.args.sites.now c.loop-row.sites c.find_in.new.sites c.loop-row.invariant.looks c.in_ok-target.ensures.ok

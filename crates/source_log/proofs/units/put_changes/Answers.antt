@@ -4,9 +4,8 @@ use Rattle.std.proofs.lemmas.Result.{err_from_is_err_and}
 use Rattle.site_store.specs.Words.{breaks_on, goes_none, goes_then}
 use Rattle.repl_model.specs.Words.{Placed, In}
 use Rattle.repl_types.specs.declared.area.Area.TheVariants as areas
-use Rattle.stored_defs.specs.laws.Standing.{all_at_place}
+use Rattle.stored_defs.specs.laws.Standing.{in_at, all_at_place}
 use Rattle.source_log.specs.Units.{own_change, MayBePut, PutsOwn, PutsChanges, table_rules}
-use Rattle.source_log.proofs.Grown.{in_at}
 use Rattle.source_log.proofs.OwnChanges.{puts_none, puts_more}
 use Rattle.source_log.proofs.UnitTables.{tables_shown, bad_of_some}
 use Rattle.source_log.proofs.units.put_changes.Goals as goal

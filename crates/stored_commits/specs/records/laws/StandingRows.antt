@@ -1,9 +1,9 @@
 -- Rows of a table of the source that stand under their keys: they can be spelled, and are in the order of the keys.
-use Rattle.std.proofs.Common.{◌≡◌, ℕ, ◌<◌, Bool, true, false, cond, List, [], ◌∷◌, ◌++◌, length, map, get_or, refl, sym, subst, ◌∙◌, arith, suc, zero, T, ◌&&◌, Some, is_lt}
+use Rattle.std.proofs.Common.{◌≡◌, ℕ, ◌<◌, cond, List, [], ◌∷◌, ◌++◌, length, map, get_or, refl, sym, subst, arith, suc, zero, T, Some}
 use Rattle.std.specs.FinMap.{entries, entries_sorted}
-use Rattle.std.specs.FinMap.Entries.{below_all, is_sorted}
+use Rattle.std.specs.FinMap.Entries.{is_sorted}
 use Rattle.std.specs.List.{AllByRecursion}
-use Rattle.world_store.specs.Words.{IsKey, IsRow, key_spelling, row_spelling, value_spelling, one_whole, order_key, one_key, one_row, source_row_spelling, table_from_rows, AllAfter, IsRising, SpellsApart, all_some, is_less}
+use Rattle.world_store.specs.Words.{IsKey, IsRow, key_spelling, row_spelling, value_spelling, one_whole, order_key, one_key, one_row, source_row_spelling, table_from_rows, AllAfter, IsRising, SpellsApart, all_some, sorted_rises}
 use Rattle.repl_model.specs.Words.{Values, key_cmp, images, TableDef, Value, all_weaker, Rows, IsValue}
 use Rattle.repl_types.specs.declared.value.Value.TheVariants.{Null, Int, Text}
 use Rattle.keep_core.specs.Contents.{same_key}
@@ -15,24 +15,9 @@ Entry = Values × Values
 
 -- ---- keys in order
 
--- a test of two that both pass
-both_pass : (a b : Bool) → T (a && b) → T a × T b
-both_pass true b e = (tt, e)
-both_pass false b e = absurd e
-
--- entries whose keys are above one are after it
-above_after : (key : Values) (es : List Entry) → IsKey key → AllByRecursion (λ (e : Entry). IsKey e.0) es → T (below_all key_cmp key es) → AllAfter key_spelling (key_spelling key) es
-above_after key [] fit all below = tt
-above_after key (e ∷ es) fit all below =
-    let parts = both_pass (is_lt (key_cmp key e.0)) (below_all key_cmp key es) below in
-    (order_key key e.0 fit all.0 ∙ is_less (key_cmp key e.0) parts.0, above_after key es fit all.1 parts.1)
-
 -- sorted entries rise
 entries_rise : (es : List Entry) → AllByRecursion (λ (e : Entry). IsKey e.0) es → T (is_sorted key_cmp es) → IsRising key_spelling es
-entries_rise [] all sorted = tt
-entries_rise (e ∷ es) all sorted =
-    let parts = both_pass (below_all key_cmp e.0 es) (is_sorted key_cmp es) sorted in
-    (above_after e.0 es all.0 all.1 parts.0, entries_rise es all.1 parts.1)
+entries_rise es all sorted = sorted_rises key_spelling IsKey key_cmp order_key es all sorted
 
 -- a key of at least one value takes a byte
 pub some_byte : (places : List ℕ) (row : Values) → 0 < length places → 0 < length (key_spelling (images places row))

@@ -3,9 +3,9 @@ use Rattle.std.proofs.Common.{◌≡◌, ℕ, zero, suc, Bool, true, false, cond
 use Rattle.std.specs.List.{AllZip, list_any}
 use Rattle.std.proofs.lemmas.Bool.{and_parts}
 use Rattle.std.proofs.lemmas.Option.{none-some, same_Some}
-use Rattle.world_store.specs.Words.{Holds, Reveals, Stands}
-use Rattle.site_store.specs.Words.{Contents}
+use Rattle.rows_in_order.specs.Contents.{Contents}
 use Rattle.repl_model.specs.Words.{with_server, all_differ, IsSound, Server, World, at_place_in, In, first_alone, same_name, name_itself}
+use Rattle.world_store.specs.Stands.{Holds, Reveals, Stands}
 
 -- names of servers that are alike
 abbrev same_names : Server → Server → Bool
