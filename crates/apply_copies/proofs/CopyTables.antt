@@ -4,7 +4,7 @@ use Rattle.std.specs.FinMap.{entries}
 use Rattle.std.proofs.Math.Nat.{min-eq_left}
 use Rattle.std.proofs.lemmas.List.Sums.{fold-append}
 use Rattle.world_store.specs.Words.{key_spelling, copy_spelling, CopyRow, table_from_rows, AllAfter, found_after, member_table, copy_rows, rows_refreshed}
-use Rattle.repl_model.specs.Words.{bytes_cmp, Values, all_filter, Member, SetDef, SourceTable, is_selected, selected_rows, target_row, IsSound, KeepsTable, ServerKeepsRules, LogIsSound, source_at, Entry, Trail, point_after, synchpoint, Server, World, KnownSet, source_named, In, at_one, each_image}
+use Rattle.repl_model.specs.Words.{bytes_cmp, Values, all_filter, Member, SetDef, changes_between, SourceTable, is_selected, selected_rows, target_row, IsSound, KeepsTable, ServerKeepsRules, LogIsSound, source_at, Entry, Trail, point_after, synchpoint, Server, World, KnownSet, source_named, In, at_one, each_image}
 use Rattle.repl_definitions.specs.declared.member.TargetKind.TheVariants.{UserCopy}
 use Rattle.stored_commits.specs.records.laws.StandingRows.{standing_some}
 use Rattle.stored_commits.specs.copies.ChangedCopies.{copy_table}
@@ -12,7 +12,7 @@ use Rattle.set_places.specs.declared.placed_set.PlacedSet.{PlacedSet}
 use Rattle.set_places.specs.Places.{IsPlacedAs}
 use Rattle.set_places.specs.laws.Known.{placed_def, members_few, number_few}
 use Rattle.set_places.specs.laws.Sources.{source_is_of, table_keyed}
-use Rattle.target_steps.specs.Taking.{number_of}
+use Rattle.target_steps.specs.Taking.{changes_taken, number_of}
 use Rattle.apply_copies.specs.Copying.{selected, copied}
 use Rattle.apply_copies.specs.Loading.{greatest_number, target_number}
 use Rattle.apply_copies.specs.laws.CopyRows.{copied_are, rows_stand_at}
@@ -45,6 +45,10 @@ module _ (source : SourceTable) (member : Member) (copy : is_user_copy member.ki
   -- and gets those that are selected at a refresh
   pub rows_are : (p : ℕ) (q : Option ℕ) → rows_refreshed source p q member ≡ length (selected_rows source member p)
   rows_are p q = subst (λ (m : Member). rows_refreshed source p q m ≡ length (selected_rows source m p)) as_copy refl
+
+  -- and takes all change rows of an interval in a block
+  pub changes_are : (low high : ℕ) → changes_taken source member low high ≡ changes_between source.log source.reg low high
+  changes_are low high = subst (λ (m : Member). changes_taken source m low high ≡ changes_between source.log source.reg low high) as_copy refl
 
   -- after one more entry of the trail it has the copy at the entry's point
   pub table_after : (trail : Trail) (e : Entry) → member_table source member (trail ++ e ∷ []) ≡ copy_table source member (point_after e)

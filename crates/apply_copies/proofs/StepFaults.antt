@@ -1,10 +1,10 @@
 -- Why a step of a copy failed: proofs.
-use Rattle.std.proofs.Common.{◌≡◌, ◌⊎◌, ℕ, ◌<◌, length, inl, inr, ap, subst, ◌∙◌, Option}
+use Rattle.std.proofs.Common.{◌≡◌, ◌⊎◌, ℕ, ◌<◌, length, inl, inr, ap, subst, ◌∙◌, Option, Result, Ok, Err, IfErr}
 use Rattle.std.specs.List.{AllByRecursion}
 use Rattle.world_store.specs.Words.{Holds}
 use Rattle.site_store.specs.Words.{Contents, Kept, Blames, Rules, Shows, Damages, IsUndamaged, IsNoDamage, sees, Stops, stops_as}
 use Rattle.site_store.specs.declared.sites.Sites.{Sites}
-use Rattle.repl_model.specs.Words.{Area, DamageCause, Fault, IsMember, SetDef, IsSound, LogIsSound, synchpoint, Server, World, at_place_in, In, at_one}
+use Rattle.repl_model.specs.Words.{Area, DamageCause, Counts, Fault, IsMember, SetDef, IsSound, LogIsSound, synchpoint, Server, World, at_place_in, In, at_one}
 use Rattle.repl_types.specs.declared.area.Area.TheVariants as areas
 use Rattle.repl_types.specs.declared.fault.Fault.TheVariants as faults
 use Rattle.set_places.specs.declared.placed_set.PlacedSet.{PlacedSet}
@@ -24,7 +24,7 @@ module _ {K : Type 0} (kept : K → Kept) (rules : Rules) (shown : (a : Area) (c
   ShowsByRules number s a cause = Damages (λ q. q ≡ set.source) rules kept s0 s a cause ⊎ Damages (λ q. q ≡ set.target) (target_rules number) kept s0 s a cause
 
   -- damage of a copy or of its source is shown at an end of the set
-  pub shown_at_ends : (number : ℕ) (s1 : Sites K) (e : Fault) → Stops kept s0 s1 (ShowsByRules number) e → Stops kept s0 s1 (ShowsAtEnds kept ShowsCopyDamage s0 set) e
+  shown_at_ends : (number : ℕ) (s1 : Sites K) (e : Fault) → Stops kept s0 s1 (ShowsByRules number) e → Stops kept s0 s1 (ShowsAtEnds kept ShowsCopyDamage s0 set) e
   shown_at_ends number s1 e stops = stops_as kept s0 s1 (ShowsByRules number) (ShowsAtEnds kept ShowsCopyDamage s0 set) e at_end stops
     where
       at_end : (s : ℕ) (a : Area) (cause : DamageCause) → ShowsByRules number s a cause → ShowsAtEnds kept ShowsCopyDamage s0 set s a cause
@@ -32,7 +32,7 @@ module _ {K : Type 0} (kept : K → Kept) (rules : Rules) (shown : (a : Area) (c
       at_end s a cause (inr target) = (inr target.0, inr (number, target.1))
 
   -- a set whose servers have what a world calls for shows no damage, so none was reported
-  pub no_damage : (place : ℕ) (step : Step) (s1 : Sites K) (e : Fault) → ((w : World) (server : Server) (c : Contents) → IsSound w → In server w → Holds w server c → IsUndamaged rules c) → IsPlacedAtSource kept s0 set → place < length set.at_source.def.members → Stops kept s0 s1 (ShowsByRules (target_number set.at_target.number place)) e → ForMember kept is_user_copy s0 set place step (IsNoDamage e)
+  no_damage : (place : ℕ) (step : Step) (s1 : Sites K) (e : Fault) → ((w : World) (server : Server) (c : Contents) → IsSound w → In server w → Holds w server c → IsUndamaged rules c) → IsPlacedAtSource kept s0 set → place < length set.at_source.def.members → Stops kept s0 s1 (ShowsByRules (target_number set.at_target.number place)) e → ForMember kept is_user_copy s0 set place step (IsNoDamage e)
   no_damage place step s1 e source_sound placed_at within stops = λ c saw w k sound placed reveals member source read_only can at named copy was.
       let i = at_place_in w set.source k.source placed.source in
       let fits : IsMember member = at_one IsMember k.at_source.def.members member (subst (λ (def : SetDef). AllByRecursion IsMember def.members) placed.source_def placed_at.fits.1.5.1) (at_place_in k.at_source.def.members place member at) in
@@ -50,3 +50,12 @@ module _ {K : Type 0} (kept : K → Kept) (rules : Rules) (shown : (a : Area) (c
         | inr h ↦ target a cause (subst (λ (n : ℕ). Shows (target_rules number) a cause (sees kept s0 n)) h.0 h.1)
       ]
       none number (faults.Refused refusal) source target blames = blames
+
+  -- so it is of what a call answers
+  pub fault_at_ends : (number : ℕ) (s1 : Sites K) (result : Result Counts Fault) → IfErr result (Stops kept s0 s1 (ShowsByRules number)) → IfErr result (Stops kept s0 s1 (ShowsAtEnds kept ShowsCopyDamage s0 set))
+  fault_at_ends number s1 (Ok counts) stops = tt
+  fault_at_ends number s1 (Err e) stops = shown_at_ends number s1 e stops
+
+  pub answer_undamaged : (place : ℕ) (step : Step) (s1 : Sites K) (result : Result Counts Fault) → ((w : World) (server : Server) (c : Contents) → IsSound w → In server w → Holds w server c → IsUndamaged rules c) → IsPlacedAtSource kept s0 set → place < length set.at_source.def.members → IfErr result (Stops kept s0 s1 (ShowsByRules (target_number set.at_target.number place))) → IfErr result (λ e. ForMember kept is_user_copy s0 set place step (IsNoDamage e))
+  answer_undamaged place step s1 (Ok counts) source_sound placed_at within stops = tt
+  answer_undamaged place step s1 (Err e) source_sound placed_at within stops = no_damage place step s1 e source_sound placed_at within stops

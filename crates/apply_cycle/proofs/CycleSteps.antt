@@ -56,7 +56,7 @@ module _ {K : Type 0} (kept : K → Kept) (s0 s1 : Sites K) (id : SetId) (w : Wo
 
   module _ (k : KnownSet) (source : ℕ) (known : known_set w id ≡ Some k) (at : slice_get w source ≡ Some k.source) where
     -- what was answered of its next action is what came of a step
-    pub stepped_made : (stepped : Stepped) → HasMade kept s0 s1 w k source stepped → HasStepped kept s0 s1 id w stepped
+    pub stepped_made : (stepped : Stepped) → HasMade kept s0 s1 w k (next_action k) source stepped → HasStepped kept s0 s1 id w stepped
     stepped_made stepped made = by_action (next_action k) refl made
       where
         acted : (a : Action) → next_action k ≡ a → IsTrue (commits_world a) → (answer : Stepped) → HasBecome kept s0 s1 (after_action w k a) → answer ≡ answer_of w k source a → (v : World) × MakesStep id w v answer × HasBecome kept s0 s1 v
@@ -88,7 +88,7 @@ module _ {K : Type 0} (kept : K → Kept) (s0 s1 : Sites K) (id : SetId) (w : Wo
         by_action idles is become = inl become
         by_action (refuses place) is become = inl become
 
-    pub broken_failed : (e : Fault) → HasFailed kept s0 s1 w k e → HasBroken kept s0 s1 id w e
+    pub broken_failed : (e : Fault) → HasFailed kept s0 s1 w k (next_action k) e → HasBroken kept s0 s1 id w e
     broken_failed faults.Memory failed = (may_have faults.Memory failed, failed.undamaged)
     broken_failed (faults.Keeper s) failed = (may_have (faults.Keeper s) failed, failed.undamaged)
     broken_failed (faults.Damaged s a cause) failed = absurd failed.undamaged

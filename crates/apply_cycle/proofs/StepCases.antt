@@ -3,15 +3,13 @@ use Rattle.std.proofs.Common.{◌≡◌, ◌∙◌, ℕ, Bool, true, false, ◌|
 use Rattle.world_store.specs.Words.{Stands}
 use Rattle.site_store.specs.Words.{Contents, Kept, AllClosed, names, held, work, Rules, Shows, Damages, Looks, looks_sees}
 use Rattle.site_store.specs.declared.sites.Sites.{Sites}
-use Rattle.repl_model.specs.Words.{Area, DamageCause, Fault, Stepped, after_action, Action, signals, refreshes, blocks, reports, idles, refuses, next_action, IsSound, World, KnownSet}
+use Rattle.repl_model.specs.Words.{Area, DamageCause, Fault, Stepped, after_action, Action, signals, refreshes, blocks, reports, idles, refuses, next_action_within, World, KnownSet}
 use Rattle.repl_types.specs.declared.area.Area.TheVariants as areas
 use Rattle.repl_types.specs.declared.fault.Fault.TheVariants as faults
 use Rattle.repl_types.specs.declared.fault.Stepped.TheVariants as steps
 use Rattle.world_commits.specs.actions.StaysSound.{MayRefresh, MayBlock, MayMake}
 use Rattle.world_commits.specs.laws.ActionsStaySound.{next_may}
 use Rattle.set_places.specs.declared.placed_set.PlacedSet.{PlacedSet}
-use Rattle.set_places.specs.Places.{IsPlacedAs, IsReadOnly}
-use Rattle.set_places.specs.laws.Known.{is_among}
 use Rattle.set_places.specs.Reading.{ReadsOnly}
 use Rattle.set_places.specs.Steps.{HasBecome, MayHaveBecome, BlamesUnchanged}
 use Rattle.set_places.specs.laws.Commits.{unchanged_after}
@@ -29,15 +27,15 @@ use Rattle.apply_cycle.specs.Stepping.{IsAnswer, HasActed, ReadsIfBlock, HasMade
 -- ---- in a world
 
 module _ {K : Type 0} (kept : K → Kept) (s0 s1 : Sites K) (w : World) (k : KnownSet) where
-  -- an action that was made is the next one
-  pub makes : (source : ℕ) (stepped : Stepped) (a : Action) → a ≡ next_action k → HasBecome kept s0 s1 (after_action w k a) → IsAnswer w k source a stepped → HasMade kept s0 s1 w k source stepped
-  makes source stepped a is become answer = subst (λ (b : Action). HasBecome kept s0 s1 (after_action w k b) × IsAnswer w k source b stepped) is (become, answer)
+  -- an action that was made is another, if the two are one
+  pub makes : (b : Action) (source : ℕ) (stepped : Stepped) (a : Action) → a ≡ b → HasBecome kept s0 s1 (after_action w k a) → IsAnswer w k source a stepped → HasMade kept s0 s1 w k b source stepped
+  makes b source stepped a is become answer = subst (λ (c : Action). HasBecome kept s0 s1 (after_action w k c) × IsAnswer w k source c stepped) is (become, answer)
 
   -- one that failed is too
-  pub fails : (e : Fault) (a : Action) → a ≡ next_action k → MayHaveBecome kept s0 s1 w (after_action w k a) e → HasFailed kept s0 s1 w k e
-  fails e a is may = by_fault e (subst (λ (b : Action). MayHaveBecome kept s0 s1 w (after_action w k b) e) is may)
+  pub fails : (b : Action) (e : Fault) (a : Action) → a ≡ b → MayHaveBecome kept s0 s1 w (after_action w k a) e → HasFailed kept s0 s1 w k b e
+  fails b e a is may = by_fault e (subst (λ (c : Action). MayHaveBecome kept s0 s1 w (after_action w k c) e) is may)
     where
-      by_fault : (e : Fault) → MayHaveBecome kept s0 s1 w (after_action w k (next_action k)) e → HasFailed kept s0 s1 w k e
+      by_fault : (e : Fault) → MayHaveBecome kept s0 s1 w (after_action w k b) e → HasFailed kept s0 s1 w k b e
       by_fault faults.Memory may = may
       by_fault (faults.Keeper s) may = may
       by_fault (faults.Damaged s a cause) may = may
@@ -45,20 +43,20 @@ module _ {K : Type 0} (kept : K → Kept) (s0 s1 : Sites K) (w : World) (k : Kno
 
 -- ---- what may be made
 
-module _ (w : World) (k : KnownSet) (set : PlacedSet) (sound : IsSound w) (placed : IsPlacedAs w k set) (read_only : IsReadOnly k) where
+module _ (end : Option ℕ) (k : KnownSet) where
   -- what the set does next may be made, if that is no signal
-  may_next : (a : Action) → a ≡ next_action k → (a ≡ signals → ⊥) → MayMake k a
-  may_next a is other = subst (MayMake k) (sym is) (next_may w k sound (is_among w k set placed read_only) (λ e. absurd (other (is ∙ e))))
+  may_next : (a : Action) → a ≡ next_action_within end k → (a ≡ signals → ⊥) → MayMake k a
+  may_next a is other = subst (MayMake k) (sym is) (next_may end k (λ e. absurd (other (is ∙ e))))
 
   -- so may a refresh
-  pub refresh_may : refreshes ≡ next_action k → MayRefresh k
+  pub refresh_may : refreshes ≡ next_action_within end k → MayRefresh k
   refresh_may is = may_next refreshes is apart
     where
       apart : ◌≡◌ {A = Action} refreshes signals → ⊥
       apart e = cc
 
   -- and a block
-  pub block_may : (upto : ℕ) → blocks upto ≡ next_action k → MayBlock k upto
+  pub block_may : (upto : ℕ) → blocks upto ≡ next_action_within end k → MayBlock k upto
   block_may upto is = may_next (blocks upto) is apart
     where
       apart : ◌≡◌ {A = Action} (blocks upto) signals → ⊥
@@ -89,15 +87,15 @@ module _ {K : Type 0} (kept : K → Kept) (s0 s1 : Sites K) (looks : Looks kept 
   }
 
   -- so it is with a step that was made
-  pub made_back : (s2 : Sites K) (w : World) (k : KnownSet) (source : ℕ) (stepped : Stepped) → HasMade kept s1 s2 w k source stepped → HasMade kept s0 s2 w k source stepped
-  made_back s2 w k source stepped made = (become_back s2 (after_action w k (next_action k)) made.0, made.1)
+  pub made_back : (s2 : Sites K) (w : World) (k : KnownSet) (a : Action) (source : ℕ) (stepped : Stepped) → HasMade kept s1 s2 w k a source stepped → HasMade kept s0 s2 w k a source stepped
+  made_back s2 w k a source stepped made = (become_back s2 (after_action w k a) made.0, made.1)
 
   -- and with one that failed
-  pub failed_back : (s2 : Sites K) (w : World) (k : KnownSet) (e : Fault) → HasFailed kept s1 s2 w k e → HasFailed kept s0 s2 w k e
-  failed_back s2 w k faults.Memory may = may_back s2 w (after_action w k (next_action k)) faults.Memory may
-  failed_back s2 w k (faults.Keeper s) may = may_back s2 w (after_action w k (next_action k)) (faults.Keeper s) may
-  failed_back s2 w k (faults.Damaged s a cause) may = may_back s2 w (after_action w k (next_action k)) (faults.Damaged s a cause) may
-  failed_back s2 w k (faults.Refused refusal) refused = (become_back s2 w refused.0, refused.1)
+  pub failed_back : (s2 : Sites K) (w : World) (k : KnownSet) (b : Action) (e : Fault) → HasFailed kept s1 s2 w k b e → HasFailed kept s0 s2 w k b e
+  failed_back s2 w k b faults.Memory may = may_back s2 w (after_action w k b) faults.Memory may
+  failed_back s2 w k b (faults.Keeper s) may = may_back s2 w (after_action w k b) (faults.Keeper s) may
+  failed_back s2 w k b (faults.Damaged s a cause) may = may_back s2 w (after_action w k b) (faults.Damaged s a cause) may
+  failed_back s2 w k b (faults.Refused refusal) refused = (become_back s2 w refused.0, refused.1)
 
   -- damage that is shown after reads was shown before them
   pub damage_back : (P : ℕ → Type 0) (rules : Rules) (s : ℕ) (a : Area) (cause : DamageCause) → Damages P rules kept s1 s a cause → Damages P rules kept s0 s a cause

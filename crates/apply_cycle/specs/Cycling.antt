@@ -52,7 +52,7 @@ Rests id w = (k : KnownSet) × (known_set w id ≡ Some k) × (next_action k ≡
 
 -- Why no step is made: no read-only set has the name, or the next step of the set is refused.
 abbrev pub IsRefusedStep : SetId → World → Refusal → Type 0
-IsRefusedStep id w refusal = ((refusal ≡ refusals.NoSuchSet id.qual (Some id.name)) × ((k : KnownSet) → known_set w id ≡ Some k → IsTrue (is_replica_set k.at_target.def))) ⊎ ((k : KnownSet) × (known_set w id ≡ Some k) × IsRefused k refusal)
+IsRefusedStep id w refusal = ((refusal ≡ refusals.NoSuchSet id.qual (Some id.name)) × ((k : KnownSet) → known_set w id ≡ Some k → IsTrue (is_replica_set k.at_target.def))) ⊎ ((k : KnownSet) × (known_set w id ≡ Some k) × IsRefused k (next_action k) refusal)
 
 -- ---- at servers
 

@@ -11,7 +11,7 @@ use Rattle.repl_types.specs.declared.fault.Stepped.TheVariants as steps
 use Rattle.keep_core.specs.Contents.{Contents}
 use Rattle.keep_core.specs.Kept.{Kept}
 use Rattle.repl_model.specs.AfterActions.{base_point, after_action}
-use Rattle.repl_model.specs.NextActions.{Action, signals, refreshes, blocks, reports, idles, refuses, next_action}
+use Rattle.repl_model.specs.NextActions.{Action, signals, refreshes, blocks, reports, idles, refuses}
 use Rattle.repl_model.specs.SoundLogs.{log_limit}
 use Rattle.repl_model.specs.Trails.{synchpoint}
 use Rattle.repl_model.specs.Units.{last_commit}
@@ -26,7 +26,7 @@ use Rattle.site_store.specs.Damage.{Damages}
 use Rattle.subs_sets.specs.Rules as states
 use Rattle.subs_sets.specs.Rules.{state_rules}
 use Rattle.full_refresh.specs.Signals as signalling
-use Rattle.full_refresh.specs.Signals.{length_signalled}
+use Rattle.world_commits.specs.actions.StaysSound.{length_signalled}
 use Rattle.full_refresh.specs.Refreshes as refreshing
 use Rattle.prune_control.specs.Noting as noting
 use Rattle.apply_cycle.specs.Blocks as blocking
@@ -46,11 +46,11 @@ abbrev pub IsAnswer : World → KnownSet → ℕ → Action → Stepped → Type
 IsAnswer w k source (refuses place) stepped = ⊥
 IsAnswer w k source a stepped = stepped ≡ answer_of w k source a
 
--- why a step is refused: the log of the source has no room for the signal, or a refresh is called for and forbidden
-abbrev pub IsRefused : KnownSet → Refusal → Type 0
-IsRefused k (refusals.LogFull name) = (next_action k ≡ signals) × (log_limit < length_signalled k) × (name ≡ k.source.name)
-IsRefused k (refusals.RefreshDisabled place) = next_action k ≡ refuses place
-IsRefused k other = ⊥
+-- why an action is refused: the log of the source has no room for the signal, or a refresh is called for and forbidden
+abbrev pub IsRefused : KnownSet → Action → Refusal → Type 0
+IsRefused k a (refusals.LogFull name) = (a ≡ signals) × (log_limit < length_signalled k) × (name ≡ k.source.name)
+IsRefused k a (refusals.RefreshDisabled place) = a ≡ refuses place
+IsRefused k a other = ⊥
 
 -- what was answered isn't that there was nothing to do
 abbrev pub HasActed : Stepped → Type 0
@@ -58,14 +58,14 @@ HasActed steps.Idle = ⊥
 HasActed other = Unit {0}
 
 module _ {K : Type 0} (kept : K → Kept) (old new : Sites K) where
-  -- a set made its next action, and this is what was answered
-  abbrev pub HasMade : World → KnownSet → ℕ → Stepped → Type 0
-  HasMade w k source stepped = HasBecome kept old new (after_action w k (next_action k)) × IsAnswer w k source (next_action k) stepped
+  -- a set made an action, and this is what was answered
+  abbrev pub HasMade : World → KnownSet → Action → ℕ → Stepped → Type 0
+  HasMade w k a source stepped = HasBecome kept old new (after_action w k a) × IsAnswer w k source a stepped
 
-  -- The step failed. If it was refused, nothing changed; and else it may have been made, if its commit failed.
-  abbrev pub HasFailed : World → KnownSet → Fault → Type 0
-  HasFailed w k (faults.Refused refusal) = HasBecome kept old new w × IsRefused k refusal
-  HasFailed w k e = MayHaveBecome kept old new w (after_action w k (next_action k)) e
+  -- The action failed. If it was refused, nothing changed; and else it may have been made, if its commit failed.
+  abbrev pub HasFailed : World → KnownSet → Action → Fault → Type 0
+  HasFailed w k a (faults.Refused refusal) = HasBecome kept old new w × IsRefused k a refusal
+  HasFailed w k a e = MayHaveBecome kept old new w (after_action w k a) e
 
   -- a block reads no log, no source and nothing spilled, and change rows once each, and so many times more at most
   abbrev pub ReadsInStep : ℕ → Stepped → Type 0

@@ -53,8 +53,15 @@ pub fn block_step<K: Keeper, T: Targets<K>>(
     let known = read_only_state(sites, alloc, set)?;
     let time = unit_time(sites, alloc, set, upto)?;
     let from = known.synchpoint;
-    let step = Step::Block { from, upto };
-    let counts = put_step(sites, alloc, set, targets, step, time, &known)?;
+    let from_time = known.time;
+    let step = Step::Block {
+        from,
+        from_time,
+        upto,
+        time,
+        base: None,
+    };
+    let counts = put_step(sites, alloc, set, targets, step, &known)?;
     Ok(Stepped::Block {
         from,
         to: upto,

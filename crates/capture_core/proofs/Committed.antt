@@ -1,13 +1,13 @@
 -- What a server holds once the units that waited are committed: proofs.
 use Rattle.std.proofs.Common.{◌≡◌, ℕ, zero, suc, Bool, true, false, cond, List, refl, sym, ap, subst, ◌∙◌, arith, Option, Some, None}
 use Rattle.std.specs.Option.{option_or}
-use Rattle.world_store.specs.Words.{single_spelling, capture_spelling, CaptureState, table_from_rows, put_here, put_other_table, capture_state, capture_rows, shown, Holds, tables, first_table}
+use Rattle.world_store.specs.Words.{single_spelling, capture_spelling, CaptureState, table_from_rows, put_here, put_other_table, capture_state, capture_rows, shown, Holds, Becomes, tables, first_table}
 use Rattle.site_store.specs.Words.{Contents, Table, set_key, same_key, put_at}
 use Rattle.repl_model.specs.Words.{Area, Unit, Server, World}
 use Rattle.repl_types.specs.declared.area.Area.TheVariants as areas
 use Rattle.world_commits.specs.captures.Captures.{with_units}
-use Rattle.stored_commits.specs.units.StoredCaptures.{HasCaptured}
-use Rattle.stored_commits.specs.captures.CapturedServers.{is_of_capture, Captured}
+use Rattle.stored_commits.specs.captures.CapturedServers.{is_of_capture}
+use Rattle.stored_commits.specs.laws.CapturedStates.{captured_becomes}
 use Rattle.cd_tables.specs.Appending.{is_of_unit}
 use Rattle.capture_core.specs.Committing.{PutsState}
 use Rattle.capture_core.specs.Reading.{HasServer}
@@ -81,15 +81,13 @@ put_leaves server d e state has put =
       };
     }
 
--- the server then holds what it has once it has captured the units
-pub captured_by : (w : World) (us : List Unit) (server after : Server) (c d e : Contents) (state : CaptureState) → with_units us server ≡ after → Holds w server c → HasServer after d → state ≡ capture_state after → ((a : Area) (m : ℕ) → is_of_unit a m ≡ false → d a m ≡ c a m) → PutsState state d e → Captured us server c e
-captured_by w us server after c d e state is holds has fits leaves put =
+-- what the server holds becomes what a world calls for there once it has captured the units
+pub captured_by : (v w : World) (us : List Unit) (server after : Server) (c d e : Contents) (state : CaptureState) → with_units us server ≡ after → Holds w server c → HasServer after d → state ≡ capture_state after → ((a : Area) (m : ℕ) → is_of_unit a m ≡ false → d a m ≡ c a m) → PutsState state d e → Becomes is_of_capture v (with_units us server) c e
+unfolding first_table
+captured_by v w us server after c d e state is holds has fits leaves put =
     let key = single_spelling (record {}) in
-    record {
-      has = subst (λ (s : Server). HasCaptured s e) (sym is) (put_leaves after d e state has put).captured;
-      state =
-          ap (shown server areas.Capture 0) (ap (λ (f : Contents). f areas.Capture 0) put ∙ put_here d areas.Capture 0 key (Some (capture_spelling state)) ∙ (λ i. set_key (leaves areas.Capture 0 refl i) key (Some (capture_spelling (fits i)))))
-          ∙ state_put server after (c areas.Capture 0) (held_state w server c holds)
-          ∙ ap state_table (sym is);
-      others = λ a m apart. ap (λ (f : Contents). f a m) put ∙ state_apart d key (Some (capture_spelling state)) a m apart ∙ leaves a m (not_of_unit a m apart);
-    }
+    subst (λ (s : Server). Becomes is_of_capture v s c e) (sym is) (captured_becomes v after c e
+    (put_leaves after d e state has put).captured
+    (ap (shown after areas.Capture 0) (ap (λ (f : Contents). f areas.Capture 0) put ∙ put_here d areas.Capture 0 key (Some (capture_spelling state)) ∙ (λ i. set_key (leaves areas.Capture 0 refl i) key (Some (capture_spelling (fits i)))))
+    ∙ state_put server after (c areas.Capture 0) (held_state w server c holds))
+    (λ a m apart. ap (λ (f : Contents). f a m) put ∙ state_apart d key (Some (capture_spelling state)) a m apart ∙ leaves a m (not_of_unit a m apart)))

@@ -3,13 +3,13 @@ use Rattle.std.proofs.Common.{◌≡◌, ℕ, ◌<◌, Bool, cond, List, [], ◌
 use Rattle.std.proofs.lemmas.List.{get_or-map, length-map}
 use Rattle.std.proofs.lemmas.Option.{same_Some, slice_get-get_or}
 use Rattle.repl_model.specs.Words.{Unit, IsSound, empty_server, Server, World, server_named, server_in, name_itself, In}
-use Rattle.world_store.specs.Words.{Holds, Reveals, Stands, stands_with_server}
+use Rattle.world_store.specs.Words.{Holds, Becomes, Reveals, Stands, stands_with_server}
 use Rattle.site_store.specs.Words.{Contents, Kept, AllClosed, names, held, work}
 use Rattle.site_store.specs.declared.sites.Sites.{Sites}
 use Rattle.world_commits.specs.captures.Captures.{with_units, uncaptured, captured_server, captured}
 use Rattle.world_commits.specs.captures.StaysSound.{AreNext}
 use Rattle.world_commits.specs.captures.laws.Servers.{name_stays, named_captured}
-use Rattle.stored_commits.specs.captures.CapturedServers.{Captured}
+use Rattle.stored_commits.specs.captures.CapturedServers.{is_of_capture}
 use Rattle.stored_defs.specs.laws.Standing.{zip_at_place, in_at, same_count, name_at_place, server_at_place}
 use Rattle.capture_core.proofs.UnitsInTurn.{captured_both, left_after}
 use Rattle.world_commits.specs.laws.CapturesStaySound.{captures_sound}
@@ -65,10 +65,10 @@ module _ {K : Type 0} (kept : K → Kept) (s0 : Sites K) (closed : AllClosed (wo
       (r.0, r.1, subst (λ (s : Server). Holds (captured name us w) s r.0) (at_place us) r.2)
 
   -- once it holds what more units call for, the servers stand for the world with them
-  pub stands_captured : (us vs rest : List Unit) (h : List (Option Contents)) (c d : Contents) → uncaptured server ≡ (us ++ vs) ++ rest → uncaptured server ≡ us ++ (vs ++ rest) → Stands (names s0) h (captured name us w) → Holds (captured name us w) (with_units us server) c → Captured vs (with_units us server) c d
+  pub stands_captured : (us vs rest : List Unit) (h : List (Option Contents)) (c d : Contents) → uncaptured server ≡ (us ++ vs) ++ rest → uncaptured server ≡ us ++ (vs ++ rest) → Stands (names s0) h (captured name us w) → Holds (captured name us w) (with_units us server) c → Becomes is_of_capture (captured name vs (captured name us w)) (with_units vs (with_units us server)) c d
       → Stands (names s0) (set h n (Some d)) (captured name (us ++ vs) w)
-  stands_captured us vs rest h c d split parts now has takes = subst (Stands (names s0) (set h n (Some d))) (captured_both name us vs w)
-      (subst Captures (name_stays us server) stands_there (subst IsSound (sym (captured_both name us vs w)) (sound_after (us ++ vs) (rest, split))) (found_after us))
+  stands_captured us vs rest h c d split parts now has becomes = subst (Stands (names s0) (set h n (Some d))) (captured_both name us vs w)
+      (subst Captures (name_stays us server) stands_there (subst IsSound (sym (captured_both name us vs w)) (sound_after (us ++ vs) (rest, split))) (found_after us) becomes)
     where
       between : World
       between = captured name us w
@@ -81,12 +81,12 @@ module _ {K : Type 0} (kept : K → Kept) (s0 : Sites K) (closed : AllClosed (wo
 
       -- what is to be shown, by the name of the server
       Captures : List ℕ → Type 0
-      Captures l = IsSound (captured l vs between) → server_named l between ≡ Some mine → Stands (names s0) (set h n (Some d)) (captured l vs between)
+      Captures l = IsSound (captured l vs between) → server_named l between ≡ Some mine → Becomes is_of_capture (captured l vs between) (with_units vs mine) c d → Stands (names s0) (set h n (Some d)) (captured l vs between)
 
       there : slice_get between n ≡ Some mine
       there = slice_get-get_or between n (empty_server []) (omega (arith, within, length-map w (captured_server name us))) ∙ ap (λ (s : Server). Some s) (at_place us)
 
       stands_there : Captures mine.name
-      stands_there sound found = stands_with_server (names s0) h between n mine (with_units vs) d now there (name_stays vs) sound
-          (captures_hold mine.name vs between mine c d sound_between found (rest, left_after us (vs ++ rest) server parts) has takes)
+      stands_there sound found becomes = stands_with_server (names s0) h between n mine (with_units vs) d now there (name_stays vs) sound
+          (captures_hold mine.name vs between mine c d sound_between found (rest, left_after us (vs ++ rest) server parts) has becomes)
           (λ other e i differs holds. others_hold_captures mine.name vs between other e sound_between i differs holds)

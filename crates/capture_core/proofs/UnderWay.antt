@@ -326,8 +326,8 @@ module _ {K : Type 0} (kept : K → Kept) (s0 : Sites K) (n every most : ℕ) wh
           let after : with_units g.waiting between ≡ with_units g.taken server = units_both g.done g.waiting server ∙ ap (λ (us : List Unit). with_units us server) (sym g.whole) in
           let split : uncaptured server ≡ (g.done ++ g.waiting) ++ g.rest = g.split ∙ ap (λ (us : List Unit). us ++ g.rest) g.whole in
           let parts : uncaptured server ≡ g.done ++ (g.waiting ++ g.rest) = split ∙ append_assoc g.done g.waiting g.rest in
-          let takes = captured_by (captured name g.done w) g.waiting between (with_units g.taken server) c.0 d e p.state after c.2 has g.reads.state r.2.2.others r.2.3 in
-          let whole = stands_captured kept s0 call.closed w stands n call.lt g.done g.waiting g.rest (held kept s1) c.0 e split parts g.stands c.2 takes in
+          let becomes = captured_by (captured name g.waiting (captured name g.done w)) (captured name g.done w) g.waiting between (with_units g.taken server) c.0 d e p.state after c.2 has g.reads.state r.2.2.others r.2.3 in
+          let whole = stands_captured kept s0 call.closed w stands n call.lt g.done g.waiting g.rest (held kept s1) c.0 e split parts g.stands c.2 becomes in
           let now : h ≡ set (held kept s1) n (Some e) = r.1 ∙ ap (λ (l : List (Option Contents)). set l n (Some e)) puts.works.held in (
             subst (λ (q : List (Option Contents) × List Unit). Stands (names s0) q.0 (captured name q.1 w)) (λ i. (sym now i, sym g.whole i)) whole,
             λ f is. subst (HasServer (with_units g.taken server)) (same_Some e f (sym (ap (λ (l : List (Option Contents)). get_or l n None) now ∙ here_set (held kept s1) c.0 e c.1) ∙ is)) (put_leaves (with_units g.taken server) d e p.state has r.2.3),

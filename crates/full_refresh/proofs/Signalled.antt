@@ -2,13 +2,13 @@
 use Rattle.std.proofs.Common.{◌≡◌, ◌⊎◌, ℕ, ◌+◌, ◌<◌, ◌≤◌, Bool, cond, List, [], ◌∷◌, ◌++◌, length, map, inl, inr, refl, sym, ap, subst, ◌∙◌, arith, Option, Some, None, IsTrue, ◌||◌, bytes_eq}
 use Rattle.std.specs.List.{AllByRecursion}
 use Rattle.std.proofs.lemmas.List.{length-append, length-map}
-use Rattle.world_store.specs.Words.{SyncMark, Holds, Stands, first_table}
+use Rattle.world_store.specs.Words.{SyncMark, Holds, Becomes, Stands, first_table}
 use Rattle.site_store.specs.Words.{Contents, Kept, names, held}
 use Rattle.site_store.specs.declared.sites.Sites.{Sites}
-use Rattle.repl_model.specs.Words.{LogRecord, Fault, is_signal, is_change_applicable, with_more, signals, signal_records, signalled, after_action, IsSound, read_only_sets, ServerKeepsRules, LogIsSound, log_limit, Server, World, KnownSet, known_sets, tables_of, at_place_in, In, at_one, image_in, name_itself}
+use Rattle.repl_model.specs.Words.{LogRecord, Fault, is_signal, is_change_applicable, with_more, grown, signals, signal_records, signalled, after_action, IsSound, read_only_sets, ServerKeepsRules, LogIsSound, log_limit, Server, World, KnownSet, known_sets, tables_of, at_place_in, In, at_one, image_in, name_itself}
 use Rattle.repl_types.specs.declared.unit.Unit.{Unit as LogUnit}
 use Rattle.repl_types.specs.declared.fault.Fault.TheVariants as faults
-use Rattle.stored_commits.specs.logs.LongerServers.{Logged}
+use Rattle.stored_commits.specs.logs.LongerServers.{is_of_log}
 use Rattle.stored_commits.specs.actions.ActedServers.{with_mark}
 use Rattle.source_log.specs.Storing.{IsKept, StoresWhole}
 use Rattle.source_log.specs.Units.{own_change, own_commit, unit_records, AppendsUnit, HasNoRoomFor, HasUnit, ChangesFit}
@@ -20,9 +20,11 @@ use Rattle.set_places.specs.laws.Commits.{has_become}
 use Rattle.set_places.specs.laws.Known.{is_among}
 use Rattle.set_places.specs.laws.Standing.{revealed_at_place}
 use Rattle.full_refresh.specs.PutSignals.{PutsSignal}
-use Rattle.full_refresh.specs.Signals.{start_of, HasSignalled, length_signalled}
+use Rattle.full_refresh.specs.Signals.{start_of, HasSignalled}
 use Rattle.full_refresh.proofs.PutSignals.{PutsSome}
+use Rattle.world_commits.specs.actions.StaysSound.{length_signalled}
 use Rattle.world_commits.specs.laws.ActionsStaySound.{actions_sound}
+use Rattle.stored_commits.specs.laws.Logged.{logged_becomes}
 use Rattle.stored_commits.specs.laws.Signals.{others_hold_signal, signal_holds}
 
 -- the log of a source with a signal is sound if that of the signalled source is
@@ -56,7 +58,7 @@ module _ (w : World) (k : KnownSet) (set : PlacedSet) (sound : IsSound w) (place
   after = after_action w k signals
 
   -- it is sound if the log has room
-  sound_after : length k.source.log + length more ≤ log_limit → IsSound after
+  sound_after : length_signalled k ≤ log_limit → IsSound after
   sound_after room = actions_sound w k signals sound among room
 
   -- the signalled source is one of its servers
@@ -95,14 +97,14 @@ module _ (w : World) (k : KnownSet) (set : PlacedSet) (sound : IsSound w) (place
       longer : StoresWhole (with_more more k.source) m
       longer = subst (λ (l : List LogRecord). StoresWhole (with_more l k.source) m) made (unit_whole k.source unit seq c m whole appended (subst (λ (l : List LogRecord). IsKept (with_more l k.source)) (sym made) kept))
 
-      logged : Logged more k.source c m
+      becomes : Becomes is_of_log (grown k.source.name more w) (with_more more k.source) c m
       unfolding first_table
-      logged = record { log = longer.stores.log; source = longer.stores.source; in_flight = longer.stores.in_flight; head = longer.end; others = appended.others }
+      becomes = logged_becomes more (grown k.source.name more w) k.source c m longer.stores.log longer.stores.source longer.stores.in_flight longer.end appended.others
 
       -- with the mark it holds what the world after the signal calls for
       pub signalled_holds : Holds after (signalled k.at_source.def k.source) (with_mark set.at_source.number (record { mark = known.mark; signal = seq }) m)
       signalled_holds = subst (λ (s : SyncMark). Holds after (signalled k.at_source.def k.source) (with_mark set.at_source.number s m)) (λ i. record { mark = ap (λ (s : SyncMark). s.mark) (sym marked) i; signal = sym seq_is i })
-          (signal_holds w k set.at_source.number c m sound among placed.at_source holds logged)
+          (signal_holds w k set.at_source.number c m sound among placed.at_source holds becomes)
 
   -- ---- at the servers
 

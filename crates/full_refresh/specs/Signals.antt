@@ -1,5 +1,5 @@
 -- The signal of a set.
-use Rattle.std.specs.Prelude.{◌≡◌, ℕ, ◌+◌, ◌<◌, if◌then◌else◌, List, [], ◌∷◌, ◌++◌, length, map, Option, Some, None}
+use Rattle.std.specs.Prelude.{◌≡◌, ℕ, ◌<◌, if◌then◌else◌, List, [], ◌∷◌, ◌++◌, map, Option, Some, None}
 use Rattle.std.specs.List.{list_any}
 use Rattle.std.specs.Str.{bytes_eq}
 use Rattle.repl_types.specs.declared.area.Area.{Area}
@@ -13,9 +13,10 @@ use Rattle.repl_definitions.specs.declared.set.SetDef.{SetDef}
 use Rattle.repl_model.specs.World.{World, KnownSet}
 use Rattle.repl_model.specs.SoundLogs.{log_limit}
 use Rattle.repl_model.specs.NextActions.{signals}
-use Rattle.repl_model.specs.AfterActions.{source_tables, signal_records, after_action}
+use Rattle.repl_model.specs.AfterActions.{source_tables, after_action}
 use Rattle.site_store.specs.declared.sites.Sites.{Sites}
 use Rattle.site_store.specs.Damage.{Rules, joined, Damages}
+use Rattle.world_commits.specs.actions.StaysSound.{length_signalled}
 use Rattle.source_log.specs.Rules.{all_rules}
 use Rattle.source_log.specs.Units.{table_rules}
 use Rattle.set_places.specs.declared.placed_set.PlacedSet.{PlacedSet}
@@ -41,10 +42,6 @@ abbrev pub unit_of_signal : SetDef → ℕ → Unit
 unit_of_signal def time = record { head = head_of_signal def time; changes = map start_of (source_tables def) }
 
 -- ---- answers
-
--- how long the log of a set's source is with the signal
-abbrev pub length_signalled : KnownSet → ℕ
-length_signalled k = length k.source.log + length (signal_records k.at_source.def k.source.log)
 
 -- the signal was made, and its seq is the last position of the log with it; or the log has no room for it, and the
 -- servers stand for the world for which they stood

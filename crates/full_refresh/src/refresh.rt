@@ -49,10 +49,12 @@ pub fn refresh_step<K: Keeper, T: Targets<K>>(
 {
     let end = last_commit(sites, alloc, set.source)?;
     let known = read_only_state(sites, alloc, set)?;
-    let step = Step::Refresh { point: end.commit };
-    let counts = put_step(sites, alloc, set, targets, step, end.time, &known)?;
+    let point = end.commit;
+    let time = end.time;
+    let step = Step::Refresh { point, time };
+    let counts = put_step(sites, alloc, set, targets, step, &known)?;
     Ok(Stepped::Refresh {
-        point: end.commit,
+        point,
         rows: counts.rows,
     })
 }

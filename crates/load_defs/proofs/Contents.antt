@@ -1,14 +1,14 @@
 -- What contents are after the rows of a load were put.
-use Rattle.std.proofs.Common.{◌≡◌, ℕ, zero, suc, ◌<◌, Bool, cond, false, refl, sym, ap, ◌∙◌, arith, ◌==◌}
+use Rattle.std.proofs.Common.{◌≡◌, ℕ, zero, suc, ◌<◌, Bool, cond, true, false, refl, sym, ap, ◌∙◌, arith, ◌==◌}
 use Rattle.std.proofs.lemmas.Bool.Decides.{nat_tests}
-use Rattle.world_store.specs.Words.{b32, short_text, set_spelling, registration_state_spelling, mark_spelling, first_table, definition_table, capture_table, prune_table, tables, Holds, no_first}
+use Rattle.world_store.specs.Words.{b32, short_text, set_spelling, registration_state_spelling, mark_spelling, first_table, definition_table, capture_table, prune_table, tables, shown, Holds, Becomes, no_first}
 use Rattle.site_store.specs.Words.{Contents, Table, with_table}
 use Rattle.repl_model.specs.Words.{Area, defined_table_spelling, defined_registration_spelling, source_set_spelling, target_set_spelling, Server, World}
 use Rattle.repl_types.specs.declared.area.Area.TheVariants as areas
 use Rattle.spelled_defs.specs.declared.defs.Defs.{Defs}
 use Rattle.stored_defs.specs.laws.Standing.{holds_defs}
 use Rattle.load_laws.specs.worlds.Loads.{load_server}
-use Rattle.load_laws.specs.stored.LoadedServers.{is_loaded, Loaded}
+use Rattle.load_laws.specs.stored.LoadedServers.{is_loaded}
 use Rattle.load_plan.specs.declared.additions.Additions.{Additions}
 use Rattle.load_laws.specs.planned.Planned.{with_rows, table_additions, registration_additions, state_additions, source_additions, mark_additions, target_additions}
 use Rattle.load_laws.specs.planned.PlannedLoads.{AddsRows}
@@ -75,28 +75,20 @@ module _ (defs : Defs) (w : World) (s : Server) (added : Additions) (c : Content
 
   -- the tables in which nothing is put are as they were
   others : (a : Area) (n : ℕ) → is_loaded a n ≡ false → put a n ≡ c a n
-  others areas.Log n e = refl
-  others areas.Source n e = refl
-  others areas.Inflight n e = refl
-  others areas.Head n e = refl
-  others areas.Defs n e = absurd (cc)
-  others areas.Cd n e = refl
-  others areas.Uow n e = refl
-  others areas.Capture zero e = refl
-  others areas.Capture (suc zero) e = absurd (cc)
+  others areas.Defs n e = absurd cc
+  others areas.Capture (suc zero) e = absurd cc
   others areas.Capture (suc (suc n)) e = ap (λ (b : Bool). cond b (with_rows b32 registration_state_spelling rows.states (c areas.Capture 1)) (c areas.Capture (suc (suc n)))) (apart_state n)
-  others areas.Prune zero e = absurd (cc)
+  others areas.Prune zero e = absurd cc
   others areas.Prune (suc n) e = ap (λ (b : Bool). cond b (with_rows b32 mark_spelling rows.marks (c areas.Prune 0)) (c areas.Prune (suc n))) (apart_mark n)
-  others areas.Spill n e = refl
-  others areas.Target n e = refl
-  others areas.SetState n e = refl
-  others areas.Trail n e = refl
+  others a n e = refl
 
-  -- what the server holds after the rows were put is what the load makes of it
-  pub rows_loaded : Loaded defs s c put
-  rows_loaded = record {
-    definitions = definitions;
-    states = ap (with_rows b32 registration_state_spelling (state_additions added)) (holds_states w s c holds) ∙ adds.states;
-    marks = ap (with_rows b32 mark_spelling (mark_additions added)) (holds_marks w s c holds) ∙ adds.marks;
-    others = others;
-  }
+  -- what the server holds after the rows were put is what a world calls for there once the server is loaded
+  pub rows_loaded : (v : World) → Becomes is_loaded v (load_server defs s) c put
+  unfolding tables first_table
+  rows_loaded v = record { has = table_is; others = others }
+    where
+      table_is : (a : Area) (n : ℕ) → is_loaded a n ≡ true → shown (load_server defs s) a n (put a n) ≡ tables v (load_server defs s) a n
+      table_is areas.Defs n e = definitions n
+      table_is areas.Capture (suc zero) e = no_first (put areas.Capture 1) ∙ ap (with_rows b32 registration_state_spelling (state_additions added)) (holds_states w s c holds) ∙ adds.states
+      table_is areas.Prune zero e = no_first (put areas.Prune 0) ∙ ap (with_rows b32 mark_spelling (mark_additions added)) (holds_marks w s c holds) ∙ adds.marks
+      table_is a n e = absurd cc

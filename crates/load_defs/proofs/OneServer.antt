@@ -2,7 +2,7 @@
 use Rattle.std.proofs.Common.{◌≡◌, ℕ, suc, ◌<◌, true, false, List, [], length, map, set, get_or, sym, ap, subst, ◌∙◌, arith, Option, Some, None}
 use Rattle.std.specs.List.{AllByRecursion}
 use Rattle.std.proofs.lemmas.Bool.{not-true}
-use Rattle.world_store.specs.Words.{Any, IsStorable, Holds, Stands}
+use Rattle.world_store.specs.Words.{Any, IsStorable, Holds, Becomes, Stands}
 use Rattle.site_store.specs.Words.{Contents, Kept, WorksOn, names, held, sees, Bounds, Begins, took}
 use Rattle.site_store.specs.declared.sites.Sites.{Sites}
 use Rattle.repl_model.specs.Words.{all_weaker, DefinedTable, DefinedRegistration, SourceSet, TargetSet, defined_table_spelling, HasDefinedTableSpelling, defined_registration_spelling, HasDefinedRegistrationSpelling, source_set_spelling, HasSourceSetSpelling, target_set_spelling, HasTargetSetSpelling, IsSound, empty_server, Server, World, In, at_each, each_image}
@@ -12,8 +12,8 @@ use Rattle.stored_defs.specs.laws.Standing.{all_at_place}
 use Rattle.load_plan.specs.Additions.{additions_at}
 use Rattle.load_plan.specs.declared.stored.StoredServer.{StoredServer}
 use Rattle.load_plan.specs.declared.additions.Additions.{Additions}
-use Rattle.load_laws.specs.worlds.Loads.{server_at, load_at, load_first}
-use Rattle.load_laws.specs.stored.LoadedServers.{Loaded}
+use Rattle.load_laws.specs.worlds.Loads.{load_server, server_at, load_at, load_first}
+use Rattle.load_laws.specs.stored.LoadedServers.{is_loaded}
 use Rattle.load_laws.specs.planned.Path.{gains}
 use Rattle.load_laws.specs.planned.Planned.{stored_server}
 use Rattle.load_laws.specs.planned.PlannedLoads.{AddsRows, adds_nothing}
@@ -79,7 +79,7 @@ module _ (raw : RawDefs) (w : World) (defs : Defs) (may : MayLoad raw w defs) (n
       let c = now_held.0 in
       let rows : AddsRows defs (server_at v n) added = subst (λ (p : Server × StoredServer). AddsRows defs p.0 (additions_at defs p.1)) (λ i. (sym (next_server defs n w) i, sym is i)) (adds_planned raw w defs (server_at w n) may.sound may.accepted here) in
       let sounds : IsSound (load_at defs n v) = subst IsSound (sym (next_loaded defs n w)) (load_stays_sound defs w (suc n) may.sound may.after) in
-      let next : Stands (names s0) (set (held kept s0) n (Some d)) (load_at defs n v) = stands_next (names s0) (held kept s0) defs v n c d stands sounds now_held.2 (subst (Loaded defs (server_at v n) c) (sym puts) (rows_loaded defs v (server_at v n) added c rows now_held.2)) in
+      let next : Stands (names s0) (set (held kept s0) n (Some d)) (load_at defs n v) = stands_next (names s0) (held kept s0) defs v n c d stands sounds now_held.2 (subst (Becomes is_loaded (load_at defs n v) (load_server defs (server_at v n)) c) (sym puts) (rows_loaded defs v (server_at v n) added c rows now_held.2 (load_at defs n v))) in
       subst (λ (p : List (Option Contents) × World). Stands (names s0) p.0 p.1) (λ i. (sym holds i, next_loaded defs n w i)) next
 
   -- a commit of its rows that took place

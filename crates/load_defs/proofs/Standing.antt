@@ -2,13 +2,13 @@
 use Rattle.std.proofs.Common.{◌≡◌, ℕ, zero, suc, ◌<◌, List, [], ◌∷◌, length, map, set, get_or, refl, sym, ap, subst, ◌∙◌, arith, Option, Some, None}
 use Rattle.std.specs.List.{AllZip}
 use Rattle.std.proofs.lemmas.List.{length-map}
-use Rattle.world_store.specs.Words.{Holds, Reveals, Stands}
+use Rattle.world_store.specs.Words.{Holds, Becomes, Reveals, Stands}
 use Rattle.site_store.specs.Words.{Contents}
 use Rattle.repl_model.specs.Words.{IsSound, empty_server, Server, World}
 use Rattle.stored_defs.specs.laws.Standing.{zip_at_place}
 use Rattle.spelled_defs.specs.declared.defs.Defs.{Defs}
 use Rattle.load_laws.specs.worlds.Loads.{load_server, server_at, load_at}
-use Rattle.load_laws.specs.stored.LoadedServers.{Loaded}
+use Rattle.load_laws.specs.stored.LoadedServers.{is_loaded}
 use Rattle.load_laws.specs.laws.StoredServers.{loaded_server_holds, others_hold_load}
 
 -- what holds of two lists place by place, by what holds at each place
@@ -45,11 +45,11 @@ pub revealed_at : (names : List (List ℕ)) (h : List (Option Contents)) (w : Wo
 revealed_at names h w n stands lt = zip_at_place (Reveals w) w h n (empty_server []) None stands.servers (omega (arith, lt, count_named names h w stands))
 
 -- once a server holds what the load makes of it, the servers stand for the world after
-pub stands_next : (names : List (List ℕ)) (h : List (Option Contents)) (defs : Defs) (w : World) (n : ℕ) (c d : Contents) → Stands names h w → IsSound (load_at defs n w) → Holds w (server_at w n) c → Loaded defs (server_at w n) c d → Stands names (set h n (Some d)) (load_at defs n w)
-stands_next names h defs w n c d stands sound holds puts = record {
+pub stands_next : (names : List (List ℕ)) (h : List (Option Contents)) (defs : Defs) (w : World) (n : ℕ) (c d : Contents) → Stands names h w → IsSound (load_at defs n w) → Holds w (server_at w n) c → Becomes is_loaded (load_at defs n w) (load_server defs (server_at w n)) c d → Stands names (set h n (Some d)) (load_at defs n w)
+stands_next names h defs w n c d stands sound holds becomes = record {
   sound = sound;
   named = names_stay defs w n ∙ stands.named;
   servers = zip_set (Reveals w) (Reveals (load_at defs n w)) (empty_server []) w h n (load_server defs (server_at w n)) (Some d) stands.servers
       (λ m told r. (r.0, r.1, others_hold_load defs w n m r.0 stands.sound r.2))
-      (d, refl, loaded_server_holds defs w n c d stands.sound holds puts);
+      (d, refl, loaded_server_holds defs w n c d stands.sound holds becomes);
 }

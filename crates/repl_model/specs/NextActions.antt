@@ -24,9 +24,14 @@ abbrev pub first_cut : SetDef → List Unit → Option Unit
 first_cut def [] = None
 first_cut def (first ∷ us) = last_or (Some first) (map (λ r. r.1) (filter (is_within def first) (enumerate_from 1 (first ∷ us))))
 
--- the seq at which a set's next block ends, of the captured units after the point that its targets have reached
-abbrev pub block_end : KnownSet → ℕ
-block_end k = option_map_or (λ u. u.head.seq) (first_cut k.at_source.def (units_between (synchpoint k.at_target.trail) k.source.captured k.source.log)) 0
+-- the units up to a time in seconds, or all if there is no such end
+abbrev pub units_until : Option ℕ → List Unit → List Unit
+units_until None us = us
+units_until (Some time) us = filter (λ u. nat_le u.head.time time) us
+
+-- the units that come next at a set: those that are captured, after the point that its targets have reached
+abbrev pub next_units : Option ℕ → KnownSet → List Unit
+next_units end k = units_until end (units_between (synchpoint k.at_target.trail) k.source.captured k.source.log)
 
 -- ---- gaps
 
@@ -97,15 +102,25 @@ is_new (e ∷ trail) = false
 abbrev pub refresh_by_signal : KnownSet → Action
 refresh_by_signal k = if nat_le k.at_source.signal (base_of k.at_target.trail) then signals else refreshes
 
--- what is done if there are captured units that the targets haven't taken
-abbrev pub by_gap : KnownSet → Option Gap → Action
-by_gap k None = blocks (block_end k)
-by_gap k (Some gap) = if gap.disabled then refuses gap.place else refresh_by_signal k
+-- what is done if nothing is left to take: a report, unless the source was told which point the targets have reached
+abbrev pub at_rest : KnownSet → Action
+at_rest k = if nat_lt k.at_source.mark (synchpoint k.at_target.trail) then reports else idles
 
--- What the set does next: a refresh if it is new or one was asked for; a report, or nothing, if its targets have
--- taken all captured units; and else a refresh if changes that it needs aren't kept, or a block.
-abbrev pub next_action : KnownSet → Action
-next_action k =
+-- what is done if the targets haven't taken all captured units: a block of those that come next, if there are some up to
+-- the end; or, if changes that the set needs aren't kept, a refresh, unless that is forbidden
+abbrev pub by_gap : Option ℕ → KnownSet → Option Gap → Action
+by_gap end k None = option_map_or (λ u. blocks u.head.seq) (first_cut k.at_source.def (next_units end k)) (at_rest k)
+by_gap end k (Some gap) = if gap.disabled then refuses gap.place else refresh_by_signal k
+
+-- What the set does next, if its blocks take only units up to a time: a refresh if it is new or one was asked for; a
+-- report, or nothing, if its targets have taken all captured units; and else a refresh if changes that it needs aren't
+-- kept, or a block.
+abbrev pub next_action_within : Option ℕ → KnownSet → Action
+next_action_within end k =
     if is_new k.at_target.trail || k.at_target.flag then refresh_by_signal k
-    else if nat_le k.source.captured (synchpoint k.at_target.trail) then (if nat_lt k.at_source.mark (synchpoint k.at_target.trail) then reports else idles)
-    else by_gap k (gap_of k)
+    else if nat_le k.source.captured (synchpoint k.at_target.trail) then at_rest k
+    else by_gap end k (gap_of k)
+
+-- what the set does next
+abbrev pub next_action : KnownSet → Action
+next_action k = next_action_within None k

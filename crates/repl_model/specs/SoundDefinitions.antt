@@ -107,14 +107,22 @@ abbrev pub ReplicaMemberIsSound : KnownSet → Member → Type 0
 ReplicaMemberIsSound k member = IsTrue (is_replica member.kind)
     × ((master : SourceTable) × (replica : SourceTable) × (source_named member.source k.source ≡ Some master) × (source_named member.target k.target ≡ Some replica) × ReplicaKeepsRules master replica member)
 
--- What a known set keeps: both its rows say the same, its servers are two, and its members are all of a
--- read-only set or all of a replica set, whose steps have no limits. A set's rows hold only what its kind
--- has.
+-- the members of a set are all of a read-only set, and its rows hold only what such a set has
+abbrev pub KeepsReadOnlyRules : KnownSet → Type 0
+KeepsReadOnlyRules k = AllByRecursion (MemberIsSound k) k.at_target.def.members
+    × (k.at_source.t ≡ 0) × (k.at_source.d ≡ 0) × (k.at_source.codes ≡ []) × (k.at_target.signal ≡ 0)
+
+-- they are all of a replica set, whose steps have no limits, and its rows hold only what such a set has
+abbrev pub KeepsReplicaRules : KnownSet → Type 0
+KeepsReplicaRules k = AllByRecursion (ReplicaMemberIsSound k) k.at_target.def.members
+    × (k.at_target.def.commit_count ≡ 0) × (k.at_target.def.max_minutes ≡ 0) × (k.at_target.flag ≡ false) × (k.at_target.trail ≡ [] → IsFresh k.at_source)
+
+-- What a known set keeps: both its rows say the same, its servers are two, and it keeps the rules of a read-only set or
+-- those of a replica set.
 pub record KnownSetKeepsRules (k : KnownSet) : Type 0 where
   pub same : k.at_source.def ≡ k.at_target.def
   pub apart : IsTrue (not (bytes_eq k.source.name k.target.name))
-  pub members : (AllByRecursion (MemberIsSound k) k.at_target.def.members × (k.at_source.t ≡ 0) × (k.at_source.d ≡ 0) × (k.at_source.codes ≡ []) × (k.at_target.signal ≡ 0))
-      ⊎ (AllByRecursion (ReplicaMemberIsSound k) k.at_target.def.members × (k.at_target.def.commit_count ≡ 0) × (k.at_target.def.max_minutes ≡ 0) × (k.at_target.flag ≡ false) × (k.at_target.trail ≡ [] → IsFresh k.at_source))
+  pub members : KeepsReadOnlyRules k ⊎ KeepsReplicaRules k
 
 -- a server and one of its tables or targets, by their names
 abbrev pub same_place : List ℕ × List ℕ → List ℕ × List ℕ → Bool

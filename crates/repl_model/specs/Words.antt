@@ -79,14 +79,14 @@ unfoldable pub use Rattle.repl_model.specs.History.{condensed, history}
 pub use Rattle.repl_model.specs.Longer.{EndsWithin, NoneFrom, grown, grown_server, grown_set, lengthened, new_units, points_of, with_more}
 pub use Rattle.repl_model.specs.MemberCopies.{MarkedRow, change_time}
 unfoldable pub use Rattle.repl_model.specs.MemberCopies.{point_in_time_copy, user_copy}
-pub use Rattle.repl_model.specs.NextActions.{Action, Gap, block_end, blocks, by_gap, first_cut, gap_of, idles, is_disabled, is_new, is_within, member_gap, next_action, place_of_gap, refresh_by_signal, refreshes, refuses, registration_of, reports, signals, uow_gap}
+pub use Rattle.repl_model.specs.NextActions.{Action, Gap, at_rest, blocks, by_gap, first_cut, gap_of, idles, is_disabled, is_new, is_within, member_gap, next_action, next_action_within, next_units, place_of_gap, refresh_by_signal, refreshes, refuses, registration_of, reports, signals, units_until, uow_gap}
 pub use Rattle.repl_model.specs.Replicas.{comes_from, is_of_set, keys_changed, meets}
 unfoldable pub use Rattle.repl_model.specs.Replicas.{part_of}
 pub use Rattle.repl_model.specs.Rules.{KeepsAllImages, MemberKeepsRules, RegistrationKeepsRules, ReplicaKeepsRules, TableKeepsRules, all_places, columns_from, condensed_may_move, copy_may_move, filter_columns, from_fits, is_copy, is_int, is_replica, is_replica_set, is_text, keys_stand, layer_columns, layer_fits, layer_tested, may_be_key, operand_columns, operand_kind, sums_fit}
 unfoldable pub use Rattle.repl_model.specs.Rules.{columns_read, columns_tested, kind_of, kinds_fit}
 pub use Rattle.repl_model.specs.Selection.{SourceTable, imaged_row, is_selected, plain_value, selected_changes, selected_rows, target_row}
 pub use Rattle.repl_model.specs.Sound.{AreServerNames, GoesOn, IsSound, NumbersAreSound, SignalsAreSound, TrailIsSound, is_base, is_seq, is_seq_or_zero}
-pub use Rattle.repl_model.specs.SoundDefinitions.{DefinitionsAreSound, IsFresh, KeepsTable, KnownSetKeepsRules, MemberIsSound, ReplicaMemberIsSound, ServerKeepsRules, SetKeepsLimits, UnknownSource, UnknownTarget, column_limit, has_origin, has_replicas, has_sources, loaded_sets, member_limit, read_only_sets, replica_sets, same_place, server_limit, set_limit, sources_of, stands_at_target, table_limit, targets_of, waits_for_load}
+pub use Rattle.repl_model.specs.SoundDefinitions.{DefinitionsAreSound, IsFresh, KeepsReadOnlyRules, KeepsReplicaRules, KeepsTable, KnownSetKeepsRules, MemberIsSound, ReplicaMemberIsSound, ServerKeepsRules, SetKeepsLimits, UnknownSource, UnknownTarget, column_limit, has_origin, has_replicas, has_sources, loaded_sets, member_limit, read_only_sets, replica_sets, same_place, server_limit, set_limit, sources_of, stands_at_target, table_limit, targets_of, waits_for_load}
 pub use Rattle.repl_model.specs.SoundLogs.{LogIsSound, begins_with_tx, is_of_tx, is_own_abort, is_own_change, log_limit, own_units_are_whole, record_fits, signals_stand_alone, times_rise}
 pub use Rattle.repl_model.specs.SoundReplicas.{DecisionsAreCaptured, IsExactlyOnce, IsIndependent, IsReplicaTrail, ReplicaMarksAreSound, SettlesFrom, accepted_after, master_point, others_before, rejected_before, sent_after, settled_point}
 pub use Rattle.repl_model.specs.SourceAt.{after_units, table_after, units_between, units_up_to, unplaced}

@@ -32,7 +32,9 @@ pub use expressions::{
 };
 pub use longer_log::changes_in_two_halves;
 pub use member_copies::whole_member;
-pub use worked_actions::{worked_blocks, worked_first_refresh, worked_gaps, worked_stop};
+pub use worked_actions::{
+    worked_blocks, worked_end, worked_first_refresh, worked_gaps, worked_stop,
+};
 pub use worked_copies::{
     worked_applicable, worked_change_rows, worked_interleaved, worked_point_in_time_copy,
     worked_restart, worked_user_copy,

@@ -1,9 +1,9 @@
 //! The next actions of a set that copies orders, stage by stage.
 
-ghost use Rattle.std.specs.Prelude.{◌≡◌, [], ◌∷◌, codes, None};
+ghost use Rattle.std.specs.Prelude.{◌≡◌, [], ◌∷◌, codes, None, Some};
 ghost use Rattle.repl_types.specs.declared.refusal.GapPlace.TheVariants as gaps;
 ghost use Rattle.repl_model.specs.Trails.{refresh, block};
-ghost use Rattle.repl_model.specs.NextActions.{next_action};
+ghost use Rattle.repl_model.specs.NextActions.{next_action, next_action_within};
 ghost use Rattle.repl_model.specs.NextActions.{signals, refreshes, blocks, reports, idles, refuses};
 ghost use Rattle.repl_model.specs.AfterActions.{after_action};
 ghost use Rattle.repl_model.specs.WorkedActions.{world_of, known_of, loaded, signal_given};
@@ -52,6 +52,17 @@ pub fn worked_gaps()
     ensures units { next_action (known_of (pruned_to copied_set 2 4)) ≡ signals }
     ensures forbidden_units { next_action (known_of (without_refresh (pruned_to copied_set 2 4)))
         ≡ refuses (gaps.Uow (codes "hq") 4) }
+{}
+
+/// With an end in seconds a block takes only units up to that time. If there are none, the set
+/// reports, or nothing is done. A gap calls for a signal whatever the end is.
+pub fn worked_end()
+    ensures none { next_action_within (Some 99) (known_of (blocks_taken [])) ≡ idles }
+    ensures first { next_action_within (Some 100) (known_of (blocks_taken [])) ≡ blocks 4 }
+    ensures report { next_action_within (Some 100) (known_of (blocks_taken
+        (block 2 4 None ∷ []))) ≡ reports }
+    ensures all { next_action_within (Some 140) (known_of (blocks_taken [])) ≡ blocks 6 }
+    ensures gap { next_action_within (Some 99) (known_of (pruned_to copied_set 4 4)) ≡ signals }
 {}
 
 /// A registration that was stopped is a gap. After the signal the set is refreshed at it, whether

@@ -15,7 +15,7 @@ use Rattle.run_core.specs.laws.Quiet.{went_quiet, stopped_quiet}
 use Rattle.run_commands.specs.parts.Refusing.{refused}
 use Rattle.world_commits.specs.actions.Resting.{commits_world, steps_left}
 use Rattle.world_commits.specs.actions.laws.Resting.{few_steps}
-use Rattle.apply_cycle.specs.Signals.{length_signalled}
+use Rattle.world_commits.specs.actions.StaysSound.{length_signalled}
 use Rattle.apply_copies.specs.Copies.{is_user_copy}
 use Rattle.run_commands.specs.apply.Progress.{progress_of, step_of}
 use Rattle.run_commands.specs.apply.StepEvents.{Outcome, declines, rests, makes, making, outcome_of, is_carried_out, next_outcome, outcome, events_of, events_from, most_steps, apply_events}

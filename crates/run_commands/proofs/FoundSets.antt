@@ -35,7 +35,7 @@ module _ (set : PlacedSet) (carried : is_carried_out set.at_target.def ≡ true)
   takes_each sound = subst (TakesEach is_user_copy) (sym (source_def_is w k set sound placed)) (all_taken set.at_target.def.members carried)
 
 -- a step that failed, and ends the run, may have been made
-pub may_have_made : {K : Type 0} (kept : K → Kept) (s0 s1 : Sites K) (w : World) (k : KnownSet) (e : Fault) (error : RunError) → Some error ≡ error_of_fault e → HasFailed kept s0 s1 w k e → MayHaveBecome kept s0 s1 w (after_action w k (next_action k)) e
+pub may_have_made : {K : Type 0} (kept : K → Kept) (s0 s1 : Sites K) (w : World) (k : KnownSet) (e : Fault) (error : RunError) → Some error ≡ error_of_fault e → HasFailed kept s0 s1 w k (next_action k) e → MayHaveBecome kept s0 s1 w (after_action w k (next_action k)) e
 may_have_made kept s0 s1 w k faults.Memory error is failed = failed
 may_have_made kept s0 s1 w k (faults.Keeper s) error is failed = failed
 may_have_made kept s0 s1 w k (faults.Damaged s a cause) error is failed = failed

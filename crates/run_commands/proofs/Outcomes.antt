@@ -14,7 +14,7 @@ use Rattle.run_core.specs.laws.Runs.{stopped_before, stopped_after, stopped_in_l
 use Rattle.run_commands.specs.parts.Refusing.{refused}
 use Rattle.world_commits.specs.actions.Resting.{commits_world}
 use Rattle.set_places.specs.Steps.{HasBecome, MayHaveBecome}
-use Rattle.apply_cycle.specs.Signals.{length_signalled}
+use Rattle.world_commits.specs.actions.StaysSound.{length_signalled}
 use Rattle.apply_cycle.specs.Stepping.{answer_of, IsAnswer, IsRefused, HasMade}
 use Rattle.run_commands.specs.apply.Progress.{progress_told, line_told, progress_of, is_refusal, step_of}
 use Rattle.run_commands.specs.apply.StepEvents.{Outcome, declines, rests, makes, making, outcome_of}
@@ -62,7 +62,7 @@ made_if_sound w k i idles by sound = absurd cc
 made_if_sound w k i (refuses place) by sound = absurd cc
 
 -- a refusal is what its action comes to
-pub declined : (w : World) (k : KnownSet) (refusal : Refusal) → IsRefused k refusal → outcome_of w k (next_action k) ≡ declines refusal
+pub declined : (w : World) (k : KnownSet) (refusal : Refusal) → IsRefused k (next_action k) refusal → outcome_of w k (next_action k) ≡ declines refusal
 declined w k (refusals.LogFull name) is =
     subst (λ (a : Action). outcome_of w k a ≡ declines (refusals.LogFull name)) (sym is.0)
     (ap (λ (b : Bool). cond b (declines (refusals.LogFull k.source.name)) (making w k signals)) (lt-ltb log_limit (length_signalled k) is.1) ∙ ap (λ (n : List ℕ). declines (refusals.LogFull n)) (sym is.2))
@@ -79,7 +79,7 @@ module _ {K : Type 0} (kept : K → Kept) (s0 s1 : Sites K) (w : World) (k : Kno
   Means = Stands (names s0)
 
   -- there was nothing to do
-  rested : (source : ℕ) (t u : Option (List ℕ)) → Takes t u [] → HasMade kept s0 s1 w k source steps.Idle → Progressed kept s0 s1 t u w (outcome_of w k (next_action k)) Rested
+  rested : (source : ℕ) (t u : Option (List ℕ)) → Takes t u [] → HasMade kept s0 s1 w k (next_action k) source steps.Idle → Progressed kept s0 s1 t u w (outcome_of w k (next_action k)) Rested
   rested source t u took made = by_action (next_action k) made.0 made.1
     where
       by_action : (a : Action) → HasBecome kept s0 s1 (after_action w k a) → IsAnswer w k source a steps.Idle → Progressed kept s0 s1 t u w (outcome_of w k a) Rested
@@ -110,7 +110,7 @@ module _ {K : Type 0} (kept : K → Kept) (s0 s1 : Sites K) (w : World) (k : Kno
     committed (refuses place) is = absurd is
 
     -- the world was committed, and the line written
-    wrote_step : HasMade kept s0 s1 w k source stepped → Takes t u (step_line k.source.name stepped) → Progressed kept s0 s1 t u w (outcome_of w k (next_action k)) Made
+    wrote_step : HasMade kept s0 s1 w k (next_action k) source stepped → Takes t u (step_line k.source.name stepped) → Progressed kept s0 s1 t u w (outcome_of w k (next_action k)) Made
     wrote_step made took =
         let a = next_action k in
         let by = committed a made.1 in
@@ -118,7 +118,7 @@ module _ {K : Type 0} (kept : K → Kept) (s0 s1 : Sites K) (w : World) (k : Kno
         (record { stands = made.0; bytes = subst (Takes t u) (line_is source stepped a by made.1 ∙ sym (append-nil (step_line k.source.name (answer_of w k 0 a)))) took }, refl)
 
     -- or a prefix of the line
-    began_line : HasMade kept s0 s1 w k source stepped → TakesPrefix t u (step_line k.source.name stepped) → StoppedStep kept s0 s1 t u w (outcome_of w k (next_action k))
+    began_line : HasMade kept s0 s1 w k (next_action k) source stepped → TakesPrefix t u (step_line k.source.name stepped) → StoppedStep kept s0 s1 t u w (outcome_of w k (next_action k))
     began_line made took =
         let a = next_action k in
         let by = committed a made.1 in
@@ -129,7 +129,7 @@ module _ {K : Type 0} (kept : K → Kept) (s0 s1 : Sites K) (w : World) (k : Kno
 
   module _ (source : ℕ) (t u : Option (List ℕ)) where
     -- what came of it was told
-    pub told_step : (stepped : Stepped) → HasMade kept s0 s1 w k source stepped → Takes t u (line_told k.source.name stepped) → Progressed kept s0 s1 t u w (outcome_of w k (next_action k)) (progress_told stepped)
+    pub told_step : (stepped : Stepped) → HasMade kept s0 s1 w k (next_action k) source stepped → Takes t u (line_told k.source.name stepped) → Progressed kept s0 s1 t u w (outcome_of w k (next_action k)) (progress_told stepped)
     told_step steps.Idle made took = rested source t u took made
     told_step (steps.Signal server seq) made took = wrote_step source (steps.Signal server seq) (λ is. absurd cc) t u made took
     told_step (steps.Refresh point rows) made took = wrote_step source (steps.Refresh point rows) (λ is. absurd cc) t u made took
@@ -140,7 +140,7 @@ module _ {K : Type 0} (kept : K → Kept) (s0 s1 : Sites K) (w : World) (k : Kno
     told_step (steps.Settle m f rejected applied) made took = wrote_step source (steps.Settle m f rejected applied) (λ is. absurd cc) t u made took
 
     -- or a part of it
-    pub began_told : (stepped : Stepped) → HasMade kept s0 s1 w k source stepped → TakesPrefix t u (line_told k.source.name stepped) → StoppedStep kept s0 s1 t u w (outcome_of w k (next_action k))
+    pub began_told : (stepped : Stepped) → HasMade kept s0 s1 w k (next_action k) source stepped → TakesPrefix t u (line_told k.source.name stepped) → StoppedStep kept s0 s1 t u w (outcome_of w k (next_action k))
     began_told steps.Idle made took = none_begun (next_action k) made.0 made.1
       where
         none_begun : (a : Action) → HasBecome kept s0 s1 (after_action w k a) → IsAnswer w k source a steps.Idle → StoppedStep kept s0 s1 t u w (outcome_of w k a)
@@ -158,7 +158,7 @@ module _ {K : Type 0} (kept : K → Kept) (s0 s1 : Sites K) (w : World) (k : Kno
     began_told (steps.Decide x d accepted rejected) made took = began_line source (steps.Decide x d accepted rejected) (λ is. absurd cc) t u made took
     began_told (steps.Settle m f rejected applied) made took = began_line source (steps.Settle m f rejected applied) (λ is. absurd cc) t u made took
 
-  module _ (refusal : Refusal) (t u : Option (List ℕ)) (become : HasBecome kept s0 s1 w) (is : IsRefused k refusal) where
+  module _ (refusal : Refusal) (t u : Option (List ℕ)) (become : HasBecome kept s0 s1 w) (is : IsRefused k (next_action k) refusal) where
     -- the step was refused, and the line of that was written
     pub wrote_refusal : Takes t u (lines_of (refused refusal)) → Progressed kept s0 s1 t u w (outcome_of w k (next_action k)) Refused
     wrote_refusal took = subst (λ (o : Outcome). Progressed kept s0 s1 t u w o Refused) (sym (declined w k refusal is))

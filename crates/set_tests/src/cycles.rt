@@ -13,7 +13,7 @@ use std::test::Fail;
 const CALLS: u64 = 1_000;
 
 /// The steps of a set whose source has no units.
-const STEPS_WITHOUT_UNITS: &[Stepped] = &[
+pub const STEPS_WITHOUT_UNITS: &[Stepped] = &[
     Stepped::Signal { server: HQ, seq: 2 },
     Stepped::Refresh { point: 2, rows: 0 },
     Stepped::Report { point: 2 },

@@ -8,7 +8,7 @@ ghost use Rattle.set_places.specs.Places.{IsPlaced};
 
 use crate::servers::{loaded_servers, run};
 use apply_copies::CopyTargets;
-use apply_cycle::{cycle, step};
+use apply_cycle::{cycle, step, step_within};
 use keep_core::Keeper;
 use keep_map::MapKeeper;
 use repl_records::SetState;
@@ -62,6 +62,20 @@ fn the_set<K: Keeper>(alloc: Global, sites: &mut Sites<K>) -> Result<PlacedSet, 
     Ok(set)
 }
 
+/// Lets the set of a name do what it does next, with blocks of units up to an end. A set that isn't
+/// found is idle.
+fn step_until<K: Keeper>(
+    alloc: Global,
+    sites: &mut Sites<K>,
+    id: &SetId,
+    end: Option<u64>,
+) -> Result<Stepped, Fault> {
+    let Some(set) = find(alloc, sites, id)? else {
+        return Ok(Stepped::Idle);
+    };
+    step_within(sites, alloc, &set, end, &mut CopyTargets)
+}
+
 /// Lets the set of a name do what it does next. A set that isn't found is idle.
 pub fn next_step<K: Keeper>(
     alloc: Global,
@@ -99,6 +113,21 @@ pub fn check_steps(
     Ok(())
 }
 
+/// The same with blocks of units up to an end.
+pub fn check_steps_until(
+    rt: &impl Abort,
+    alloc: Global,
+    sites: &mut Sites<MapKeeper>,
+    end: u64,
+    steps: &[Stepped],
+) -> Result<(), Fail> {
+    let id = set_name(alloc)?;
+    for step in steps {
+        assert_eq!(rt; step_until(alloc, sites, &id, Some(end))?, *step);
+    }
+    Ok(())
+}
+
 /// The servers with definitions, once a script has run there and the set q/s has made steps.
 pub fn servers_after(
     rt: &impl Abort,
@@ -116,7 +145,7 @@ pub fn servers_after(
 /// What the set q/s does next.
 pub fn action_of(alloc: Global, sites: &mut Sites<MapKeeper>) -> Result<Action, Fail> {
     let set = the_set(alloc, sites)?;
-    Ok(next_action(sites, alloc, &set)?)
+    Ok(next_action(sites, alloc, &set, None)?)
 }
 
 /// How far it is at its target.

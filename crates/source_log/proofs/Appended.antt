@@ -4,13 +4,14 @@ use Rattle.std.specs.List.{AllByRecursion}
 use Rattle.std.proofs.lemmas.List.{length-map, get_or-set_same}
 use Rattle.std.proofs.lemmas.Option.{same_Some}
 use Rattle.repl_model.specs.Words.{Area, LogRecord, DamageCause, AppendError, Fault, is_applicable, with_more, grown, IsSound, empty_server, Server, World, tables_of, server_in, LogIsSound, In, grown_nothing}
-use Rattle.world_store.specs.Words.{single_spelling, head_spelling, Head, put_here, put_other_table, shown, Holds, Stands}
+use Rattle.world_store.specs.Words.{single_spelling, head_spelling, Head, put_here, put_other_table, shown, Holds, Becomes, Stands}
 use Rattle.site_store.specs.Words.{Contents, set_key, put_at, Kept, seen_of, AllClosed, names, held, work, reads_in, sees, IsOpenAt, Bounds, no_access, both, Passes, Begins, ClosesOne, KeepsServers, Blames, at_most_itself, none_back_then, passes_then, Shows, IsUndamaged, IsNoDamage, no_damage, begun_sees, took, closed_again, GoesOn, stops_as, stops_after, blames_after, goes_then}
 use Rattle.site_store.specs.declared.sites.Sites.{Sites}
 use Rattle.repl_types.specs.declared.area.Area.TheVariants as areas
 use Rattle.repl_types.specs.declared.call_errors.AppendError.TheVariants as errors
 use Rattle.repl_types.specs.declared.fault.Fault.TheVariants as faults
-use Rattle.stored_commits.specs.logs.LongerServers.{is_of_log, Logged}
+use Rattle.stored_commits.specs.logs.LongerServers.{is_of_log}
+use Rattle.stored_commits.specs.laws.Logged.{logged_becomes}
 use Rattle.world_commits.specs.logs.LongerLogs.{AllFollow}
 use Rattle.stored_defs.specs.laws.Standing.{all_at_place, in_at, same_count, keeps_at, seen_at}
 use Rattle.source_log.specs.Appending.{taken, error_at, append_error, stop_at, HasTaken, TakesAll, PutsEnd, CommitsEnd, MayCommitEnd, StandGrown, HasAppended, HasNotAppended, BlamesFault, BlamesOrStops}
@@ -247,21 +248,19 @@ module _ {K : Type 0} (kept : K → Kept) (s0 : Sites K) (closed : AllClosed (wo
           subst (λ (x : Server). AllFollow x (taken server records)) same (taken_follow server records may))
 
       -- what the server holds once they are committed
-      holds_longer : (d e : Contents) → TakesAll records progress holds.0 d → PutsEnd progress.end d e → Logged (taken server records) server holds.0 e
+      holds_longer : (d e : Contents) → TakesAll records progress holds.0 d → PutsEnd progress.end d e → Becomes is_of_log (grown name (taken server records) w) (with_more (taken server records) server) holds.0 e
       holds_longer d e all put =
           let h = has_taken d all in
           let longer = with_more (taken server records) server in
           let key = single_spelling (record {}) in
           let row = λ (end : Head). Some (head_spelling end) in
-          record {
-            log = ap (λ (x : Contents). x areas.Log 0) put ∙ h.stores.log;
-            source = λ m. ap (λ (x : Contents). x areas.Source m) put ∙ h.stores.source m;
-            in_flight = ap (λ (x : Contents). x areas.Inflight 0) put ∙ h.stores.in_flight;
-            head =
-                ap (shown server areas.Head 0) (ap (λ (x : Contents). x areas.Head 0) put ∙ put_here d areas.Head 0 key (row progress.end) ∙ (λ i. set_key (all.end 0 i) key (row (h.end i))))
-                ∙ end_put server longer (holds.0 areas.Head 0) whole.end;
-            others = λ a m o. ap (λ (x : Contents). x a m) put ∙ end_apart d key (row progress.end) a m o ∙ all.others a m o;
-          }
+          logged_becomes (taken server records) (grown name (taken server records) w) server holds.0 e
+          (ap (λ (x : Contents). x areas.Log 0) put ∙ h.stores.log)
+          (λ m. ap (λ (x : Contents). x areas.Source m) put ∙ h.stores.source m)
+          (ap (λ (x : Contents). x areas.Inflight 0) put ∙ h.stores.in_flight)
+          (ap (shown server areas.Head 0) (ap (λ (x : Contents). x areas.Head 0) put ∙ put_here d areas.Head 0 key (row progress.end) ∙ (λ i. set_key (all.end 0 i) key (row (h.end i))))
+          ∙ end_put server longer (holds.0 areas.Head 0) whole.end)
+          (λ a m o. ap (λ (x : Contents). x a m) put ∙ end_apart d key (row progress.end) a m o ∙ all.others a m o)
 
       -- once they are committed, the servers stand for the world with them
       stands_committed : (h : List (Option Contents)) → h ≡ set (held kept s3) n (sees kept s3 n) → Stands (names s0) h (grown name (taken server records) w)

@@ -1,2 +1,3 @@
 pub mod ChangedCopies
+pub mod PointCopies
 pub mod laws

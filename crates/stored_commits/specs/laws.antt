@@ -33,6 +33,7 @@ pub mod StoredCopies
 pub mod CopiedChange
 pub mod FirstUnits
 pub mod CopiedUnits
+pub mod Markers
 pub mod KnownMembers
 pub mod Trails
 pub mod Sides

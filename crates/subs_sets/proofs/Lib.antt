@@ -10,3 +10,5 @@ pub mod MemberLists
 pub mod FirstGaps
 pub mod NextUnits
 pub mod BlockCuts
+pub mod PutFlags
+pub mod Flagged

@@ -1,7 +1,7 @@
 -- What an answer about the next action of a set means.
-use Rattle.std.specs.Prelude.{nat_le, nat_lt, if◌then◌else◌}
+use Rattle.std.specs.Prelude.{ℕ, nat_le, if◌then◌else◌, Option}
 use Rattle.repl_model.specs.NextActions as model
-use Rattle.repl_model.specs.NextActions.{signals, refreshes, blocks, reports, idles, refuses, by_gap, gap_of}
+use Rattle.repl_model.specs.NextActions.{signals, refreshes, blocks, reports, idles, refuses, at_rest, by_gap, gap_of}
 use Rattle.repl_model.specs.Trails.{synchpoint}
 use Rattle.repl_model.specs.World.{KnownSet}
 use Rattle.subs_sets.specs.declared.action.Action.{Action}
@@ -17,5 +17,5 @@ action_of Idle = idles
 action_of (Refuse place) = refuses place
 
 -- what a set does next whose targets were refreshed, and of which no refresh was asked for
-abbrev pub once_refreshed : KnownSet → model.Action
-once_refreshed k = if nat_le k.source.captured (synchpoint k.at_target.trail) then (if nat_lt k.at_source.mark (synchpoint k.at_target.trail) then reports else idles) else by_gap k (gap_of k)
+abbrev pub once_refreshed : Option ℕ → KnownSet → model.Action
+once_refreshed end k = if nat_le k.source.captured (synchpoint k.at_target.trail) then at_rest k else by_gap end k (gap_of k)

@@ -1,5 +1,6 @@
 pub mod Actions
 pub mod Cuts
+pub mod Flagging
 pub mod Gaps
 pub mod Rules
 pub mod States

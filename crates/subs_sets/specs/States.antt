@@ -1,5 +1,5 @@
 -- How far a set is at its target, in a world.
-use Rattle.std.specs.Prelude.{ℕ, ◌-◌, if◌then◌else◌, Option, None, nat_lt, slice_get, length}
+use Rattle.std.specs.Prelude.{◌≡◌, ℕ, ◌-◌, false, if◌then◌else◌, Option, None, nat_lt, slice_get, length}
 use Rattle.std.specs.Option.{option_map}
 use Rattle.repl_types.specs.declared.area.Area.TheVariants as areas
 use Rattle.keep_core.specs.Contents.{Contents}
@@ -24,6 +24,10 @@ first_state_of def = if is_replica_set def then first_replica else first_read_on
 -- the contents have this state of a set whose row stands at its target, or none if it is what a missing one stands for
 abbrev pub HasState : TargetSet → SetState → Contents → Type 0
 HasState row state c = StateIs state_spelling areas.SetState 0 (b32 row.number) (first_state_of row.def) state c
+
+-- the numbers of points that are absent are 0
+abbrev pub AbsentAreZero : ReadOnlyState → Type 0
+AbsentAreZero state = state.has_points ≡ false → (state.synchpoint ≡ 0) × (state.time ≡ 0) × (state.base ≡ 0)
 
 -- how far the targets of a read-only set are
 abbrev pub state_in : World → KnownSet → ReadOnlyState

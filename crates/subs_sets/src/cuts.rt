@@ -1,7 +1,6 @@
 //! Where a block ends.
 
 ghost use Rattle.std.specs.Prelude.{◌≡◌, ◌<◌, ◌≤◌, OnOk, OnErr, IfOk, IfErr, IfSome};
-ghost use Rattle.repl_model.specs.NextActions.{block_end as block_end_lem};
 ghost use Rattle.repl_model.specs.Trails.{synchpoint};
 ghost use Rattle.site_store.specs.Servers.{AllClosed};
 ghost use Rattle.site_store.specs.Views.{work};
@@ -9,7 +8,9 @@ ghost use Rattle.site_store.specs.one_server.Calls.{Looks, Breaks};
 ghost use Rattle.set_places.specs.Places.{IsPlacedAtSource};
 ghost use Rattle.set_places.specs.Members.{ForSource};
 ghost use Rattle.set_places.specs.Reading.{ReadsOnly};
-ghost use Rattle.subs_sets.specs.Cuts.{captured_after, first_unit, is_within_limits, time_from};
+ghost use Rattle.subs_sets.specs.Cuts.{block_end as block_end_lem, is_until as is_until_lem};
+ghost use Rattle.subs_sets.specs.Cuts.{captured_after, captured_until, first_unit};
+ghost use Rattle.subs_sets.specs.Cuts.{is_within_limits, time_from};
 ghost use Rattle.subs_sets.specs.Rules.{is_read, source_rules};
 
 use keep_core::Keeper;
@@ -85,36 +86,73 @@ pub fn unit_time<K: Keeper>(
     }
 }
 
-/// The seq at which the block of a set after a point ends: of the captured units after the point,
-/// that of the last one which one block takes. It takes at least one. If there is no such unit, the
-/// answer is 0.
+/// Whether a time is up to an end, if there is one. Both are in seconds.
+fn is_until(end: Option<u64>, time: u64) -> bool
+    ensures { result ≡ is_until_lem end time }
+{
+    match end {
+        Some(end) => time <= end,
+        None => true,
+    }
+}
+
+/// The seq and the time of the first captured unit after a point, if it is up to an end.
+fn next_until<K: Keeper>(
+    sites: &mut Sites<K>,
+    alloc: Global,
+    set: &PlacedSet,
+    point: u64,
+    end: Option<u64>,
+) -> Result<Option<(u64, u64)>, Fault>
+    requires placed { IsPlacedAtSource K.kept sites.old set.now }
+    ensures ok { OnOk result (Looks K.kept sites.old sites.new) }
+    ensures unit { IfOk result (λ found. ForSource K.kept sites.old set.now (λ w k.
+        found ≡ first_unit (captured_until end point k.source))) }
+    ensures rises { IfOk result (λ found. IfSome found (λ unit. point < unit.0)) }
+    ensures fault { IfErr result (Breaks source_rules K.kept sites.old sites.new set.now.source) }
+    ensures reads { ReadsOnly is_read K.kept sites.old sites.new }
+{
+    let next = next_unit(sites, alloc, set, point)?;
+    let Some((seq, time)) = next else {
+        return Ok(None);
+    };
+    if !is_until(end, time) {
+        return Ok(None);
+    }
+    Ok(Some((seq, time)))
+}
+
+/// The seq at which the block of a set after a point ends, if its units are those up to an end, a
+/// time in seconds: of the captured units after the point, that of the last one which one block
+/// takes. It takes at least one. If there is no such unit, there is no answer.
 pub fn block_end<K: Keeper>(
     sites: &mut Sites<K>,
     alloc: Global,
     set: &PlacedSet,
     point: u64,
-) -> Result<u64, Fault>
+    end: Option<u64>,
+) -> Result<Option<u64>, Fault>
     requires placed { IsPlacedAtSource K.kept sites.old set.now }
     ensures ok { OnOk result (Looks K.kept sites.old sites.new) }
     ensures cut { IfOk result (λ cut. ForSource K.kept sites.old set.now (λ w k.
         point ≡ synchpoint k.at_target.trail → k.source.floor ≤ point
-        → cut ≡ block_end_lem k)) }
+        → cut ≡ block_end_lem end k)) }
     ensures fault { IfErr result (Breaks source_rules K.kept sites.old sites.new set.now.source) }
     ensures reads { ReadsOnly is_read K.kept sites.old sites.new }
 {
-    let first = next_unit(sites, alloc, set, point)?;
+    let first = next_until(sites, alloc, set, point, end)?;
     let Some((mut cut, time)) = first else {
-        return Ok(0);
+        return Ok(None);
     };
     let mut number: u64 = 1;
     loop {
-        let next = next_unit(sites, alloc, set, cut)?;
+        let next = next_until(sites, alloc, set, cut, end)?;
         let Some((seq, later)) = next else {
-            return Ok(cut);
+            return Ok(Some(cut));
         };
         number = number.saturating_add(1);
         if !is_within(&set.at_source.def, time, number, later) {
-            return Ok(cut);
+            return Ok(Some(cut));
         }
         cut = seq;
     }

@@ -2,7 +2,7 @@
 
 ghost use Rattle.std.specs.Prelude.{◌≡◌, if◌then◌else◌, IsTrue, not, nat_lt, OnOk, OnErr, IfOk};
 ghost use Rattle.std.specs.Prelude.{IfErr};
-ghost use Rattle.repl_model.specs.NextActions.{next_action as next_action_lem};
+ghost use Rattle.repl_model.specs.NextActions.{next_action_within};
 ghost use Rattle.repl_model.specs.NextActions.{refresh_by_signal as refresh_by_signal_lem, by_gap};
 ghost use Rattle.repl_model.specs.NextActions.{gap_of, reports, idles};
 ghost use Rattle.repl_model.specs.Rules.{is_replica_set};
@@ -76,8 +76,8 @@ fn report_if_behind<K: Keeper>(
     }
 }
 
-/// What is done if there are captured units that the targets haven't taken: a block, or if changes
-/// that the set needs aren't kept, a refresh, unless that is forbidden.
+/// What is done if there are captured units that the targets haven't taken: a block of those up to
+/// the end, or if changes that the set needs aren't kept, a refresh, unless that is forbidden.
 fn block_or_refresh<K: Keeper>(
     sites: &mut Sites<K>,
     alloc: Global,
@@ -85,18 +85,23 @@ fn block_or_refresh<K: Keeper>(
     point: u64,
     base: u64,
     floor: u64,
+    end: Option<u64>,
 ) -> Result<Action, Fault>
     requires placed { IsPlacedAtSource K.kept sites.old set.now }
     ensures ok { OnOk result (Looks K.kept sites.old sites.new) }
     ensures action { IfOk result (λ action. ForSource K.kept sites.old set.now (λ w k.
         point ≡ synchpoint k.at_target.trail → base ≡ base_of k.at_target.trail
-        → floor ≡ k.source.floor → action_of action ≡ by_gap k (gap_of k))) }
+        → floor ≡ k.source.floor → action_of action ≡ by_gap end k (gap_of k))) }
     ensures fault { IfErr result (Breaks source_rules K.kept sites.old sites.new set.now.source) }
     ensures reads { ReadsOnly is_read K.kept sites.old sites.new }
 {
     let gap = find_gap(sites, alloc, set, point, floor)?;
     let Some(gap) = gap else {
-        let to = block_end(sites, alloc, set, point)?;
+        let cut = block_end(sites, alloc, set, point, end)?;
+        let Some(to) = cut else {
+            let action = report_if_behind(sites, alloc, set, point)?;
+            return Ok(action);
+        };
         return Ok(Action::Block { to });
     };
     if gap.disabled {
@@ -113,12 +118,13 @@ fn action_after<K: Keeper>(
     set: &PlacedSet,
     point: u64,
     base: u64,
+    end: Option<u64>,
 ) -> Result<Action, Fault>
     requires placed { IsPlacedAtSource K.kept sites.old set.now }
     ensures ok { OnOk result (Looks K.kept sites.old sites.new) }
     ensures action { IfOk result (λ action. ForSource K.kept sites.old set.now (λ w k.
         point ≡ synchpoint k.at_target.trail → base ≡ base_of k.at_target.trail
-        → action_of action ≡ once_refreshed k)) }
+        → action_of action ≡ once_refreshed end k)) }
     ensures fault { IfErr result (Breaks source_rules K.kept sites.old sites.new set.now.source) }
     ensures reads { ReadsOnly is_read K.kept sites.old sites.new }
 {
@@ -133,7 +139,7 @@ fn action_after<K: Keeper>(
         let action = report_if_behind(sites, alloc, set, point)?;
         return Ok(action);
     }
-    let action = block_or_refresh(sites, alloc, set, point, base, capture.floor)?;
+    let action = block_or_refresh(sites, alloc, set, point, base, capture.floor, end)?;
     Ok(action)
 }
 
@@ -142,13 +148,14 @@ fn find_action<K: Keeper>(
     sites: &mut Sites<K>,
     alloc: Global,
     set: &PlacedSet,
+    end: Option<u64>,
 ) -> Result<Action, Fault>
     requires placed { IsPlaced K.kept sites.old set.now }
     requires read_only { IsTrue (not (is_replica_set set.now.at_target.def)) }
     requires closed { AllClosed (work K.kept sites.old) }
     ensures ok { OnOk result (Looks K.kept sites.old sites.new) }
     ensures action { IfOk result (λ action. ForSet K.kept sites.old set.now (λ w k.
-        action_of action ≡ next_action_lem k)) }
+        action_of action ≡ next_action_within end k)) }
     ensures fault { IfErr result (Stops K.kept sites.old sites.new (ShowsDamage K.kept sites.old)) }
     ensures reads { ReadsOnly is_read K.kept sites.old sites.new }
 {
@@ -157,30 +164,32 @@ fn find_action<K: Keeper>(
         let action = refresh_by_signal(sites, alloc, set, state.base)?;
         return Ok(action);
     }
-    let action = action_after(sites, alloc, set, state.synchpoint, state.base)?;
+    let action = action_after(sites, alloc, set, state.synchpoint, state.base, end)?;
     Ok(action)
 }
 
-/// What a read-only set does next, by what its servers hold. Nothing is changed.
+/// What a read-only set does next, by what its servers hold, if its blocks take only units up to
+/// an end, a time in seconds. With no end they take units of any time. Nothing is changed.
 ///
 /// After a fault no transaction is open at any server.
 pub fn next_action<K: Keeper>(
     sites: &mut Sites<K>,
     alloc: Global,
     set: &PlacedSet,
+    end: Option<u64>,
 ) -> Result<Action, Fault>
     requires placed { IsPlaced K.kept sites.old set.now }
     requires read_only { IsTrue (not (is_replica_set set.now.at_target.def)) }
     requires closed { AllClosed (work K.kept sites.old) }
     ensures ok { OnOk result (Looks K.kept sites.old sites.new) }
     ensures action { IfOk result (λ action. ForSet K.kept sites.old set.now (λ w k.
-        action_of action ≡ next_action_lem k)) }
+        action_of action ≡ next_action_within end k)) }
     ensures fault { IfErr result (Stops K.kept sites.old sites.new (ShowsDamage K.kept sites.old)) }
     ensures closed { OnErr result (AllClosed (work K.kept sites.new)) }
     ensures undamaged { IfErr result (λ e. ForSet K.kept sites.old set.now (λ w k. IsNoDamage e)) }
     ensures reads { ReadsOnly is_read K.kept sites.old sites.new }
 {
-    match find_action(sites, alloc, set) {
+    match find_action(sites, alloc, set, end) {
         Ok(action) => Ok(action),
         Err(e) => {
             sites.rollback_all();

@@ -13,7 +13,7 @@ ghost use Rattle.set_places.specs.Places.{IsPlacedAtTarget};
 ghost use Rattle.set_places.specs.Members.{ForTarget};
 ghost use Rattle.set_places.specs.Reading.{ReadsOnly};
 ghost use Rattle.world_store.specs.TargetRows.{state_of};
-ghost use Rattle.subs_sets.specs.States.{first_state_of, HasState, state_in, entry_at};
+ghost use Rattle.subs_sets.specs.States.{first_state_of, HasState, AbsentAreZero, state_in, entry_at};
 ghost use Rattle.subs_sets.specs.Rules.{is_read, state_rules};
 
 use keep_core::Keeper;
@@ -124,6 +124,7 @@ fn stored_points<K: Keeper>(
     ensures ok { OnOk result (Looks K.kept sites.old sites.new) }
     ensures state { IfOk result (λ state. ForTarget K.kept sites.old set.now (λ w k.
         state ≡ state_in w k)) }
+    ensures zeros { IfOk result AbsentAreZero }
     ensures fault { IfErr result (Breaks state_rules K.kept sites.old sites.new set.now.target) }
     ensures reads { ReadsOnly is_read K.kept sites.old sites.new }
 {
@@ -163,6 +164,7 @@ pub fn read_only_state<K: Keeper>(
     ensures ok { OnOk result (Looks K.kept sites.old sites.new) }
     ensures state { IfOk result (λ state. ForTarget K.kept sites.old set.now (λ w k.
         state ≡ state_in w k)) }
+    ensures zeros { IfOk result AbsentAreZero }
     ensures fault { IfErr result (Breaks state_rules K.kept sites.old sites.new set.now.target) }
     ensures closed { OnErr result (AllClosed (work K.kept sites.new)) }
     ensures reads { ReadsOnly is_read K.kept sites.old sites.new }

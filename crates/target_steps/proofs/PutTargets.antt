@@ -94,7 +94,7 @@ module _ {K : Type 0} (kept : K → Kept) (takes : TargetKind → Bool) (shows :
 
     -- ---- the puts
 
-    module _ (time : ℕ) (known : ReadOnlyState) (next : ℕ) (counts : Counts) (state : SetState) (state_is : known.entries < 2 ^ 64 - 1 → state ≡ state_after step time known) (next_is : known.entries < 2 ^ 64 - 1 → next ≡ known.entries + 1) (entry : TrailEntry) (entry_is : entry ≡ entry_after step set.at_source.def counts) (s2 s3 s4 : Sites K) (taken : GoesOn kept s1 s2 set.target (TakesAll kept takes s1 set step shows counts)) where
+    module _ (known : ReadOnlyState) (next : ℕ) (counts : Counts) (state : SetState) (state_is : known.entries < 2 ^ 64 - 1 → state ≡ state_after step known) (next_is : known.entries < 2 ^ 64 - 1 → next ≡ known.entries + 1) (entry : TrailEntry) (entry_is : entry ≡ entry_after step set.at_source.def counts) (s2 s3 s4 : Sites K) (taken : GoesOn kept s1 s2 set.target (TakesAll kept takes s1 set step shows counts)) where
       module _ (state_put : Puts kept s2 s3 set.target areas.SetState 0 (b32 set.at_target.number) (Some (state_spelling state))) where
         -- after the first
         abbrev pub StatePut : Contents → Contents → Type 0
@@ -105,8 +105,8 @@ module _ {K : Type 0} (kept : K → Kept) (takes : TargetKind → Bool) (shows :
 
         module _ (entry_put : Puts kept s3 s4 set.target areas.Trail set.at_target.number (b64 next) (Some (entry_spelling entry))) where
           -- after both
-          pub goes_step : GoesOn kept s1 s4 set.target (PutsTargets kept takes shows s0 set step time known counts)
-          goes_step = goes_then kept s1 s3 s4 set.target StatePut (Sets areas.Trail set.at_target.number (b64 next) (Some (entry_spelling entry))) (PutsTargets kept takes shows s0 set step time known counts) open_now goes_state (goes_put kept s3 s4 set.target areas.Trail set.at_target.number (b64 next) (Some (entry_spelling entry)) entry_put)
+          pub goes_step : GoesOn kept s1 s4 set.target (PutsTargets kept takes shows s0 set step known counts)
+          goes_step = goes_then kept s1 s3 s4 set.target StatePut (Sets areas.Trail set.at_target.number (b64 next) (Some (entry_spelling entry))) (PutsTargets kept takes shows s0 set step known counts) open_now goes_state (goes_put kept s3 s4 set.target areas.Trail set.at_target.number (b64 next) (Some (entry_spelling entry)) entry_put)
               (λ c m d p q.
               let all : d ≡ with_step set.at_target.number state next entry p.0 = q ∙ ap (λ (x : Contents). put_at x areas.Trail set.at_target.number (b64 next) (Some (entry_spelling entry))) p.2 in
               record {
@@ -117,8 +117,8 @@ module _ {K : Type 0} (kept : K → Kept) (takes : TargetKind → Bool) (shows :
                 targets = λ n. ap (λ (x : Contents). x areas.Target n) all;
               })
 
-          pub goes_some : GoesOn kept s1 s4 set.target (PutsSomeTargets kept takes shows s0 set step time known)
-          goes_some = goes_as kept s1 s4 set.target (PutsTargets kept takes shows s0 set step time known counts) (PutsSomeTargets kept takes shows s0 set step time known) open_now goes_step (λ c d p. (counts, p))
+          pub goes_some : GoesOn kept s1 s4 set.target (PutsSomeTargets kept takes shows s0 set step known)
+          goes_some = goes_as kept s1 s4 set.target (PutsTargets kept takes shows s0 set step known counts) (PutsSomeTargets kept takes shows s0 set step known) open_now goes_step (λ c d p. (counts, p))
 
     -- ---- the commit
 

@@ -13,24 +13,24 @@ module _ (step : Step) {K : Type 0} (kept : K → Kept) where
   reads_none s0 = by_step step
     where
       by_step : (step : Step) → ReadsForStep step kept s0 s0
-      by_step (Refresh point) = tt
-      by_step (Block low high) = λ s a is. omega arith
+      by_step (Refresh point time) = tt
+      by_step (Block low low_time high time base) = λ s a is. omega arith
 
   -- one call, and then another
   pub reads_more : (s0 s1 s2 : Sites K) → ReadsForStep step kept s0 s1 → ReadsForStep step kept s1 s2 → ReadsForStep step kept s0 s2
   reads_more s0 s1 s2 = by_step step
     where
       by_step : (step : Step) → ReadsForStep step kept s0 s1 → ReadsForStep step kept s1 s2 → ReadsForStep step kept s0 s2
-      by_step (Refresh point) p q = tt
-      by_step (Block low high) p q = λ s a is. omega (arith, p s a is, q s a is)
+      by_step (Refresh point time) p q = tt
+      by_step (Block low low_time high time base) p q = λ s a is. omega (arith, p s a is, q s a is)
 
   -- a call that reads nothing
   pub reads_still : (s0 s1 : Sites K) (most : Bounds) → ((s : ℕ) (a : Area) → most.reads s a ≡ 0) → Passes kept s0 s1 most → ReadsForStep step kept s0 s1
   reads_still s0 s1 most none p = by_step step
     where
       by_step : (step : Step) → ReadsForStep step kept s0 s1
-      by_step (Refresh point) = tt
-      by_step (Block low high) = λ s a is. omega (arith, p.within.reads s a, none s a)
+      by_step (Refresh point time) = tt
+      by_step (Block low low_time high time base) = λ s a is. omega (arith, p.within.reads s a, none s a)
 
   -- ---- change rows
 
@@ -39,8 +39,8 @@ module _ (step : Step) {K : Type 0} (kept : K → Kept) where
   counts_none s0 = by_step step
     where
       by_step : (step : Step) → CountsReads step 0 kept s0 s0 no_counts
-      by_step (Refresh point) = tt
-      by_step (Block low high) = λ short s. omega arith
+      by_step (Refresh point time) = tt
+      by_step (Block low low_time high time base) = λ short s. omega arith
 
   -- one member more was taken
   pub counts_more : (s0 s1 s2 : Sites K) (n : ℕ) (some more sum : Counts) → sum ≡ sum_of some more → CountsReads step n kept s0 s1 some → CountsReads step 1 kept s1 s2 more → CountsReads step (n + 1) kept s0 s2 sum
@@ -51,8 +51,8 @@ module _ (step : Step) {K : Type 0} (kept : K → Kept) where
       exact a b lt = omega (arith, lt)
 
       by_step : (step : Step) → CountsReads step n kept s0 s1 some → CountsReads step 1 kept s1 s2 more → CountsReads step (n + 1) kept s0 s2 sum
-      by_step (Refresh point) p q = tt
-      by_step (Block low high) p q = λ short s.
+      by_step (Refresh point time) p q = tt
+      by_step (Block low low_time high time base) p q = λ short s.
           let inserts = ap (λ (c : Counts). c.inserts) is ∙ exact some.inserts more.inserts (omega (arith, short, ap (λ (c : Counts). c.inserts) is)) in
           let updates = ap (λ (c : Counts). c.updates) is ∙ exact some.updates more.updates (omega (arith, short, ap (λ (c : Counts). c.updates) is)) in
           let deletes = ap (λ (c : Counts). c.deletes) is ∙ exact some.deletes more.deletes (omega (arith, short, ap (λ (c : Counts). c.deletes) is)) in
@@ -65,5 +65,5 @@ module _ (step : Step) {K : Type 0} (kept : K → Kept) where
   counts_within s0 s1 s2 s3 n counts before counted after = by_step step counted
     where
       by_step : (step : Step) → CountsReads step n kept s1 s2 counts → CountsReads step n kept s0 s3 counts
-      by_step (Refresh point) p = tt
-      by_step (Block low high) p = λ short s. omega (arith, before s, p short s, after s)
+      by_step (Refresh point time) p = tt
+      by_step (Block low low_time high time base) p = λ short s. omega (arith, before s, p short s, after s)

@@ -135,10 +135,10 @@ module _ {K : Type 0} (kept : K → Kept) (takes : TargetKind → Bool) (shows :
         pub one_more : (more : Counts) (e : Contents) → TakesMember kept takes s1 set count step shows more d e → FirstTaken w k set.at_target.number step (count + 1) (sum_of counts more) c e
         one_more more e next =
             let s = source_is w k sound placed.known own.0 own_in in
-            let made : (source : SourceTable) → source_named own.0.source k.source ≡ Some source → (q : Option ℕ) → (e areas.Target (64 * set.at_target.number + count) ≡ member_table source own.0 (k.at_target.trail ++ entry_of step q ∷ [])) × (more ≡ counted step q source own.0) = λ source named. next.taken w k sound placed still own.0 source read_only can at_source named own_takes (before source named) in
+            let made : (source : SourceTable) → source_named own.0.source k.source ≡ Some source → (e areas.Target (64 * set.at_target.number + count) ≡ member_table source own.0 (k.at_target.trail ++ entry_of k.at_source.def step ∷ [])) × (more ≡ counted k.at_source.def step source own.0) = λ source named. next.taken w k sound placed still own.0 source read_only can at_source named own_takes (before source named) in
             next_taken w k set.at_target.number step count counts c d e taken own.0 own.1 place_few (sum_of counts more) (next.others w k sound placed)
-            (λ source q named. (made source named q).0)
-            (λ q. sums_more w k sound placed.known takes unnumbered each step q count own.0 counts more own.1 (taken.sums q) ((made s.0 s.1 q).1 ∙ sym (counts_are w k sound placed.known step q own.0 s.0 s.1)))
+            (λ source named. (made source named).0)
+            (sums_more w k sound placed.known takes unnumbered each step count own.0 counts more own.1 taken.sums ((made s.0 s.1).1 ∙ sym (counts_are w k sound placed.known step own.0 s.0 s.1)))
 
       -- one more member is taken
       pub goes_more : (s2 : Sites K) (more sum : Counts) → sum ≡ sum_of counts more → GoesOn kept s1 s2 set.target (TakesMember kept takes s1 set count step shows more) → GoesOn kept s0 s2 set.target (TakesFirst kept takes shows s0 set step (count + 1) sum)
@@ -158,7 +158,7 @@ module _ {K : Type 0} (kept : K → Kept) (takes : TargetKind → Bool) (shows :
           none d.0 d.1 w k sound placed (still w k sound placed reveals read_only can each c d.0 holds d.2) it.0 s.0 read_only can (at_source w k sound placed reveals read_only can each c d.0 holds d.2) s.1 (own_takes w k sound placed reveals read_only can each c d.0 holds d.2) (before w k sound placed reveals read_only can each c d.0 holds d.2 s.0 s.1)
 
   -- once all are taken, the targets are those after the step
-  module _ (unnumbered : (kind : TargetKind) → takes kind ≡ true → is_numbered kind ≡ false) (s1 : Sites K) (counts : Counts) where
+  module _ (s1 : Sites K) (counts : Counts) where
     pub goes_all : (count : ℕ) → count ≡ length set.at_source.def.members → GoesOn kept s0 s1 set.target (TakesFirst kept takes shows s0 set step count counts) → GoesOn kept s0 s1 set.target (TakesAll kept takes s0 set step shows counts)
     goes_all count all goes = goes_as kept s0 s1 set.target (TakesFirst kept takes shows s0 set step count counts) (TakesAll kept takes s0 set step shows counts) open_at goes (λ c d p. record {
       shown = p.shown;
@@ -167,12 +167,10 @@ module _ {K : Type 0} (kept : K → Kept) (takes : TargetKind → Bool) (shows :
           let every : count ≡ length k.at_target.def.members = all ∙ ap (λ (def : SetDef). length def.members) (placed.source_def ∙ same_def w k sound placed.known) in
           let stood = (targets_stand w k set.at_target.number c sound (is_among w k set placed read_only) placed.at_target holds).1 in (
             first.others,
-            λ q. (
-              record {
-                members = λ place member source at named. first.members place member source q (omega (arith, every, slice_get_within k.at_target.def.members place member at)) at named;
-                none = λ place lt past. first.later place lt (omega (arith, every, past)) ∙ stood place lt past;
-              },
-              all_are w k sound placed.known takes unnumbered each step q counts (subst (λ (ms : List Member). SumsTo (counts_at w k step q) ms counts) (ap (λ (n : ℕ). take n k.at_target.def.members) every ∙ take-length k.at_target.def.members) (first.sums q)),
-            ),
+            record {
+              members = λ place member source at named. first.members place member source (omega (arith, every, slice_get_within k.at_target.def.members place member at)) at named;
+              none = λ place lt past. first.later place lt (omega (arith, every, past)) ∙ stood place lt past;
+            },
+            all_are w k step counts (subst (λ (ms : List Member). SumsTo (counts_at w k step) ms counts) (ap (λ (n : ℕ). take n k.at_target.def.members) every ∙ take-length k.at_target.def.members) first.sums),
           );
     })

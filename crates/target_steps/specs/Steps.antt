@@ -1,6 +1,6 @@
 -- What the step of a set makes of all its targets, of its state and of its trail.
-use Rattle.std.specs.Prelude.{◌≡◌, ℕ, ◌-◌, ◌^◌, ◌<◌, Bool, true, false, if◌then◌else◌, Option, Some, None}
-use Rattle.std.specs.List.{AllByRecursion, list_any}
+use Rattle.std.specs.Prelude.{◌≡◌, ℕ, ◌-◌, ◌^◌, ◌<◌, Bool, true, false, Option, Some}
+use Rattle.std.specs.List.{AllByRecursion}
 use Rattle.repl_types.specs.declared.area.Area.{Area}
 use Rattle.repl_types.specs.declared.area.Area.TheVariants as areas
 use Rattle.repl_types.specs.declared.status.DamageCause.{DamageCause}
@@ -12,7 +12,6 @@ use Rattle.repl_definitions.specs.declared.set.SetDef.{SetDef}
 use Rattle.repl_records.specs.declared.set_state.SetState.{SetState}
 use Rattle.repl_records.specs.declared.trail.TrailEntry.{TrailEntry}
 use Rattle.repl_records.specs.declared.trail.TrailEntry.TheVariants as entries
-use Rattle.repl_model.specs.AfterActions.{is_base_aggregate}
 use Rattle.repl_model.specs.World.{World, KnownSet}
 use Rattle.world_store.specs.Stands.{Holds}
 use Rattle.world_store.specs.TargetRows.{set_rows_refreshed, set_changes}
@@ -26,7 +25,7 @@ use Rattle.set_places.specs.Members.{ForSource}
 use Rattle.set_places.specs.Places.{IsReadOnly}
 use Rattle.target_steps.specs.declared.step.Step.{Step}
 use Rattle.target_steps.specs.declared.step.Step.TheVariants.{Refresh, Block}
-use Rattle.target_steps.specs.Taking.{CanStep, counts_of, entry_of}
+use Rattle.target_steps.specs.Taking.{CanStep, base_of_step, counts_of, entry_of}
 
 -- ---- members
 
@@ -40,9 +39,9 @@ is_target_of number areas.Target n = is_of_step number areas.Target n
 is_target_of number a n = false
 
 -- what is counted of all members at a step
-abbrev pub all_counted : World → KnownSet → Step → Option ℕ → Counts
-all_counted w k (Refresh point) q = record { rows = set_rows_refreshed w k.at_target.def point q; inserts = 0; updates = 0; deletes = 0 }
-all_counted w k (Block low high) q = counts_of (set_changes w k.at_target.def low high)
+abbrev pub all_counted : World → KnownSet → Step → Counts
+all_counted w k (Refresh point time) = record { rows = set_rows_refreshed w k.at_target.def point (base_of_step k.at_source.def (Refresh point time)); inserts = 0; updates = 0; deletes = 0 }
+all_counted w k (Block low low_time high time base) = counts_of (set_changes w k.at_target.def low high)
 
 module _ {K : Type 0} (kept : K → Kept) (takes : TargetKind → Bool) (sites : Sites K) (set : PlacedSet) (step : Step) where
   -- what follows for a read-only set that can make a step, in each sound world, if each member is of a kind that is taken, the
@@ -55,7 +54,7 @@ module _ {K : Type 0} (kept : K → Kept) (takes : TargetKind → Bool) (sites :
   pub record TakesAll (shows : Area → DamageCause → Option Contents → Type 0) (counts : Counts) (c d : Contents) : Type 0 where
     pub shown : (a : Area) (cause : DamageCause) → shows a cause (Some d) → shows a cause (Some c)
     pub taken : ForAllTaken c (λ w k. ((a : Area) (n : ℕ) → is_target_of set.at_target.number a n ≡ false → d a n ≡ c a n)
-        × ((q : Option ℕ) → HasTargets k set.at_target.number (entry_of step q) d × (counts ≡ all_counted w k step q)))
+        × HasTargets k set.at_target.number (entry_of k.at_source.def step) d × (counts ≡ all_counted w k step))
 
   -- what follows in each such world, if the target is seen to have what it calls for
   abbrev pub ForMembers : Type 0 → Type 0
@@ -63,27 +62,23 @@ module _ {K : Type 0} (kept : K → Kept) (takes : TargetKind → Bool) (sites :
 
 -- ---- what is put
 
--- some member of a set is a base aggregate
-abbrev pub has_base_aggregate : SetDef → Bool
-has_base_aggregate def = list_any (λ member. is_base_aggregate member.kind) def.members
+-- the state of a set after a step
+abbrev pub state_after : Step → ReadOnlyState → SetState
+state_after (Refresh point time) known = refreshed_state point time known.entries
+state_after (Block low low_time high time base) known = block_state high time known.base known.flag known.entries
 
--- the state of a set after a step to a point at a time
-abbrev pub state_after : Step → ℕ → ReadOnlyState → SetState
-state_after (Refresh point) time known = refreshed_state point time known.entries
-state_after (Block low high) time known = block_state high time known.base known.flag known.entries
-
--- the entry of a step, with what was counted; no base aggregate takes part in a block
+-- the entry of a step of a set, with what was counted
 abbrev pub entry_after : Step → SetDef → Counts → TrailEntry
-entry_after (Refresh point) def counts = entries.Refresh point counts.rows (if has_base_aggregate def then Some point else None)
-entry_after (Block low high) def counts = entries.Block low high counts.inserts counts.updates counts.deletes None
+entry_after (Refresh point time) def counts = entries.Refresh point counts.rows (base_of_step def (Refresh point time))
+entry_after (Block low low_time high time base) def counts = entries.Block low high counts.inserts counts.updates counts.deletes (base_of_step def (Block low low_time high time base))
 
-module _ {K : Type 0} (kept : K → Kept) (takes : TargetKind → Bool) (shows : Area → DamageCause → Option Contents → Type 0) (sites : Sites K) (set : PlacedSet) (step : Step) (time : ℕ) (known : ReadOnlyState) where
+module _ {K : Type 0} (kept : K → Kept) (takes : TargetKind → Bool) (shows : Area → DamageCause → Option Contents → Type 0) (sites : Sites K) (set : PlacedSet) (step : Step) (known : ReadOnlyState) where
   -- all members were taken through a step, and the set's state and the next entry of its trail were put, unless numbers have
   -- run out
   pub record PutsTargets (counts : Counts) (c d : Contents) : Type 0 where
     pub between : Contents
     pub taken : TakesAll kept takes sites set step shows counts c between
-    pub puts : known.entries < 2 ^ 64 - 1 → PutsStep set.at_target.number (state_after step time known) known.entries (entry_after step set.at_source.def counts) between d
+    pub puts : known.entries < 2 ^ 64 - 1 → PutsStep set.at_target.number (state_after step known) known.entries (entry_after step set.at_source.def counts) between d
     pub targets : (n : ℕ) → d areas.Target n ≡ between areas.Target n
 
   -- with some counts

@@ -21,5 +21,5 @@ mod step;
 mod targets;
 
 pub use putting::put_step;
-pub use step::Step;
+pub use step::{BasePoint, Step};
 pub use targets::Targets;

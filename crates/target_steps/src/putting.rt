@@ -9,7 +9,7 @@ ghost use Rattle.site_store.specs.one_server.Calls.{GoesOn, Stops};
 ghost use Rattle.set_places.specs.Places.{IsPlaced, IsPlacedAtSource};
 ghost use Rattle.set_places.specs.Steps.{CommitsStep, MayCommitStep};
 ghost use Rattle.target_steps.specs.Taking.{ShowsAtEnds, ReadsForStep, CountsReads, sum_of};
-ghost use Rattle.target_steps.specs.Steps.{has_base_aggregate as has_base_aggregate_lem};
+ghost use Rattle.target_steps.specs.Taking.{has_base_aggregate as has_base_aggregate_lem};
 ghost use Rattle.target_steps.specs.Steps.{state_after as state_after_lem};
 ghost use Rattle.target_steps.specs.Steps.{entry_after as entry_after_lem};
 ghost use Rattle.target_steps.specs.Steps.{TakesAll, ForMembers, PutsTargets, PutsSomeTargets};
@@ -85,16 +85,15 @@ fn has_base_aggregate(def: &SetDef) -> bool
         .any(|member| member.kind == TargetKind::BaseAggregate)
 }
 
-/// The state of a set after a step to a point at a time in seconds. At the greatest number the
-/// number of entries stays.
-fn state_after(step: Step, time: u64, known: &ReadOnlyState) -> SetState
+/// The state of a set after a step. At the greatest number the number of entries stays.
+fn state_after(step: Step, known: &ReadOnlyState) -> SetState
     ensures state { known.now.entries < 2 ^ 64 - 1
-        → result ≡ state_after_lem step time known.now }
+        → result ≡ state_after_lem step known.now }
     ensures storable { ZeroIfAbsent result }
 {
     let next = known.entries.saturating_add(1);
     match step {
-        Step::Refresh { point } => SetState::ReadOnly {
+        Step::Refresh { point, time } => SetState::ReadOnly {
             has_points: true,
             synchpoint: point,
             time,
@@ -102,7 +101,7 @@ fn state_after(step: Step, time: u64, known: &ReadOnlyState) -> SetState
             flag: false,
             entries: next,
         },
-        Step::Block { upto, .. } => SetState::ReadOnly {
+        Step::Block { upto, time, .. } => SetState::ReadOnly {
             has_points: true,
             synchpoint: upto,
             time,
@@ -118,7 +117,7 @@ fn entry_after(step: Step, def: &SetDef, counts: Counts) -> TrailEntry
     ensures { result ≡ entry_after_lem step def.now counts }
 {
     match step {
-        Step::Refresh { point } => {
+        Step::Refresh { point, .. } => {
             let base = if has_base_aggregate(def) {
                 Some(point)
             } else {
@@ -130,19 +129,24 @@ fn entry_after(step: Step, def: &SetDef, counts: Counts) -> TrailEntry
                 base,
             }
         }
-        Step::Block { from, upto } => TrailEntry::Block {
+        Step::Block {
+            from,
+            upto,
+            base,
+            ..
+        } => TrailEntry::Block {
             from,
             to: upto,
             inserts: counts.inserts,
             updates: counts.updates,
             deletes: counts.deletes,
-            base: None,
+            base: base.map(|at| at.point),
         },
     }
 }
 
-/// Takes the targets of a set through a step to a point at a time in seconds, puts the set's
-/// state and the next entry of its trail, and commits all. It answers what was counted.
+/// Takes the targets of a set through a step, puts the set's state and the next entry of its trail,
+/// and commits all. It answers what was counted.
 ///
 /// After a fault nothing is changed; but if the commit failed, it may have taken place.
 pub fn put_step<K: Keeper, T: Targets<K>>(
@@ -151,15 +155,14 @@ pub fn put_step<K: Keeper, T: Targets<K>>(
     set: &PlacedSet,
     targets: &mut T,
     step: Step,
-    time: u64,
     known: &ReadOnlyState,
 ) -> Result<Counts, Fault>
     requires placed { IsPlaced K.kept sites.old set.now }
     requires closed { AllClosed (work K.kept sites.old) }
     ensures ok { IfOk result (λ counts. CommitsStep K.kept sites.old sites.new set.now.target
-        (PutsTargets K.kept T.takes T.shows sites.old set.now step time known.now counts)) }
+        (PutsTargets K.kept T.takes T.shows sites.old set.now step known.now counts)) }
     ensures fault { IfErr result (MayCommitStep K.kept sites.old sites.new set.now.target
-        (PutsSomeTargets K.kept T.takes T.shows sites.old set.now step time known.now)
+        (PutsSomeTargets K.kept T.takes T.shows sites.old set.now step known.now)
         (ShowsAtEnds K.kept T.shows sites.old set.now)) }
     ensures undamaged { IfErr result (λ e. ForMembers K.kept T.takes sites.old set.now step
         (IsNoDamage e)) }
@@ -170,7 +173,7 @@ pub fn put_step<K: Keeper, T: Targets<K>>(
     sites.begin(set.target)?;
     let counts = take_members(sites, alloc, set, targets, step)?;
     let number = set.at_target.number;
-    let state = state_after(step, time, known);
+    let state = state_after(step, known);
     sites.put::<SetState>(alloc, set.target, Table0, &number, &state)?;
     let entry = entry_after(step, &set.at_source.def, counts);
     let next = known.entries.saturating_add(1);

@@ -4,6 +4,7 @@ pub mod CaptureRows
 pub mod TargetRows
 pub mod Tables
 pub mod Stands
+pub mod Becoming
 pub mod SpelledRows
 pub mod WorkedRows
 pub mod laws

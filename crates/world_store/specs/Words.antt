@@ -62,6 +62,7 @@ pub use Rattle.repl_records.specs.laws.RecordKeys.{one_change_key, one_in_flight
 pub use Rattle.repl_records.specs.laws.SetState.{one_state}
 pub use Rattle.repl_records.specs.laws.SourceSide.{one_head}
 pub use Rattle.repl_records.specs.laws.Trail.{one_entry}
+pub use Rattle.world_store.specs.Becoming.{Becomes}
 pub use Rattle.world_store.specs.CaptureRows.{capture_rows, capture_state, change_rows_of, decided_rows, first_decided_rows, mark_rows, registration_state_rows, rejected_rows, uow_rows}
 pub use Rattle.world_store.specs.DefinitionRows.{defined_registration, numbered_tables, registration_rows, source_set_rows, table_rows, target_set_rows}
 pub use Rattle.world_store.specs.LogRows.{head_of, head_rows, in_flight_key, in_flight_rows, log_rows, source_rows}
@@ -70,6 +71,7 @@ pub use Rattle.world_store.specs.Stands.{Holds, Reveals, Stands, shown}
 pub use Rattle.world_store.specs.Tables.{alone, capture_table, change_table, definition_table, member_table, no_rows, prune_table, source_table, state_table, target_table, trail_table, with_first}
 unfoldable pub use Rattle.world_store.specs.Tables.{first_table, tables}
 pub use Rattle.world_store.specs.TargetRows.{aggregate_rows, copy_rows, count_op, first_state_rows, has_points, history_rows, is_delete, is_insert, is_update, latest_rows, member_changes, numbered_members, numbered_target_sets, numbers_given, rows_refreshed, set_changes, set_rows_refreshed, set_state_rows, source_of, source_time, state_of, trail_entry, trail_rows}
+pub use Rattle.world_store.specs.laws.BecomesHolds.{StaysShown, becomes_holds}
 pub use Rattle.world_store.specs.laws.ByKey.{by_key_fits, by_key_has, spelled_cmp}
 pub use Rattle.world_store.specs.laws.DefinitionRows.{are_places, head_is, name_one, registration_rows_are, set_alike, set_one, source_rows_are, table_rows_are, tail_is, target_rows_are}
 pub use Rattle.world_store.specs.laws.FewChanges.{positions_rise}

@@ -7,4 +7,5 @@ pub mod FirstStates
 pub mod Sides
 pub mod MemberReads
 pub mod TablesStay
+pub mod BecomesHolds
 pub mod StandsNext

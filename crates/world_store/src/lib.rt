@@ -4,8 +4,9 @@
 //! crate says which rows each table of each server then has: an area at a time as lists of typed
 //! rows in the order of their keys (`specs/LogRows.antt`, `DefinitionRows.antt`,
 //! `CaptureRows.antt`, `TargetRows.antt`), all tables of a server in one place
-//! (`specs/Tables.antt`), and when what servers hold stands for a world (`specs/Stands.antt`). The
-//! rows of a small world were worked by hand (`src/worked_rows.rt`).
+//! (`specs/Tables.antt`), when what servers hold stands for a world (`specs/Stands.antt`), and when
+//! a commit makes it so at one of them (`specs/Becoming.antt`). The rows of a small world were
+//! worked by hand (`src/worked_rows.rt`).
 //!
 //! The crate has no code: its functions are laws. It stands on `repl_model`, which says what a
 //! world is, on `repl_records` and `repl_definitions`, whose records the rows are, and on

@@ -1,17 +1,17 @@
 -- What a loaded server holds.
-use Rattle.std.proofs.Common.{◌≡◌, ℕ, zero, suc, true, List, [], ◌++◌, map, cond, refl, sym, ap, ◌∙◌, IsTrue, Option, Some, None, ◌/◌, ◌%◌, ◌&&◌, is_none, find, filter, slice_get, bytes_eq}
+use Rattle.std.proofs.Common.{◌≡◌, ℕ, zero, suc, true, false, List, [], ◌++◌, map, cond, refl, sym, ap, ◌∙◌, IsTrue, Option, Some, None, ◌/◌, ◌%◌, ◌&&◌, is_none, find, filter, slice_get, bytes_eq}
 use Rattle.std.specs.List.{AllByRecursion}
 use Rattle.std.specs.Option.{option_map, option_map_or, option_and_then, option_or}
 use Rattle.std.proofs.lemmas.Bool.{and_parts}
-use Rattle.world_store.specs.Words.{Decided, RejectedUnit, UnitKey, SetState, SourceRow, change_key_spelling, unit_key_spelling, member_key_spelling, source_row_spelling, change_row_spelling, decided_spelling, rejected_spelling, state_spelling, last_number_spelling, entry_spelling, first_decided, first_read_only, first_replica, b32, b64, key_spelling, table_from_rows, change_rows_of, rejected_rows, source_rows, Holds, no_rows, source_table, change_table, prune_table, state_table, target_table, trail_table, tables, with_first, first_table, state_of, trail_rows, no_first, all_kept, table_at, number_rows}
-use Rattle.repl_model.specs.Words.{all_weaker, SetDef, Values, record_fits, is_replica_set, Registered, ServerTable, SourceSide, TargetSide, Server, World, server_table, each_image, all_of}
+use Rattle.world_store.specs.Words.{Decided, RejectedUnit, UnitKey, SetState, SourceRow, change_key_spelling, unit_key_spelling, member_key_spelling, source_row_spelling, change_row_spelling, decided_spelling, rejected_spelling, state_spelling, last_number_spelling, entry_spelling, first_decided, first_read_only, first_replica, b32, b64, key_spelling, table_from_rows, change_rows_of, rejected_rows, source_rows, StaysShown, no_rows, source_table, change_table, prune_table, state_table, target_table, trail_table, tables, with_first, first_table, state_of, trail_rows, all_kept, table_at, number_rows}
+use Rattle.repl_model.specs.Words.{Area, all_weaker, SetDef, Values, record_fits, is_replica_set, Registered, ServerTable, SourceSide, TargetSide, Server, World, server_table, each_image, all_of}
 use Rattle.repl_types.specs.declared.area.Area.TheVariants as areas
-use Rattle.keep_core.specs.Contents.{Contents, Table}
+use Rattle.keep_core.specs.Contents.{Table}
 use Rattle.spelled_defs.specs.declared.defs.Defs.{Defs}
 use Rattle.spelled_defs.specs.declared.defs.TableAt.{TableAt}
 use Rattle.spelled_defs.specs.declared.defs.RegistrationAt.{RegistrationAt}
 use Rattle.load_laws.specs.worlds.Loads.{new_tables, fresh_registration, registration_in, register, fresh_source, fresh_target, new_sources, new_targets, load_server}
-use Rattle.load_laws.specs.stored.LoadedServers.{Loaded}
+use Rattle.load_laws.specs.stored.LoadedServers.{is_loaded}
 use Rattle.load_laws.specs.laws.StoredLists.{numbered_lists_stay, place_more, place_map}
 use Rattle.load_laws.specs.laws.FirstStates.{numbered_more, numbered_lists_more}
 use Rattle.load_laws.specs.laws.SourceTables.{no_source_rows}
@@ -108,27 +108,17 @@ module _ (defs : Defs) (server : Server) where
         (all_new_targets (λ side. (n : ℕ) → first_number_rows_of (n, side) ≡ number_rows world (n, side)) (numbers_new world)) holds
     states_loaded (suc (suc n)) t holds = holds
 
-    -- contents of the loaded server hold what the world calls for there, if those before held what it called for
-    pub loaded_holds : (before now : Contents) → AllByRecursion (λ r. IsTrue (record_fits server r)) server.log → Holds world server before → Loaded defs server before now → Holds world (load_server defs server) now
+    -- the tables that a load leaves alone show what is called for at the loaded server
+    pub loaded_stay : AllByRecursion (λ r. IsTrue (record_fits server r)) server.log → (a : Area) (n : ℕ) → is_loaded a n ≡ false → StaysShown world server (load_server defs server) a n
     unfolding tables first_table
-    loaded_holds before now fits holds loaded areas.Log n = loaded.others areas.Log n refl ∙ holds areas.Log n
-    loaded_holds before now fits holds loaded areas.Source n = loaded.others areas.Source n refl ∙ holds areas.Source n ∙ sym (sources_loaded fits n)
-    loaded_holds before now fits holds loaded areas.Inflight n = loaded.others areas.Inflight n refl ∙ holds areas.Inflight n
-    loaded_holds before now fits holds loaded areas.Head n = ap (with_first (first_table server areas.Head n)) (loaded.others areas.Head n refl) ∙ holds areas.Head n
-    loaded_holds before now fits holds loaded areas.Defs n = loaded.definitions n
-    loaded_holds before now fits holds loaded areas.Cd n = loaded.others areas.Cd n refl ∙ holds areas.Cd n ∙ sym (changes_loaded n)
-    loaded_holds before now fits holds loaded areas.Uow n = loaded.others areas.Uow n refl ∙ holds areas.Uow n
-    loaded_holds before now fits holds loaded areas.Capture zero = ap (with_first (first_table server areas.Capture 0)) (loaded.others areas.Capture 0 refl) ∙ holds areas.Capture 0
-    loaded_holds before now fits holds loaded areas.Capture (suc zero) = no_first (now areas.Capture 1) ∙ loaded.states
-    loaded_holds before now fits holds loaded areas.Capture (suc (suc n)) = ap (with_first no_rows) (loaded.others areas.Capture (suc (suc n)) refl) ∙ holds areas.Capture (suc (suc n))
-    loaded_holds before now fits holds loaded areas.Prune zero = no_first (now areas.Prune 0) ∙ loaded.marks
-    loaded_holds before now fits holds loaded areas.Prune (suc zero) = decisions_loaded (now areas.Prune 1) (ap (with_first (first_table server areas.Prune 1)) (loaded.others areas.Prune 1 refl) ∙ holds areas.Prune 1)
-    loaded_holds before now fits holds loaded areas.Prune (suc (suc n)) = ap (with_first no_rows) (loaded.others areas.Prune (suc (suc n)) refl) ∙ holds areas.Prune (suc (suc n)) ∙ codes n
-      where
-        codes : (n : ℕ) → prune_table server (suc (suc n)) ≡ prune_table (load_server defs server) (suc (suc n))
-        codes zero = ap (λ (rows : List (UnitKey × RejectedUnit)). table_from_rows unit_key_spelling rejected_spelling rows) (sym codes_loaded)
-        codes (suc n) = refl
-    loaded_holds before now fits holds loaded areas.Spill n = refl
-    loaded_holds before now fits holds loaded areas.Target n = loaded.others areas.Target n refl ∙ holds areas.Target n ∙ sym (targets_loaded n)
-    loaded_holds before now fits holds loaded areas.SetState n = states_loaded n (now areas.SetState n) (ap (with_first (first_table server areas.SetState n)) (loaded.others areas.SetState n refl) ∙ holds areas.SetState n)
-    loaded_holds before now fits holds loaded areas.Trail n = loaded.others areas.Trail n refl ∙ holds areas.Trail n ∙ sym (trails_loaded n)
+    loaded_stay fits areas.Source n e t h = h ∙ sym (sources_loaded fits n)
+    loaded_stay fits areas.Defs n e t h = absurd cc
+    loaded_stay fits areas.Cd n e t h = h ∙ sym (changes_loaded n)
+    loaded_stay fits areas.Capture (suc zero) e t h = absurd cc
+    loaded_stay fits areas.Prune zero e t h = absurd cc
+    loaded_stay fits areas.Prune (suc zero) e t h = decisions_loaded t h
+    loaded_stay fits areas.Prune (suc (suc zero)) e t h = h ∙ ap (λ (rows : List (UnitKey × RejectedUnit)). table_from_rows unit_key_spelling rejected_spelling rows) (sym codes_loaded)
+    loaded_stay fits areas.Target n e t h = h ∙ sym (targets_loaded n)
+    loaded_stay fits areas.SetState n e t h = states_loaded n t h
+    loaded_stay fits areas.Trail n e t h = h ∙ sym (trails_loaded n)
+    loaded_stay fits a n e t h = h

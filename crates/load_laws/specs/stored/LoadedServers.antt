@@ -1,13 +1,13 @@
 -- What a server holds after the commit of a load.
-use Rattle.std.specs.Prelude.{◌≡◌, ℕ, zero, suc, Bool, true, false}
+use Rattle.std.specs.Prelude.{ℕ, zero, suc, Bool, true, false}
 use Rattle.repl_types.specs.declared.area.Area.{Area}
 use Rattle.repl_types.specs.declared.area.Area.TheVariants as areas
 use Rattle.keep_core.specs.Contents.{Contents}
-use Rattle.repl_model.specs.World.{Server, World}
+use Rattle.repl_model.specs.World.{World}
 use Rattle.repl_model.specs.Sound.{IsSound}
 use Rattle.spelled_defs.specs.declared.defs.Defs.{Defs}
-use Rattle.world_store.specs.Tables.{definition_table, capture_table, prune_table}
 use Rattle.world_store.specs.Stands.{Holds}
+use Rattle.world_store.specs.Becoming.{Becomes}
 use Rattle.load_laws.specs.worlds.Loads.{load_server, server_at, load_at}
 
 -- the tables in which a load puts rows: those of definitions, of the states of registrations and of marks
@@ -29,18 +29,10 @@ is_loaded areas.Target n = false
 is_loaded areas.SetState n = false
 is_loaded areas.Trail n = false
 
--- Contents after the commit of a load at a server: in these tables stands what the loaded server calls for, and the
--- others are as they were.
-pub record Loaded (defs : Defs) (server : Server) (before now : Contents) : Type 0 where
-  pub definitions : (n : ℕ) → now areas.Defs n ≡ definition_table (load_server defs server) n
-  pub states : now areas.Capture 1 ≡ capture_table (load_server defs server) 1
-  pub marks : now areas.Prune 0 ≡ prune_table (load_server defs server) 0
-  pub others : (a : Area) (n : ℕ) → is_loaded a n ≡ false → now a n ≡ before a n
-
 -- a server that was loaded holds what the world after that calls for
 abbrev pub LoadedHolds : Type 0
 LoadedHolds = (defs : Defs) (world : World) (n : ℕ) (before now : Contents) → IsSound world
-    → Holds world (server_at world n) before → Loaded defs (server_at world n) before now → Holds (load_at defs n world) (load_server defs (server_at world n)) now
+    → Holds world (server_at world n) before → Becomes is_loaded (load_at defs n world) (load_server defs (server_at world n)) before now → Holds (load_at defs n world) (load_server defs (server_at world n)) now
 
 -- and so do the other servers, as they are
 abbrev pub OthersHold : Type 0

@@ -16,7 +16,7 @@ use Rattle.reply_text.specs.Steps.{step_line}
 use Rattle.reply_text.specs.declared.reply.Reply.TheVariants as replies
 use Rattle.run_core.specs.Runs.{Event, commits, writes}
 use Rattle.run_commands.specs.parts.Refusing.{refused}
-use Rattle.apply_cycle.specs.Signals.{length_signalled}
+use Rattle.world_commits.specs.actions.StaysSound.{length_signalled}
 use Rattle.apply_copies.specs.Copies.{is_user_copy}
 use Rattle.apply_cycle.specs.Stepping.{answer_of}
 

@@ -1,5 +1,5 @@
 -- What servers hold after the action of a read-only set.
-use Rattle.std.specs.Prelude.{◌≡◌, ℕ, ◌+◌, ◌/◌, ◌==◌, zero, suc, Bool, true, false, length, Some, slice_get}
+use Rattle.std.specs.Prelude.{◌≡◌, ℕ, ◌/◌, ◌==◌, zero, suc, Bool, true, false, Some, slice_get}
 use Rattle.std.specs.Str.{bytes_eq}
 use Rattle.repl_types.specs.declared.area.Area.{Area}
 use Rattle.repl_types.specs.declared.area.Area.TheVariants as areas
@@ -11,12 +11,14 @@ use Rattle.repl_model.specs.Trails.{Entry, synchpoint}
 use Rattle.repl_model.specs.World.{Server, World, KnownSet, known_sets}
 use Rattle.repl_model.specs.SoundDefinitions.{read_only_sets}
 use Rattle.repl_model.specs.Sound.{IsSound}
+use Rattle.repl_model.specs.Longer.{with_more, grown}
 use Rattle.repl_model.specs.NextActions.{signals, reports}
 use Rattle.repl_model.specs.AfterActions.{with_server, with_entry, refreshed, reported, signal_records, signalled, after_action}
-use Rattle.world_store.specs.Tables.{tables}
-use Rattle.world_store.specs.Stands.{shown, Holds}
+use Rattle.world_store.specs.Stands.{Holds}
+use Rattle.world_store.specs.Becoming.{Becomes}
 use Rattle.lists.specs.laws.Members.{In}
-use Rattle.stored_commits.specs.logs.LongerServers.{Logged}
+use Rattle.world_commits.specs.actions.StaysSound.{length_signalled}
+use Rattle.stored_commits.specs.logs.LongerServers.{is_of_log}
 
 -- ---- reports
 
@@ -43,8 +45,8 @@ OthersHoldAfterReport = (world : World) (k : KnownSet) (other : Server) (held : 
 -- after the signal calls for
 abbrev pub SignalHolds : Type 0
 SignalHolds = (world : World) (k : KnownSet) (number : ℕ) (before now : Contents) → IsSound world → In k (read_only_sets (known_sets world)) → HasSourceNumber k number
-    → Holds world k.source before → Logged (signal_records k.at_source.def k.source.log) k.source before now
-    → Holds (after_action world k signals) (signalled k.at_source.def k.source) (with_mark number (record { mark = k.at_source.mark; signal = length k.source.log + length (signal_records k.at_source.def k.source.log) }) now)
+    → Holds world k.source before → Becomes is_of_log (grown k.source.name (signal_records k.at_source.def k.source.log) world) (with_more (signal_records k.at_source.def k.source.log) k.source) before now
+    → Holds (after_action world k signals) (signalled k.at_source.def k.source) (with_mark number (record { mark = k.at_source.mark; signal = length_signalled k }) now)
 
 -- and so do the other servers, as they are
 abbrev pub OthersHoldAfterSignal : Type 0
@@ -76,12 +78,6 @@ is_of_step number areas.SetState (suc zero) = true
 is_of_step number areas.SetState (suc (suc n)) = false
 is_of_step number areas.Trail n = n == number
 
--- Contents after a step of the set with a number: in these tables stands what the world after it calls for at the
--- target, and the others are as they were.
-pub record Acted (number : ℕ) (world : World) (target : Server) (before now : Contents) : Type 0 where
-  pub has : (a : Area) (n : ℕ) → is_of_step number a n ≡ true → shown target a n (now a n) ≡ tables world target a n
-  pub others : (a : Area) (n : ℕ) → is_of_step number a n ≡ false → now a n ≡ before a n
-
 -- the world with one more entry of the set's trail
 abbrev pub with_step : World → KnownSet → Entry → World
 with_step world k entry = with_server k.target.name (with_entry k.at_target.def entry) world
@@ -93,13 +89,13 @@ with_refresh world k entry = with_server k.target.name (refreshed k.at_target.de
 -- the target of a set, with these tables, holds what the world after a block calls for
 abbrev pub BlockHolds : Type 0
 BlockHolds = (world : World) (k : KnownSet) (number : ℕ) (entry : Entry) (before now : Contents) → IsSound world → In k (read_only_sets (known_sets world)) → HasTargetNumber k number
-    → Holds world k.target before → Acted number (with_step world k entry) (with_entry k.at_target.def entry k.target) before now
+    → Holds world k.target before → Becomes (is_of_step number) (with_step world k entry) (with_entry k.at_target.def entry k.target) before now
     → Holds (with_step world k entry) (with_entry k.at_target.def entry k.target) now
 
 -- and with those after a refresh, what the world after a refresh calls for
 abbrev pub RefreshHolds : Type 0
 RefreshHolds = (world : World) (k : KnownSet) (number : ℕ) (entry : Entry) (before now : Contents) → IsSound world → In k (read_only_sets (known_sets world)) → HasTargetNumber k number
-    → Holds world k.target before → Acted number (with_refresh world k entry) (refreshed k.at_target.def entry k.target) before now
+    → Holds world k.target before → Becomes (is_of_step number) (with_refresh world k entry) (refreshed k.at_target.def entry k.target) before now
     → Holds (with_refresh world k entry) (refreshed k.at_target.def entry k.target) now
 
 -- and so do the other servers, as they are

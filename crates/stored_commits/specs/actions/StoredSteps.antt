@@ -24,8 +24,9 @@ use Rattle.repl_model.specs.AfterActions.{with_entry, refreshed}
 use Rattle.world_store.specs.Tables.{member_table, no_rows}
 use Rattle.world_store.specs.TargetRows.{trail_entry, source_time}
 use Rattle.world_store.specs.Stands.{Holds}
+use Rattle.world_store.specs.Becoming.{Becomes}
 use Rattle.lists.specs.laws.Members.{In}
-use Rattle.stored_commits.specs.actions.ActedServers.{HasTargetNumber, Acted, is_of_step, with_step, with_refresh}
+use Rattle.stored_commits.specs.actions.ActedServers.{HasTargetNumber, is_of_step, with_step, with_refresh}
 
 -- ---- what is put
 
@@ -74,7 +75,7 @@ RefreshIsStored = (world : World) (k : KnownSet) (number p : ℕ) (q : Option �
     → IsSound (with_refresh world k (refresh p q)) → Holds world k.target before → NoneNumbered k.at_target.def
     → PutsStep number (refreshed_state p (source_time world k.at_target.def p) (length k.at_target.trail)) (length k.at_target.trail) (trail_entry world k.at_target.def (refresh p q)) before now
     → HasTargets k number (refresh p q) now
-    → Acted number (with_refresh world k (refresh p q)) (refreshed k.at_target.def (refresh p q) k.target) before now
+    → Becomes (is_of_step number) (with_refresh world k (refresh p q)) (refreshed k.at_target.def (refresh p q) k.target) before now
 
 -- and so does what is put at a block
 abbrev pub BlockIsStored : Type 0
@@ -82,7 +83,7 @@ BlockIsStored = (world : World) (k : KnownSet) (number low high : ℕ) (q : Opti
     → IsSound (with_step world k (block low high q)) → Holds world k.target before → NoneNumbered k.at_target.def
     → PutsStep number (block_state high (source_time world k.at_target.def high) (base_of k.at_target.trail) k.at_target.flag (length k.at_target.trail)) (length k.at_target.trail) (trail_entry world k.at_target.def (block low high q)) before now
     → HasTargets k number (block low high q) now
-    → Acted number (with_step world k (block low high q)) (with_entry k.at_target.def (block low high q) k.target) before now
+    → Becomes (is_of_step number) (with_step world k (block low high q)) (with_entry k.at_target.def (block low high q) k.target) before now
 
 -- the target of a member with a place is what the trail makes of it, and a set has no other target
 abbrev pub TargetsStand : Type 0

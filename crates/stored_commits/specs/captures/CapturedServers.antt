@@ -4,14 +4,11 @@ use Rattle.std.specs.Str.{bytes_eq}
 use Rattle.repl_types.specs.declared.area.Area.{Area}
 use Rattle.repl_types.specs.declared.area.Area.TheVariants as areas
 use Rattle.repl_types.specs.declared.unit.Unit.{Unit}
-use Rattle.repl_records.specs.RecordKeys.{single_spelling}
-use Rattle.repl_records.specs.Capture.{capture_spelling}
 use Rattle.keep_core.specs.Contents.{Contents}
-use Rattle.rows_in_order.specs.Rows.{table_from_rows}
 use Rattle.repl_model.specs.World.{Server, World, server_named}
 use Rattle.repl_model.specs.Sound.{IsSound}
-use Rattle.world_store.specs.CaptureRows.{capture_rows}
-use Rattle.world_store.specs.Stands.{shown, Holds}
+use Rattle.world_store.specs.Stands.{Holds}
+use Rattle.world_store.specs.Becoming.{Becomes}
 use Rattle.lists.specs.laws.Members.{In}
 use Rattle.world_commits.specs.captures.Captures.{with_units, captured}
 use Rattle.world_commits.specs.captures.StaysSound.{AreNext}
@@ -37,13 +34,6 @@ is_of_capture areas.Target n = false
 is_of_capture areas.SetState n = false
 is_of_capture areas.Trail n = false
 
--- Contents after a server has captured units: in these tables stands what the server then has, and the others are
--- as they were. A record that is missing says that nothing is captured.
-pub record Captured (us : List Unit) (server : Server) (before now : Contents) : Type 0 where
-  pub has : HasCaptured (with_units us server) now
-  pub state : shown server areas.Capture 0 (now areas.Capture 0) ≡ table_from_rows single_spelling capture_spelling (capture_rows (with_units us server))
-  pub others : (a : Area) (n : ℕ) → is_of_capture a n ≡ false → now a n ≡ before a n
-
 -- what a server holds has what it has captured
 abbrev pub HoldsCaptured : Type 0
 HoldsCaptured = (world : World) (server : Server) (contents : Contents) → Holds world server contents → HasCaptured server contents
@@ -51,7 +41,7 @@ HoldsCaptured = (world : World) (server : Server) (contents : Contents) → Hold
 -- the server of this name, once it has captured units, holds what the world then calls for
 abbrev pub CapturedHolds : Type 0
 CapturedHolds = (name : List ℕ) (us : List Unit) (world : World) (server : Server) (before now : Contents) → IsSound world → server_named name world ≡ Some server → AreNext server us
-    → Holds world server before → Captured us server before now → Holds (captured name us world) (with_units us server) now
+    → Holds world server before → Becomes is_of_capture (captured name us world) (with_units us server) before now → Holds (captured name us world) (with_units us server) now
 
 -- and so do the servers of other names, as they are
 abbrev pub OthersHold : Type 0

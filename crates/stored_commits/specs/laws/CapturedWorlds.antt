@@ -43,7 +43,7 @@ still_holds name us world server held holds = holds_captured (λ g. Holds (map g
 
 -- a server that has captured units holds what the world then calls for
 pub captures_hold : CapturedHolds
-captures_hold name us world server before now sound named next holds took = captured_holds us (captured name us world) server before now (still_holds name us world server before holds) took
+captures_hold name us world server before now sound named next holds becomes = captured_holds us (captured name us world) server before now (still_holds name us world server before holds) becomes
 
 -- the other servers hold what the world then calls for, as they are
 pub others_hold_captures : OthersHold

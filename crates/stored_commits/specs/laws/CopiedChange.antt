@@ -7,7 +7,7 @@ use Rattle.repl_model.specs.Words.{Values, images, Change, CdRow, Placed, Member
 use Rattle.repl_types.specs.declared.record.Change.TheVariants.{Insert, Update, Delete, Start, Stop}
 use Rattle.keep_core.specs.Contents.{Table, same_key, set_key}
 use Rattle.stored_commits.specs.records.SourceTables.{rows_table, RowsStand, HasRows, Suits, with_effect}
-use Rattle.stored_commits.specs.copies.ChangedCopies.{key_before, key_after, with_row, with_changes}
+use Rattle.stored_commits.specs.copies.ChangedCopies.{Storing, key_before, key_after, timed_row, timed_changes, time_after, times_after}
 use Rattle.stored_commits.specs.laws.Agreeing.{Agree, agree_from}
 use Rattle.stored_commits.specs.laws.Images.{KeepsCopies, imaged_agrees, key_before_is, key_is, one_key, one_selection, one_target}
 use Rattle.stored_commits.specs.laws.StoredCopies.{shown, IsCopyOf, Shows, shows_none, shows_row, put_copied, removed_copied}
@@ -35,18 +35,22 @@ applies_own : (source : SourceTable) (change : Change) (rows : Rows) → bytes_e
 unfolding applies
 applies_own source change rows own e = ap (λ (b : Bool). cond b (applies_here source.def change rows) true) (sym own) ∙ e
 
-module _ (source : SourceTable) (member : Member) (keeps : KeepsCopies source member) where
+module _ (stored_as : Storing) (source : SourceTable) (member : Member) (keeps : KeepsCopies source member) where
   -- the spelling of the key of a row
   abbrev spelled : Values → List ℕ
   spelled row = key_spelling (key_of source.def row)
 
+  -- a table is the copy of a stored one, with the time of each key's last change
+  abbrev Copies : (List ℕ → ℕ) → Table → Table → Type 0
+  Copies time stored copied = IsCopyOf stored_as member time stored copied
+
   -- a copy has the same of rows that agree in the registered columns
-  one_shown : (a b : Values) → Agree a b source.reg.after → shown member a ≡ shown member b
-  one_shown a b agree = ap₂ (λ (selected : Bool) (values : Values). cond selected (Some (row_spelling values)) None) (one_selection source member keeps a b agree) (one_target source member keeps a b agree)
+  one_shown : (time : ℕ) (a b : Values) → Agree a b source.reg.after → shown stored_as member time a ≡ shown stored_as member time b
+  one_shown time a b agree = ap₂ (λ (selected : Bool) (values : Values). cond selected (Some (stored_as time values)) None) (one_selection source member keeps a b agree) (one_target source member keeps a b agree)
 
   -- where nothing stands, the row of a change row comes as what the copy has of it
-  row_comes : (change : CdRow) (row : Values) (t : Table) → change.after ≡ images source.reg.after row → t (spelled row) ≡ None → with_row source member change t ≡ set_key t (spelled row) (shown member row)
-  row_comes change row t is none = by_selection (is_selected member image) ∙ ap₂ (λ (key : Values) (value : Option (List ℕ)). set_key t (key_spelling key) value) same_key_of (one_shown image row agree)
+  row_comes : (unit_time : ℕ) (change : CdRow) (row : Values) (t : Table) → change.after ≡ images source.reg.after row → t (spelled row) ≡ None → timed_row stored_as source member unit_time change t ≡ set_key t (spelled row) (shown stored_as member unit_time row)
+  row_comes unit_time change row t is none = by_selection (is_selected member image) ∙ ap₂ (λ (key : Values) (value : Option (List ℕ)). set_key t (key_spelling key) value) same_key_of (one_shown unit_time image row agree)
     where
       image : Values
       image = imaged_row source change
@@ -58,16 +62,33 @@ module _ (source : SourceTable) (member : Member) (keeps : KeepsCopies source me
       same_key_of = one_key source member keeps image row agree
 
       value : Option (List ℕ)
-      value = Some (row_spelling (target_row member image))
+      value = Some (stored_as unit_time (target_row member image))
 
       by_selection : (b : Bool) → cond b (set_key t (spelled image) value) t ≡ set_key t (spelled image) (cond b value None)
       by_selection true = refl
       by_selection false = removed_absent t (spelled image) (ap (λ (key : Values). t (key_spelling key)) same_key_of ∙ none)
 
-  module _ (rows : Rows) (t : Table) (stand : RowsStand source.def rows) (is : IsCopyOf member (rows_table rows) t) where
+  module _ (time : List ℕ → ℕ) (stored t : Table) (is : Copies time stored t) (unit_time : ℕ) (change : CdRow) (row : Values) (image : change.after ≡ images source.reg.after row) where
+    -- if nothing is stored at its key, a row that is stored there follows in the copy by the row of a change row
+    row_follows : IsRow row → stored (spelled row) ≡ None → Copies (time_after source unit_time change time) (set_key stored (spelled row) (Some (row_spelling row))) (timed_row stored_as source member unit_time change t)
+    row_follows fit none =
+        subst (Copies (time_after source unit_time change time) (set_key stored (spelled row) (Some (row_spelling row)))) (sym (row_comes unit_time change row t image (shows_none stored_as member (time (spelled row)) (stored (spelled row)) (t (spelled row)) (is (spelled row)) none)))
+        (subst (λ (key : Values). Copies (λ q. cond (same_key (key_spelling key) q) unit_time (time q)) (set_key stored (spelled row) (Some (row_spelling row))) (set_key t (spelled row) (shown stored_as member unit_time row))) (sym (key_is source member keeps change row image))
+        (put_copied stored_as member time stored t is (spelled row) unit_time row fit))
+
+    -- a row that is removed goes from the copy by the removal of a change row's key
+    row_goes : Copies (time_after source unit_time change time) (set_key stored (spelled row) None) (set_key t (key_spelling (key_after source change)) None)
+    row_goes = subst (λ (key : Values). Copies (λ q. cond (same_key (key_spelling key) q) unit_time (time q)) (set_key stored (spelled row) None) (set_key t (key_spelling key) None)) (sym (key_is source member keeps change row image))
+        (removed_copied stored_as member time stored t is (spelled row) (λ q. cond (same_key (spelled row) q) unit_time (time q)) (λ q e. ap (λ (b : Bool). cond b unit_time (time q)) e))
+
+  module _ (rows : Rows) (time : List ℕ → ℕ) (t : Table) (stand : RowsStand source.def rows) (is : Copies time (rows_table rows) t) (times : ℕ → ℕ) where
     -- the stored table of the rows
     abbrev stored : Table
     stored = rows_table rows
+
+    -- the copy is one of a stored table, after change rows
+    abbrev CopiesAfter : List CdRow → Table → Type 0
+    CopiesAfter changes u = Copies (times_after source times changes time) u (timed_changes stored_as source member times changes t)
 
     -- at the key of a row stands what the rows have there
     stored_at : (row : Values) → IsRow row → stored (spelled row) ≡ option_map row_spelling (get rows (key_of source.def row))
@@ -86,6 +107,10 @@ module _ (source : SourceTable) (member : Member) (keeps : KeepsCopies source me
       abbrev left : Table
       left = set_key stored (spelled before) None
 
+      -- and with the row from after
+      abbrev moved : Table
+      moved = set_key left (spelled after) (Some (row_spelling after))
+
       -- the rows hold the before-image, and the new key is the same or absent
       parts : (holds source.def before rows ≡ true) × ((same_values (key_of source.def before) (key_of source.def after) || is_none (get rows (key_of source.def after))) ≡ true)
       parts = and_parts (holds source.def before rows) (same_values (key_of source.def before) (key_of source.def after) || is_none (get rows (key_of source.def after))) here
@@ -102,22 +127,12 @@ module _ (source : SourceTable) (member : Member) (keeps : KeepsCopies source me
             | inr none ↦ absent after has.1 none
           ]
 
-      -- the row from before goes, and the row of a change row comes
-      row_moves : (change : CdRow) (key : Values) → change.after ≡ images source.reg.after after → key ≡ key_of source.def before
-          → IsCopyOf member (set_key left (spelled after) (Some (row_spelling after))) (with_row source member change (set_key t (key_spelling key) None))
-      row_moves change key after_is key_is_before =
-          subst (λ (u : Table). IsCopyOf member (set_key left (spelled after) (Some (row_spelling after))) u)
-          (sym (ap (λ (k : Values). with_row source member change (set_key t (key_spelling k) None)) key_is_before ∙ row_comes change after gone after_is (shows_none member (left (spelled after)) (gone (spelled after)) (goes (spelled after)) left_absent)))
-          (put_copied member left gone goes (spelled after) after has.1)
-        where
-          gone : Table
-          gone = set_key t (spelled before) None
-
-          goes : IsCopyOf member left gone
-          goes = removed_copied member stored t is (spelled before)
+      -- the row from before goes from the copy, and no time changes
+      gone_before : Copies time left (set_key t (spelled before) None)
+      gone_before = removed_copied stored_as member time stored t is (spelled before) time (λ q e. refl)
 
       -- an update that changes no registered column leaves the copy
-      nothing_moves : shows_nothing source.reg before after ≡ true → IsCopyOf member (set_key left (spelled after) (Some (row_spelling after))) t
+      nothing_moves : shows_nothing source.reg before after ≡ true → Copies time moved t
       nothing_moves nothing q = by_test (same_key (spelled after) q) refl
         where
           agree : Agree before after source.reg.after
@@ -126,56 +141,49 @@ module _ (source : SourceTable) (member : Member) (keeps : KeepsCopies source me
           same : spelled before ≡ spelled after
           same = ap key_spelling (one_key source member keeps before after agree)
 
-          by_test : (b : Bool) → same_key (spelled after) q ≡ b → Shows member (cond b (Some (row_spelling after)) (left q)) (t q)
+          by_test : (b : Bool) → same_key (spelled after) q ≡ b → Shows stored_as member (time q) (cond b (Some (row_spelling after)) (left q)) (t q)
           by_test true e = inr (
             after,
             has.1,
             refl,
-            ap t (sym (same ∙ same_is (spelled after) q e))
-                ∙ shows_row member (stored (spelled before)) (t (spelled before)) before (is (spelled before)) has.0 (present before has.0 parts.0)
-                ∙ one_shown before after agree,
+            shows_row stored_as member (time q) (stored q) (t q) before (is q) has.0 (ap stored (sym (same ∙ same_is (spelled after) q e)) ∙ present before has.0 parts.0)
+                ∙ one_shown (time q) before after agree,
           )
-          by_test false e = subst (λ (b : Bool). Shows member (cond b None (stored q)) (t q)) (sym (ap (λ (k : List ℕ). same_key k q) same ∙ e)) (is q)
+          by_test false e = subst (λ (b : Bool). Shows stored_as member (time q) (cond b None (stored q)) (t q)) (sym (ap (λ (k : List ℕ). same_key k q) same ∙ e)) (is q)
 
       -- the change rows of an update
-      update_copied : (seq pos : ℕ) → change_fits source.def (Update table before after) ≡ true
-          → IsCopyOf member (set_key left (spelled after) (Some (row_spelling after))) (with_changes source member (rows_of source.reg seq pos (Update table before after)) t)
+      update_copied : (seq pos : ℕ) → change_fits source.def (Update table before after) ≡ true → CopiesAfter (rows_of source.reg seq pos (Update table before after)) moved
       update_copied seq pos fit = by_kind (shows_nothing source.reg before after) refl source.reg.del_ins refl
         where
-          apart : List CdRow
-          apart = delete_row source.reg seq pos before ∷ insert_row source.reg seq pos 1 after ∷ []
+          goes : CdRow
+          goes = delete_row source.reg seq pos before
 
-          whole : List CdRow
-          whole = update_row source.reg seq pos before after ∷ []
+          comes : CdRow
+          comes = insert_row source.reg seq pos 1 after
 
-          by_kind : (b : Bool) → shows_nothing source.reg before after ≡ b → (d : Bool) → source.reg.del_ins ≡ d
-              → IsCopyOf member (set_key left (spelled after) (Some (row_spelling after))) (with_changes source member (cond b [] (cond d apart whole)) t)
+          whole : CdRow
+          whole = update_row source.reg seq pos before after
+
+          by_kind : (b : Bool) → shows_nothing source.reg before after ≡ b → (d : Bool) → source.reg.del_ins ≡ d → CopiesAfter (cond b [] (cond d (goes ∷ comes ∷ []) (whole ∷ []))) moved
           by_kind true e d f = nothing_moves e
-          by_kind false e true f = row_moves (insert_row source.reg seq pos 1 after) (key_after source (delete_row source.reg seq pos before)) refl (key_is source member keeps (delete_row source.reg seq pos before) before refl)
-          by_kind false e false f = row_moves (update_row source.reg seq pos before after) (key_before source (update_row source.reg seq pos before after)) refl
-              (key_before_is source member keeps seq pos before after f (leaves_fixed source table before after fit))
+          by_kind false e true f = row_follows (time_after source (times seq) goes time) left (set_key t (key_spelling (key_after source goes)) None) (row_goes time stored t is (times seq) goes before refl) (times seq) comes after refl has.1 left_absent
+          by_kind false e false f = row_follows time left (set_key t (key_spelling (key_before source whole)) None)
+              (subst (λ (key : Values). Copies time left (set_key t (key_spelling key) None)) (sym (key_before_is source member keeps seq pos before after f (leaves_fixed source table before after fit))) gone_before)
+              (times seq) whole after refl has.1 left_absent
 
     -- the change rows of a change of the table
-    own_copied : (seq pos : ℕ) (change : Change) → HasRows change → (is_signal change || change_fits source.def change) ≡ true → applies_here source.def change rows ≡ true
-        → IsCopyOf member (with_effect source.def change stored) (with_changes source member (rows_of source.reg seq pos change) t)
-    own_copied seq pos (Insert table row) has suits here =
-        subst (λ (u : Table). IsCopyOf member (set_key stored (spelled row) (Some (row_spelling row))) u)
-        (sym (row_comes (insert_row source.reg seq pos 0 row) row t refl (shows_none member (stored (spelled row)) (t (spelled row)) (is (spelled row)) (absent row has here))))
-        (put_copied member stored t is (spelled row) row has)
+    own_copied : (seq pos : ℕ) (change : Change) → HasRows change → (is_signal change || change_fits source.def change) ≡ true → applies_here source.def change rows ≡ true → CopiesAfter (rows_of source.reg seq pos change) (with_effect source.def change stored)
+    own_copied seq pos (Insert table row) has suits here = row_follows time stored t is (times seq) (insert_row source.reg seq pos 0 row) row refl has (absent row has here)
     own_copied seq pos (Update table before after) has suits here = update_copied table before after has here seq pos suits
-    own_copied seq pos (Delete table row) has suits here =
-        subst (λ (key : Values). IsCopyOf member (set_key stored (spelled row) None) (set_key t (key_spelling key) None))
-        (sym (key_is source member keeps (delete_row source.reg seq pos row) row refl))
-        (removed_copied member stored t is (spelled row))
+    own_copied seq pos (Delete table row) has suits here = row_goes time stored t is (times seq) (delete_row source.reg seq pos row) row refl
     own_copied seq pos (Start table) has suits here = is
     own_copied seq pos (Stop table) has suits here = is
 
     -- the change rows of a change of any table
-    pub change_copied : (seq : ℕ) (placed : Placed) → HasRows placed.change → Suits source.def placed.change → applies source.def placed.change rows ≡ true
-        → IsCopyOf member (rows_table (after_change source.def placed.change rows)) (with_changes source member (rows_of_placed source.reg seq placed) t)
+    pub change_copied : (seq : ℕ) (placed : Placed) → HasRows placed.change → Suits source.def placed.change → applies source.def placed.change rows ≡ true → CopiesAfter (rows_of_placed source.reg seq placed) (rows_table (after_change source.def placed.change rows))
     change_copied seq placed has suits here =
-        subst (λ (u : Table). IsCopyOf member u (with_changes source member (rows_of_placed source.reg seq placed) t)) (sym (change_stored source.def placed.change rows stand has))
-        (subst (λ (name : List ℕ). IsCopyOf member (cond own effect stored) (with_changes source member (cond (bytes_eq (table_of placed.change) name) change_rows []) t)) (sym keeps.table)
+        subst (CopiesAfter (rows_of_placed source.reg seq placed)) (sym (change_stored source.def placed.change rows stand has))
+        (subst (λ (name : List ℕ). CopiesAfter (cond (bytes_eq (table_of placed.change) name) change_rows []) (cond own effect stored)) (sym keeps.table)
         (by_table own refl))
       where
         own : Bool
@@ -187,6 +195,6 @@ module _ (source : SourceTable) (member : Member) (keeps : KeepsCopies source me
         change_rows : List CdRow
         change_rows = rows_of source.reg seq placed.pos placed.change
 
-        by_table : (b : Bool) → own ≡ b → IsCopyOf member (cond b effect stored) (with_changes source member (cond b change_rows []) t)
+        by_table : (b : Bool) → own ≡ b → CopiesAfter (cond b change_rows []) (cond b effect stored)
         by_table true e = own_copied seq placed.pos placed.change has (suits e) (applies_own source placed.change rows e here)
         by_table false e = is

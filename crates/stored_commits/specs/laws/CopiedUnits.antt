@@ -1,20 +1,21 @@
 -- The change rows of units do to the copy of a table what the units do to the table.
-use Rattle.std.proofs.Common.{◌≡◌, ℕ, ◌≤◌, ◌<◌, zero-le, Bool, true, false, ◌&&◌, List, [], ◌∷◌, ◌++◌, length, None, inl, refl, sym, ap, subst, ◌∙◌, nat_lt, nat_le}
+use Rattle.std.proofs.Common.{◌≡◌, ℕ, ◌≤◌, Bool, true, false, ◌&&◌, List, [], ◌∷◌, ◌++◌, None, inl, refl, sym, ap, ap₂, subst, ◌∙◌, nat_lt, nat_le}
 use Rattle.std.specs.List.{AllByRecursion, flat_map}
 use Rattle.std.specs.FinMap.{empty, entries}
-use Rattle.std.proofs.lemmas.Bool.{and_parts, lt-ltb}
-use Rattle.std.proofs.lemmas.List.Concat.{flat_map-append}
+use Rattle.std.proofs.lemmas.Bool.{and_parts}
 use Rattle.world_store.specs.Words.{key_spelling, row_spelling, table_from_rows}
-use Rattle.repl_model.specs.Words.{all_weaker, all_filter, filter_alike, Change, LogRecord, CdRow, TableDef, Placed, Unit, Member, rows_of_placed, change_rows, changes_between, user_copy, SourceTable, unplaced, after_units, units_up_to, units_between, source_at, Rows, applies, after_change, after_changes, all_apply, units, changes_join, entries_empty}
+use Rattle.repl_model.specs.Words.{all_filter, Change, LogRecord, CdRow, TableDef, Placed, Unit, Member, rows_of_placed, change_rows, changes_between, SourceTable, unplaced, after_units, units_up_to, units_between, source_at, Rows, applies, after_change, after_changes, all_apply, units, entries_empty}
+use Rattle.repl_model.specs.laws.Source.{source_onward}
+use Rattle.repl_model.specs.laws.Units.{units_split}
 use Rattle.keep_core.specs.Contents.{Table}
 use Rattle.stored_commits.specs.records.SourceTables.{rows_table, RowsStand, StandsUnderKey, HasRows, Suits}
 use Rattle.stored_commits.specs.records.laws.StandingRows.{table_of_entries}
-use Rattle.stored_commits.specs.copies.ChangedCopies.{copy_table, with_change, with_changes}
+use Rattle.stored_commits.specs.copies.ChangedCopies.{Storing, timed_copy, timed_change, timed_changes, time_after, times_after}
 use Rattle.stored_commits.specs.laws.Images.{KeepsCopies}
 use Rattle.stored_commits.specs.laws.LoggedRows.{UnitHas}
 use Rattle.stored_commits.specs.laws.FirstUnits.{first_units}
 use Rattle.stored_commits.specs.laws.CopiedChange.{change_copied}
-use Rattle.stored_commits.specs.laws.StoredCopies.{IsCopyOf, one_copy, copy_of, rows_copied}
+use Rattle.stored_commits.specs.laws.StoredCopies.{IsCopyOf, one_copy, rows_copied}
 use Rattle.stored_commits.specs.laws.StoredRows.{change_stands}
 
 -- ---- lists
@@ -30,9 +31,14 @@ all_apply-append def (x ∷ xs) ys rows = ap (λ (b : Bool). applies def x rows 
     grouped false b c = refl
 
 -- a copy takes change rows, and then others
-with_changes-append : (source : SourceTable) (member : Member) (xs ys : List CdRow) (t : Table) → with_changes source member (xs ++ ys) t ≡ with_changes source member ys (with_changes source member xs t)
-with_changes-append source member [] ys t = refl
-with_changes-append source member (x ∷ xs) ys t = with_changes-append source member xs ys (with_change source member x t)
+changes_append : (stored_as : Storing) (source : SourceTable) (member : Member) (times : ℕ → ℕ) (xs ys : List CdRow) (t : Table) → timed_changes stored_as source member times (xs ++ ys) t ≡ timed_changes stored_as source member times ys (timed_changes stored_as source member times xs t)
+changes_append stored_as source member times [] ys t = refl
+changes_append stored_as source member times (x ∷ xs) ys t = changes_append stored_as source member times xs ys (timed_change stored_as source member (times x.commitseq) x t)
+
+-- so do the times of keys
+pub times_append : (source : SourceTable) (times : ℕ → ℕ) (xs ys : List CdRow) (time : List ℕ → ℕ) → times_after source times (xs ++ ys) time ≡ times_after source times ys (times_after source times xs time)
+times_append source times [] ys time = refl
+times_append source times (x ∷ xs) ys time = times_append source times xs ys (time_after source (times x.commitseq) x time)
 
 -- the changes of units
 abbrev pub changes_of : List Unit → List Change
@@ -44,82 +50,99 @@ pub record UnitsAreSound (def : TableDef) (log : List LogRecord) : Type 0 where
   pub fit : AllByRecursion (UnitHas (λ change. HasRows change × Suits def change)) (units log)
   pub apply : all_apply def (changes_of (units log)) empty ≡ true
 
-module _ (source : SourceTable) (member : Member) (keeps : KeepsCopies source member) where
+-- if the changes of units and of others apply one after another, those of the first apply, and those of the others to what
+-- these make
+apply_parts : (def : TableDef) (us vs : List Unit) (rows : Rows) → all_apply def (changes_of (us ++ vs)) rows ≡ true → (all_apply def (changes_of us) rows ≡ true) × (all_apply def (changes_of vs) (after_units def us rows) ≡ true)
+apply_parts def [] vs rows apply = (refl, apply)
+apply_parts def (u ∷ us) vs rows apply =
+    let own = unplaced u.changes in
+    let both = and_parts (all_apply def own rows) (all_apply def (changes_of (us ++ vs)) (after_changes def own rows)) (sym (all_apply-append def own (changes_of (us ++ vs)) rows) ∙ apply) in
+    let rest = apply_parts def us vs (after_changes def own rows) both.1 in
+    (all_apply-append def own (changes_of us) rows ∙ ap₂ (λ (a b : Bool). a && b) both.0 rest.0, rest.1)
+
+module _ (stored_as : Storing) (source : SourceTable) (member : Member) (keeps : KeepsCopies source member) (times : ℕ → ℕ) where
   -- a change's rows are rows of values, and suit the table
   abbrev Fits : Change → Type 0
   Fits change = HasRows change × Suits source.def change
 
-  -- rows stand under their keys, and the table is a copy of what is stored of them
-  abbrev IsCopied : Rows → Table → Type 0
-  IsCopied rows t = RowsStand source.def rows × IsCopyOf member (rows_table rows) t
+  -- a copy, and the time of each key's last change
+  abbrev Timed : Type 0
+  Timed = Table × (List ℕ → ℕ)
+
+  -- both after change rows
+  abbrev after_rows : List CdRow → Timed → Timed
+  after_rows changes copied = (timed_changes stored_as source member times changes copied.0, times_after source times changes copied.1)
+
+  -- rows stand under their keys, and what is copied is a copy of what is stored of them
+  abbrev IsCopied : Rows → Timed → Type 0
+  IsCopied rows copied = RowsStand source.def rows × IsCopyOf stored_as member copied.1 (rows_table rows) copied.0
+
+  -- both take change rows, and then others
+  takes_both : (xs ys : List CdRow) (copied : Timed) → after_rows (xs ++ ys) copied ≡ after_rows ys (after_rows xs copied)
+  takes_both xs ys copied = λ i. (changes_append stored_as source member times xs ys copied.0 i, times_append source times xs ys copied.1 i)
 
   -- the change rows of changes
-  changes_copied : (seq : ℕ) (placed : List Placed) (rows : Rows) (t : Table) → AllByRecursion (λ p. Fits p.change) placed → all_apply source.def (unplaced placed) rows ≡ true → IsCopied rows t
-      → IsCopied (after_changes source.def (unplaced placed) rows) (with_changes source member (flat_map (rows_of_placed source.reg seq) placed) t)
-  changes_copied seq [] rows t fit apply is = is
-  changes_copied seq (p ∷ ps) rows t fit apply is =
+  changes_copied : (seq : ℕ) (placed : List Placed) (rows : Rows) (copied : Timed) → AllByRecursion (λ p. Fits p.change) placed → all_apply source.def (unplaced placed) rows ≡ true → IsCopied rows copied
+      → IsCopied (after_changes source.def (unplaced placed) rows) (after_rows (flat_map (rows_of_placed source.reg seq) placed) copied)
+  changes_copied seq [] rows copied fit apply is = is
+  changes_copied seq (p ∷ ps) rows copied fit apply is =
       let both = and_parts (applies source.def p.change rows) (all_apply source.def (unplaced ps) (after_change source.def p.change rows)) apply in
-      subst (IsCopied (after_changes source.def (unplaced (p ∷ ps)) rows)) (sym (with_changes-append source member (rows_of_placed source.reg seq p) (flat_map (rows_of_placed source.reg seq) ps) t))
-      (changes_copied seq ps (after_change source.def p.change rows) (with_changes source member (rows_of_placed source.reg seq p) t) fit.1 both.1
-      (change_stands source.def p.change rows is.0 fit.0.0, change_copied source member keeps rows t is.0 is.1 seq p fit.0.0 fit.0.1 both.0))
+      let own = rows_of_placed source.reg seq p in
+      subst (IsCopied (after_changes source.def (unplaced (p ∷ ps)) rows)) (sym (takes_both own (flat_map (rows_of_placed source.reg seq) ps) copied))
+      (changes_copied seq ps (after_change source.def p.change rows) (after_rows own copied) fit.1 both.1
+      (change_stands source.def p.change rows is.0 fit.0.0, change_copied stored_as source member keeps rows copied.1 copied.0 is.0 is.1 times seq p fit.0.0 fit.0.1 both.0))
 
   -- those of units
-  units_copied : (us : List Unit) (rows : Rows) (t : Table) → AllByRecursion (UnitHas Fits) us → all_apply source.def (changes_of us) rows ≡ true → IsCopied rows t
-      → IsCopied (after_units source.def us rows) (with_changes source member (flat_map (change_rows source.reg) us) t)
+  units_copied : (us : List Unit) (rows : Rows) (copied : Timed) → AllByRecursion (UnitHas Fits) us → all_apply source.def (changes_of us) rows ≡ true → IsCopied rows copied
+      → IsCopied (after_units source.def us rows) (after_rows (flat_map (change_rows source.reg) us) copied)
   unfolding change_rows
-  units_copied [] rows t fit apply is = is
-  units_copied (u ∷ us) rows t fit apply is =
+  units_copied [] rows copied fit apply is = is
+  units_copied (u ∷ us) rows copied fit apply is =
       let both = and_parts (all_apply source.def (unplaced u.changes) rows) (all_apply source.def (changes_of us) (after_changes source.def (unplaced u.changes) rows)) (sym (all_apply-append source.def (unplaced u.changes) (changes_of us) rows) ∙ apply) in
-      subst (IsCopied (after_units source.def (u ∷ us) rows)) (sym (with_changes-append source member (change_rows source.reg u) (flat_map (change_rows source.reg) us) t))
-      (units_copied us (after_changes source.def (unplaced u.changes) rows) (with_changes source member (change_rows source.reg u) t) fit.1 both.1
-      (changes_copied u.head.seq u.changes rows t fit.0 both.0 is))
+      subst (IsCopied (after_units source.def (u ∷ us) rows)) (sym (takes_both (change_rows source.reg u) (flat_map (change_rows source.reg) us) copied))
+      (units_copied us (after_changes source.def (unplaced u.changes) rows) (after_rows (change_rows source.reg u) copied) fit.1 both.1
+      (changes_copied u.head.seq u.changes rows copied fit.0 both.0 is))
 
-  module _ (seqs : AllByRecursion (λ u. (0 < u.head.seq) × (u.head.seq ≤ length source.log)) (units source.log)) (sound : UnitsAreSound source.def source.log) where
-    -- nothing
-    abbrev none : Table
-    none q = None
-
+  module _ (sound : UnitsAreSound source.def source.log) where
     -- no rows stand, and nothing is their copy
-    empty_copied : IsCopied empty none
+    empty_copied : IsCopied empty ((λ q. None), (λ q. 0))
     empty_copied = (
       subst (AllByRecursion (StandsUnderKey source.def)) (sym entries_empty) tt,
-      subst (λ (stored : Table). IsCopyOf member stored none) (sym (table_of_entries (entries empty) ∙ ap (table_from_rows key_spelling row_spelling) entries_empty)) (λ q. inl (refl, refl)),
+      subst (λ (stored : Table). IsCopyOf stored_as member (λ q. 0) stored (λ q. None)) (sym (table_of_entries (entries empty) ∙ ap (table_from_rows key_spelling row_spelling) entries_empty)) (λ q. inl (refl, refl)),
     )
-
-    -- up to a point stand the units between 0 and the point
-    units_from_first : (point : ℕ) → units_between 0 point source.log ≡ units_up_to point source.log
-    units_from_first point = filter_alike (λ u. nat_lt 0 u.head.seq && nat_le u.head.seq point) (λ u. nat_le u.head.seq point) (units source.log)
-        (all_weaker (λ (u : Unit). (0 < u.head.seq) × (u.head.seq ≤ length source.log)) (λ u. (nat_lt 0 u.head.seq && nat_le u.head.seq point) ≡ nat_le u.head.seq point) (units source.log) (λ u h. ap (λ (b : Bool). b && nat_le u.head.seq point) (lt-ltb 0 u.head.seq h.0)) seqs)
 
     -- the units up to a point apply one after another
     first_apply : (point : ℕ) → all_apply source.def (changes_of (units_up_to point source.log)) empty ≡ true
     first_apply point =
         let first = first_units point source.log in
-        let us = units_up_to point source.log in
-        (and_parts (all_apply source.def (changes_of us) empty) (all_apply source.def (changes_of first.0) (after_changes source.def (changes_of us) empty))
-        (sym (ap (λ (vs : List Unit). all_apply source.def (changes_of vs) empty) first.1
-        ∙ ap (λ (cs : List Change). all_apply source.def cs empty) (flat_map-append (λ (u : Unit). unplaced u.changes) us first.0)
-        ∙ all_apply-append source.def (changes_of us) (changes_of first.0) empty) ∙ sound.apply)).0
+        (apply_parts source.def (units_up_to point source.log) first.0 empty (subst (λ (us : List Unit). all_apply source.def (changes_of us) empty ≡ true) first.1 sound.apply)).0
 
-    -- the change rows up to a point make the rows at the point, and their copy
-    source_copied : (point : ℕ) → IsCopied (source_at source.def source.log point) (with_changes source member (changes_between source.log source.reg 0 point) none)
-    unfolding source_at changes_between
-    source_copied point = subst (λ (us : List Unit). IsCopied (after_units source.def (units_up_to point source.log) empty) (with_changes source member (flat_map (change_rows source.reg) us) none)) (sym (units_from_first point))
-        (units_copied (units_up_to point source.log) empty none (all_filter (UnitHas Fits) (λ u. nat_le u.head.seq point) (units source.log) sound.fit) (first_apply point) empty_copied)
+    -- the rows at a point stand under their keys
+    pub rows_stand : (point : ℕ) → RowsStand source.def (source_at source.def source.log point)
+    unfolding source_at
+    rows_stand point = (units_copied (units_up_to point source.log) empty ((λ q. None), (λ q. 0)) (all_filter (UnitHas Fits) (λ u. nat_le u.head.seq point) (units source.log) sound.fit) (first_apply point) empty_copied).0
 
-    -- so they make the copy at the point
-    copy_made : (point : ℕ) → copy_table source member point ≡ with_changes source member (changes_between source.log source.reg 0 point) none
-    unfolding user_copy
-    copy_made point =
-        let made = source_copied point in
-        let rows = source_at source.def source.log point in
-        one_copy member (rows_table rows) (copy_of member (entries rows)) (with_changes source member (changes_between source.log source.reg 0 point) none) (rows_copied member source.def rows made.0) made.1
+    module _ (low high : ℕ) (h : low ≤ high) (time : List ℕ → ℕ) where
+      -- the copy of the rows at the first point
+      abbrev first_copy : Timed
+      first_copy = (timed_copy stored_as time member (entries (source_at source.def source.log low)), time)
 
-    -- and those from one point on make the later copy of the earlier one
-    pub copy_taken : (low high : ℕ) → low ≤ high → with_changes source member (changes_between source.log source.reg low high) (copy_table source member low) ≡ copy_table source member high
-    copy_taken low high h =
-        let changes = changes_between source.log source.reg in
-        ap (with_changes source member (changes low high)) (copy_made low)
-        ∙ sym (with_changes-append source member (changes 0 low) (changes low high) none)
-        ∙ ap (λ (crs : List CdRow). with_changes source member crs none) (sym (changes_join source.log source.reg 0 low high zero-le h))
-        ∙ sym (copy_made high)
+      -- the change rows of the units between two points make the copy of the rows at the later one
+      interval_copied : IsCopied (source_at source.def source.log high) (after_rows (changes_between source.log source.reg low high) first_copy)
+      unfolding source_at changes_between
+      interval_copied =
+          let stand = rows_stand low in
+          let rows = source_at source.def source.log low in
+          subst (λ (after : Rows). IsCopied after (after_rows (flat_map (change_rows source.reg) (units_between low high source.log)) first_copy)) (sym (source_onward source.def low high source.log h))
+          (units_copied (units_between low high source.log) rows first_copy
+          (all_filter (UnitHas Fits) (λ u. nat_lt low u.head.seq && nat_le u.head.seq high) (units source.log) sound.fit)
+          (apply_parts source.def (units_up_to low source.log) (units_between low high source.log) empty (subst (λ (us : List Unit). all_apply source.def (changes_of us) empty ≡ true) (units_split low high source.log h) (first_apply high))).1
+          (stand, rows_copied stored_as member time source.def rows stand))
+
+      -- so the copy at the first point becomes the one at the later point
+      pub copy_taken : timed_changes stored_as source member times (changes_between source.log source.reg low high) (timed_copy stored_as time member (entries (source_at source.def source.log low)))
+          ≡ timed_copy stored_as (times_after source times (changes_between source.log source.reg low high) time) member (entries (source_at source.def source.log high))
+      copy_taken =
+          let rows = source_at source.def source.log high in
+          let copied = after_rows (changes_between source.log source.reg low high) first_copy in
+          one_copy stored_as member copied.1 (rows_table rows) copied.0 (timed_copy stored_as copied.1 member (entries rows)) interval_copied.1 (rows_copied stored_as member copied.1 source.def rows interval_copied.0)

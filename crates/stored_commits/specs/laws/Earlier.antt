@@ -33,7 +33,7 @@ rows_placed reg seq pos (Start table) = tt
 rows_placed reg seq pos (Stop table) = tt
 
 -- so are those of a change of any table
-placed_rows : (reg : Registration) (seq : ℕ) (placed : Placed) → AllByRecursion (IsPlacedAt seq placed.pos) (rows_of_placed reg seq placed)
+pub placed_rows : (reg : Registration) (seq : ℕ) (placed : Placed) → AllByRecursion (IsPlacedAt seq placed.pos) (rows_of_placed reg seq placed)
 placed_rows reg seq placed = pick (bytes_eq (table_of placed.change) reg.table)
   where
     pick : (own : Bool) → AllByRecursion (IsPlacedAt seq placed.pos) (cond own (rows_of reg seq placed.pos placed.change) [])

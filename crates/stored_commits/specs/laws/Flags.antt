@@ -68,20 +68,7 @@ module _ (flag : Bool) (world : World) (server : Server) (side : TargetSide) (nu
     -- the server holds what the world calls for there, once the state is put
     put_holds : (held : Contents) → Holds world server held → Holds world after (with_state number new_state held)
     unfolding tables first_table
-    put_holds held holds areas.Log n = holds areas.Log n
-    put_holds held holds areas.Source n = holds areas.Source n
-    put_holds held holds areas.Inflight n = holds areas.Inflight n
-    put_holds held holds areas.Head n = holds areas.Head n
-    put_holds held holds areas.Defs zero = holds areas.Defs 0
-    put_holds held holds areas.Defs (suc zero) = holds areas.Defs 1
-    put_holds held holds areas.Defs (suc (suc zero)) = holds areas.Defs 2
     put_holds held holds areas.Defs (suc (suc (suc zero))) = holds areas.Defs 3 ∙ ap (table_from_rows set_spelling target_set_spelling) (sym (definitions_stay server becomes defined))
-    put_holds held holds areas.Defs (suc (suc (suc (suc n)))) = holds areas.Defs (suc (suc (suc (suc n))))
-    put_holds held holds areas.Cd n = holds areas.Cd n
-    put_holds held holds areas.Uow n = holds areas.Uow n
-    put_holds held holds areas.Capture n = holds areas.Capture n
-    put_holds held holds areas.Prune n = holds areas.Prune n
-    put_holds held holds areas.Spill n = refl
     put_holds held holds areas.Target n = holds areas.Target n ∙ sym (place_stays (λ (s : TargetSide). option_map_or (λ member. option_map_or (λ source. member_table source member s.trail) (source_of world s.def member) no_rows) (slice_get s.def.members (n % 64)) no_rows) (λ s. refl) (n / 64))
     put_holds held holds areas.SetState zero =
         let key = b32 number in
@@ -98,6 +85,7 @@ module _ (flag : Bool) (world : World) (server : Server) (side : TargetSide) (nu
         ap (with_first no_rows) (put_other_table held areas.SetState 0 (suc (suc n)) (b32 number) (Some (state_spelling new_state)) (λ e. omega (arith, e)))
         ∙ holds areas.SetState (suc (suc n))
     put_holds held holds areas.Trail n = holds areas.Trail n ∙ sym (place_stays (λ (s : TargetSide). table_from_rows b64 entry_spelling (trail_rows world s)) (λ s. refl) n)
+    put_holds held holds a n = holds a n
 
 -- each server holds, as it is, what the world with another flag calls for
 pub others_hold_flag : OthersHoldAfterFlag

@@ -2,16 +2,19 @@
 use Rattle.std.proofs.Common.{◌≡◌, ℕ, Bool, true, false, not, ◌&&◌, ◌||◌, List, ◌++◌, length, Option, Some, None, inl, inr, refl, sym, ap, subst, ◌∙◌, IfSome, IsTrue, nat_lt, slice_get, bytes_eq}
 use Rattle.std.specs.List.{list_all}
 use Rattle.std.specs.Option.{option_map, option_map_or, option_and_then}
-use Rattle.std.specs.FinMap.{empty}
+use Rattle.std.specs.FinMap.{empty, entries}
 use Rattle.std.proofs.lemmas.Bool.{and_parts, false≢true}
 use Rattle.std.proofs.lemmas.Option.{none-some, same_Some}
-use Rattle.repl_model.specs.Words.{TableDef, Member, TargetColumn, TargetKind, table_named, all_places, columns_from, from_fits, filter_columns, kinds_fit, is_copy, is_replica, is_replica_set, RegistrationKeepsRules, MemberKeepsRules, are_among, places_rise, is_among, SourceTable, IsSound, KeepsTable, ServerKeepsRules, MemberIsSound, ReplicaMemberIsSound, KnownSetKeepsRules, read_only_sets, LogIsSound, table_after, all_apply, units, Registered, ServerTable, Server, World, KnownSet, tables_of, server_table, as_source, source_named, known_sets, at_place_in, known_stands, source_in, In, all_pass_from, at_one, at_each, found_in, image_in, in_filter, in_first, passes_at, seqs_within}
+use Rattle.repl_model.specs.Words.{TableDef, Member, TargetColumn, TargetKind, table_named, all_places, columns_from, from_fits, filter_columns, kinds_fit, is_copy, is_replica, is_replica_set, RegistrationKeepsRules, MemberKeepsRules, are_among, places_rise, is_among, SourceTable, IsSound, KeepsTable, ServerKeepsRules, MemberIsSound, ReplicaMemberIsSound, KnownSetKeepsRules, read_only_sets, LogIsSound, changes_between, source_at, table_after, all_apply, units, Registered, ServerTable, Server, World, KnownSet, tables_of, server_table, as_source, source_named, known_sets, at_place_in, known_stands, source_in, In, all_pass_from, at_one, at_each, found_in, image_in, in_filter, in_first, passes_at}
 use Rattle.repl_definitions.specs.declared.member.TargetKind.TheVariants.{UserCopy, PointInTime, BaseAggregate, ChangeAggregate, Ccd, Replica}
 use Rattle.stored_commits.specs.laws.Images.{KeepsCopies}
 use Rattle.stored_commits.specs.copies.laws.LoggedChanges.{units_fit}
-use Rattle.stored_commits.specs.laws.CopiedUnits.{UnitsAreSound, changes_of, copy_taken}
+use Rattle.stored_commits.specs.laws.CopiedUnits.{UnitsAreSound, changes_of, rows_stand, copy_taken}
 use Rattle.stored_commits.specs.laws.SourceLogs.{tables_are_found}
-use Rattle.stored_commits.specs.copies.ChangedCopies.{CopyTakesChanges}
+use Rattle.stored_commits.specs.laws.StoredCopies.{user_copy_is}
+use Rattle.stored_commits.specs.laws.Markers.{markers_onward, point_copy_is}
+use Rattle.stored_commits.specs.copies.ChangedCopies.{as_copy, timed_copy, timed_changes, with_changes, times_after, TimedCopyTakesChanges, CopyTakesChanges}
+use Rattle.stored_commits.specs.copies.PointCopies.{as_point, point_table, spelled_time, PointCopyTakesChanges}
 
 -- ---- the source
 
@@ -130,8 +133,29 @@ copy_is_sound world k place member source sound i at named copies = record {
       | inr all ↦ absurd (copies_no_replica member.kind copies (at_one (ReplicaMemberIsSound k) k.at_target.def.members member all.0 stands).0)
     ]
 
--- the stored copy of a member takes the changes of its source
+-- a stored copy of a member takes the changes of its source, with the times of keys
+pub timed_copies_take_changes : TimedCopyTakesChanges
+timed_copies_take_changes world k place member source low high stored_as times time sound i at named copies h =
+    let is = copy_is_sound world k place member source sound i at named copies in
+    copy_taken stored_as source member is.keeps times is.log low high h time
+
+-- so does a user copy, in which no times are stored
 pub copies_take_changes : CopyTakesChanges
 copies_take_changes world k place member source low high sound i at named copies h =
+    let changes = changes_between source.log source.reg low high in
+    ap (with_changes source member changes) (user_copy_is source member low (λ q. 0))
+    ∙ timed_copies_take_changes world k place member source low high as_copy (λ seq. 0) (λ q. 0) sound i at named copies h
+    ∙ sym (user_copy_is source member high (times_after source (λ seq. 0) changes (λ q. 0)))
+
+-- the stored table of a point-in-time copy is a stored copy of the rows of its source
+point_table_is : (source : SourceTable) (member : Member) (base point : ℕ) → CopyIsSound source member → point_table source member base point ≡ timed_copy as_point (spelled_time source base point) member (entries (source_at source.def source.log point))
+point_table_is source member base point is = point_copy_is source member is.keeps is.log.fit base point (rows_stand as_point source member is.keeps (λ seq. 0) is.log point)
+
+-- so it takes the changes of its source too, each at the time of its unit
+pub point_copies_take_changes : PointCopyTakesChanges
+point_copies_take_changes world k place member source base low high times sound i at named copies l h have =
     let is = copy_is_sound world k place member source sound i at named copies in
-    copy_taken source member is.keeps (seqs_within source.log) is.log low high h
+    ap (timed_changes as_point source member times (changes_between source.log source.reg low high)) (point_table_is source member base low is)
+    ∙ timed_copies_take_changes world k place member source low high as_point times (spelled_time source base low) sound i at named copies h
+    ∙ ap (λ (time : List ℕ → ℕ). timed_copy as_point time member (entries (source_at source.def source.log high))) (markers_onward source times base low high l h have)
+    ∙ sym (point_table_is source member base high is)

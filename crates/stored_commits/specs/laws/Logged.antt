@@ -1,11 +1,11 @@
 -- A server with further records of its log holds what the world calls for there.
-use Rattle.std.proofs.Common.{zero, suc, List, refl, sym, ap, ◌∙◌, bytes_eq}
-use Rattle.world_store.specs.Words.{tables, with_first, first_table, no_rows, Holds, tables_stay}
-use Rattle.repl_model.specs.Words.{LogRecord, Server, World, NumbersAreSound, with_more, grown, at_one, found_in}
+use Rattle.std.proofs.Common.{◌≡◌, ℕ, zero, true, false, List, sym, ap, ◌∙◌, bytes_eq}
+use Rattle.world_store.specs.Words.{b64, log_spelling, in_flight_key_spelling, in_flight_spelling, single_spelling, head_spelling, table_from_rows, log_rows, in_flight_rows, head_rows, source_table, tables, first_table, shown, Becomes, StaysShown, becomes_holds, tables_stay}
+use Rattle.repl_model.specs.Words.{Area, LogRecord, Server, World, NumbersAreSound, with_more, grown, at_one, found_in}
 use Rattle.repl_types.specs.declared.area.Area.TheVariants as areas
 use Rattle.keep_core.specs.Contents.{Contents}
 use Rattle.world_commits.specs.logs.laws.Servers.{longer_world, world_grows}
-use Rattle.stored_commits.specs.logs.LongerServers.{Logged, StillHolds, LoggedHolds, OthersHold}
+use Rattle.stored_commits.specs.logs.LongerServers.{is_of_log, StillHolds, LoggedHolds, OthersHold}
 use Rattle.stored_commits.specs.laws.Sides.{all_stay}
 use Rattle.stored_commits.specs.laws.LoggedCaptures.{changes_stay, uow_stays, capture_stays}
 
@@ -16,31 +16,42 @@ still_holds name more world server held sound i holds a n =
     ∙ sym (tables_stay world (longer_world name more world) server (all_stay name more world sound server i) a n)
     ∙ ap (λ (w : World). tables w server a n) (sym (world_grows name more world))
 
--- contents after further records hold what the world calls for, if those before held what it called for
-pub logged_holds : (more : List LogRecord) (world : World) (server : Server) (before now : Contents) → NumbersAreSound server → Holds world server before → Logged more server before now → Holds world (with_more more server) now
+-- The contents of a server become what a world calls for at the server with further records, if so do the log, the tables
+-- of the source, what is in flight and the end of the log, and the other tables are as they were.
+pub logged_becomes : (more : List LogRecord) (world : World) (server : Server) (before now : Contents)
+    → now areas.Log 0 ≡ table_from_rows b64 log_spelling (log_rows (with_more more server))
+    → ((n : ℕ) → now areas.Source n ≡ source_table (with_more more server) n)
+    → now areas.Inflight 0 ≡ table_from_rows in_flight_key_spelling in_flight_spelling (in_flight_rows (with_more more server))
+    → shown server areas.Head 0 (now areas.Head 0) ≡ table_from_rows single_spelling head_spelling (head_rows (with_more more server))
+    → ((a : Area) (n : ℕ) → is_of_log a n ≡ false → now a n ≡ before a n)
+    → Becomes is_of_log world (with_more more server) before now
 unfolding tables first_table
-logged_holds more world server before now numbers holds logged areas.Log zero = logged.log
-logged_holds more world server before now numbers holds logged areas.Log (suc n) = logged.others areas.Log (suc n) refl ∙ holds areas.Log (suc n)
-logged_holds more world server before now numbers holds logged areas.Source n = logged.source n
-logged_holds more world server before now numbers holds logged areas.Inflight zero = logged.in_flight
-logged_holds more world server before now numbers holds logged areas.Inflight (suc n) = logged.others areas.Inflight (suc n) refl ∙ holds areas.Inflight (suc n)
-logged_holds more world server before now numbers holds logged areas.Head zero = logged.head
-logged_holds more world server before now numbers holds logged areas.Head (suc n) = ap (with_first no_rows) (logged.others areas.Head (suc n) refl) ∙ holds areas.Head (suc n)
-logged_holds more world server before now numbers holds logged areas.Defs n = logged.others areas.Defs n refl ∙ holds areas.Defs n
-logged_holds more world server before now numbers holds logged areas.Cd n = logged.others areas.Cd n refl ∙ holds areas.Cd n ∙ sym (changes_stay more server numbers n)
-logged_holds more world server before now numbers holds logged areas.Uow n = logged.others areas.Uow n refl ∙ holds areas.Uow n ∙ sym (uow_stays more server numbers n)
-logged_holds more world server before now numbers holds logged areas.Capture n = ap (with_first (first_table server areas.Capture n)) (logged.others areas.Capture n refl) ∙ holds areas.Capture n ∙ sym (capture_stays more server numbers n)
-logged_holds more world server before now numbers holds logged areas.Prune n = ap (with_first (first_table server areas.Prune n)) (logged.others areas.Prune n refl) ∙ holds areas.Prune n
-logged_holds more world server before now numbers holds logged areas.Spill n = refl
-logged_holds more world server before now numbers holds logged areas.Target n = logged.others areas.Target n refl ∙ holds areas.Target n
-logged_holds more world server before now numbers holds logged areas.SetState n = ap (with_first (first_table server areas.SetState n)) (logged.others areas.SetState n refl) ∙ holds areas.SetState n
-logged_holds more world server before now numbers holds logged areas.Trail n = logged.others areas.Trail n refl ∙ holds areas.Trail n
+logged_becomes more world server before now log source in_flight head others = record { has = table_is; others = others }
+  where
+    table_is : (a : Area) (n : ℕ) → is_of_log a n ≡ true → shown (with_more more server) a n (now a n) ≡ tables world (with_more more server) a n
+    table_is areas.Log zero e = log
+    table_is areas.Source n e = source n
+    table_is areas.Inflight zero e = in_flight
+    table_is areas.Head zero e = head
+    table_is a n e = absurd cc
+
+-- the tables that a longer log leaves alone show what is called for at the server with it
+logged_stay : (more : List LogRecord) (world : World) (server : Server) → NumbersAreSound server → (a : Area) (n : ℕ) → is_of_log a n ≡ false → StaysShown world server (with_more more server) a n
+unfolding tables first_table
+logged_stay more world server numbers areas.Log zero e t h = absurd cc
+logged_stay more world server numbers areas.Source n e t h = absurd cc
+logged_stay more world server numbers areas.Inflight zero e t h = absurd cc
+logged_stay more world server numbers areas.Head zero e t h = absurd cc
+logged_stay more world server numbers areas.Cd n e t h = h ∙ sym (changes_stay more server numbers n)
+logged_stay more world server numbers areas.Uow n e t h = h ∙ sym (uow_stays more server numbers n)
+logged_stay more world server numbers areas.Capture n e t h = h ∙ sym (capture_stays more server numbers n)
+logged_stay more world server numbers a n e t h = h
 
 -- a server with further records holds what the world with the longer log calls for
 pub longer_holds : LoggedHolds
-longer_holds name more world server before now sound named holds logged =
+longer_holds name more world server before now sound named holds becomes =
     let i = (found_in (λ (a : Server). bytes_eq name a.name) world server named).0 in
-    logged_holds more (grown name more world) server before now (at_one NumbersAreSound world server sound.numbers i) (still_holds name more world server before sound i holds) logged
+    becomes_holds is_of_log (grown name more world) server (with_more more server) (logged_stay more (grown name more world) server (at_one NumbersAreSound world server sound.numbers i)) before now (still_holds name more world server before sound i holds) becomes
 
 -- the other servers hold what it calls for, as they are
 pub others_hold_longer : OthersHold

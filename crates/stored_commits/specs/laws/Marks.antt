@@ -61,18 +61,7 @@ module _ (point seq : SourceSide → ℕ) (world : World) (server : Server) (sid
     -- the server holds what the world calls for there, once the mark is put
     put_holds : (held : Contents) → Holds world server held → Holds world after (put_at held areas.Prune 0 (b32 number) (Some (mark_spelling new_mark)))
     unfolding tables first_table
-    put_holds held holds areas.Log n = holds areas.Log n
-    put_holds held holds areas.Source n = holds areas.Source n
-    put_holds held holds areas.Inflight n = holds areas.Inflight n
-    put_holds held holds areas.Head n = holds areas.Head n
-    put_holds held holds areas.Defs zero = holds areas.Defs 0
-    put_holds held holds areas.Defs (suc zero) = holds areas.Defs 1
     put_holds held holds areas.Defs (suc (suc zero)) = holds areas.Defs 2 ∙ ap (table_from_rows set_spelling source_set_spelling) (sym definitions_stay)
-    put_holds held holds areas.Defs (suc (suc (suc zero))) = holds areas.Defs 3
-    put_holds held holds areas.Defs (suc (suc (suc (suc n)))) = holds areas.Defs (suc (suc (suc (suc n))))
-    put_holds held holds areas.Cd n = holds areas.Cd n
-    put_holds held holds areas.Uow n = holds areas.Uow n
-    put_holds held holds areas.Capture n = holds areas.Capture n
     put_holds held holds areas.Prune zero =
         let key = b32 number in
         let mark = Some (mark_spelling new_mark) in
@@ -88,10 +77,7 @@ module _ (point seq : SourceSide → ℕ) (world : World) (server : Server) (sid
     put_holds held holds areas.Prune (suc (suc (suc n))) =
         ap (with_first no_rows) (put_other_table held areas.Prune 0 (suc (suc (suc n))) (b32 number) (Some (mark_spelling new_mark)) (λ e. omega (arith, e)))
         ∙ holds areas.Prune (suc (suc (suc n)))
-    put_holds held holds areas.Spill n = refl
-    put_holds held holds areas.Target n = holds areas.Target n
-    put_holds held holds areas.SetState n = holds areas.SetState n
-    put_holds held holds areas.Trail n = holds areas.Trail n
+    put_holds held holds a n = holds a n
 
 -- The source of a read-only set with another log and another mark and signal of the set holds what a world calls for
 -- there, once the mark is put, if it held it with those before.

@@ -25,10 +25,10 @@ others_hold_signal world k other held sound i j apart holds =
 
 -- and the source of the set, once its log has the signal and the mark is put
 pub signal_holds : SignalHolds
-signal_holds world k number before now sound i is holds logged =
+signal_holds world k number before now sound i is holds becomes =
     subst (λ (n : ℕ). Holds (after_action world k signals) (with_source_side k.at_source.def.id (λ side. record side { signal = n }) (with_more more k.source)) (with_mark number (record { mark = k.at_source.mark; signal = seq }) now)) (sym (length-append k.source.log more))
     (marked_holds (λ side. side.mark) (λ side. seq) world (after_action world k signals) k (with_more more k.source).log number now sound i is
-    (after_signal world k (with_more more k.source) now sound i (longer_holds k.source.name more world k.source before now sound (source_is_named world k i) holds logged)))
+    (after_signal world k (with_more more k.source) now sound i (longer_holds k.source.name more world k.source before now sound (source_is_named world k i) holds becomes)))
   where
     more : List LogRecord
     more = signal_records k.at_source.def k.source.log

@@ -1,15 +1,15 @@
 -- The tables of a refresh or a block of a set, from what is put at its target.
-use Rattle.std.proofs.Common.{◌≡◌, ℕ, zero, suc, ◌+◌, ◌*◌, ◌<◌, ◌≤◌, ◌^◌, Bool, true, false, cond, List, [], ◌∷◌, length, map, Option, Some, None, inl, inr, refl, sym, ap, ap₂, subst, ◌∙◌, arith, ◌/◌, ◌%◌, slice_get, true≢false, eqb-true}
+use Rattle.std.proofs.Common.{◌≡◌, ℕ, zero, suc, ◌+◌, ◌*◌, ◌<◌, ◌≤◌, ◌^◌, Bool, true, false, cond, List, [], ◌∷◌, length, map, Option, Some, None, inl, inr, refl, sym, ap, ap₂, subst, ◌∙◌, arith, ◌/◌, ◌%◌, slice_get, eqb-true}
 use Rattle.std.specs.List.{enumerate_from}
 use Rattle.std.specs.Option.{option_map_or, option_or}
 use Rattle.std.proofs.lemmas.List.{length-map, map-append}
 use Rattle.std.proofs.lemmas.Option.{none-some, slice_get_cases}
-use Rattle.world_store.specs.Words.{b32, b64, member_key_spelling, state_spelling, last_number_spelling, entry_spelling, MemberKey, LastNumber, SetState, TrailEntry, table_from_rows, numbered_push, no_rows, target_table, tables, with_first, first_table, state_of, trail_entry, trail_rows, source_time, set_state_rows, numbered_members, shown, Holds}
+use Rattle.world_store.specs.Words.{b32, b64, member_key_spelling, state_spelling, last_number_spelling, entry_spelling, MemberKey, LastNumber, SetState, TrailEntry, table_from_rows, numbered_push, no_rows, target_table, tables, with_first, first_table, state_of, trail_entry, trail_rows, source_time, set_state_rows, numbered_members, shown, Holds, Becomes}
 use Rattle.repl_model.specs.Words.{Area, Member, SetDef, Entry, refresh, block, base_of, TargetSide, Server, World, KnownSet, known_sets, ServerKeepsRules, read_only_sets, IsSound, In, at_one, id_itself}
 use Rattle.repl_types.specs.declared.area.Area.TheVariants as areas
 use Rattle.keep_core.specs.Contents.{Contents, Table, same_key, set_key}
 use Rattle.world_commits.specs.actions.laws.Signals.{set_stands}
-use Rattle.stored_commits.specs.actions.ActedServers.{HasTargetNumber, is_of_step, Acted, with_step, with_refresh}
+use Rattle.stored_commits.specs.actions.ActedServers.{HasTargetNumber, is_of_step, with_step, with_refresh}
 use Rattle.stored_commits.specs.actions.StoredSteps.{NoneNumbered, PutsStep, HasTargets, refreshed_state, block_state, RefreshIsStored, BlockIsStored}
 use Rattle.stored_commits.specs.actions.laws.Numbered.{large_in_order}
 use Rattle.stored_commits.specs.actions.laws.ShortTrails.{trail_short}
@@ -129,7 +129,7 @@ module _ (world after_it : World) (k : KnownSet) (number : ℕ) (change : Target
     -- what is put makes the tables of the step
     makes_step : (before now : Contents) (state : SetState) → Holds world k.target before → NoneNumbered k.at_target.def → state_of world side ≡ state
         → PutsStep number state (length k.at_target.trail) (trail_entry world k.at_target.def entry) before now → HasTargets k number entry now
-        → Acted number after_it target before now
+        → Becomes (is_of_step number) after_it target before now
     unfolding tables
     makes_step before now state holds none is_state puts has = record { has = table_is; others = puts.others }
       where
@@ -137,28 +137,18 @@ module _ (world after_it : World) (k : KnownSet) (number : ℕ) (change : Target
         parts n e = omega arith
 
         table_is : (a : Area) (n : ℕ) → is_of_step number a n ≡ true → shown target a n (now a n) ≡ tables after_it target a n
-        table_is areas.Log n e = absurd (true≢false (sym e))
-        table_is areas.Source n e = absurd (true≢false (sym e))
-        table_is areas.Inflight n e = absurd (true≢false (sym e))
-        table_is areas.Head n e = absurd (true≢false (sym e))
-        table_is areas.Defs n e = absurd (true≢false (sym e))
-        table_is areas.Cd n e = absurd (true≢false (sym e))
-        table_is areas.Uow n e = absurd (true≢false (sym e))
-        table_is areas.Capture n e = absurd (true≢false (sym e))
-        table_is areas.Prune n e = absurd (true≢false (sym e))
-        table_is areas.Spill n e = absurd (true≢false (sym e))
         table_is areas.Target n e = subst (λ (m : ℕ). now areas.Target m ≡ tables after_it target areas.Target m) (parts n (eqb-true (n / 64) number e)) (targets_are now has (n % 64) (omega arith))
         table_is areas.SetState zero e = states_are before now state holds is_state puts.state_put
         table_is areas.SetState (suc zero) e = numbers_are before now holds none puts.numbers
-        table_is areas.SetState (suc (suc n)) e = absurd (true≢false (sym e))
         table_is areas.Trail n e = subst (λ (m : ℕ). now areas.Trail m ≡ tables after_it target areas.Trail m) (sym (eqb-true n number e)) (trail_is before now holds puts.entry_put)
+        table_is a n e = absurd cc
 
 -- ---- refreshes and blocks
 
 -- what is put at a refresh makes the tables of a step
 pub refresh_is_stored : RefreshIsStored
 refresh_is_stored world k number p q before now sound i is after_sound holds none puts has =
-    subst (λ (sides : List TargetSide). Acted number (with_refresh world k entry) (record k.target { target_sets = sides }) before now) (sym (made_twice (by_name def cleared) (by_name def (longer entry)) k.target.target_sets))
+    subst (λ (sides : List TargetSide). Becomes (is_of_step number) (with_refresh world k entry) (record k.target { target_sets = sides }) before now) (sym (made_twice (by_name def cleared) (by_name def (longer entry)) k.target.target_sets))
     (makes_step world (with_refresh world k entry) k number change false entry sound i is (refresh_changes def entry) becomes
     (same_after_refresh world k entry (record k.target { target_sets = map change k.target.target_sets })) before now
     (refreshed_state p (source_time world def p) (length k.at_target.trail)) holds none (longer_state_is world k.at_target false entry (not_replica world k i)) puts has)

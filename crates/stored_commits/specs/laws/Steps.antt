@@ -1,12 +1,12 @@
 -- What the target of a set holds after a block or a refresh.
 use Rattle.std.proofs.Common.{◌≡◌, ◌≢◌, ℕ, zero, suc, Bool, true, false, cond, List, [], ◌∷◌, ◌++◌, map, Option, refl, sym, ap, subst, ◌∙◌, ◌/◌, ◌%◌, ◌==◌, slice_get, true≢false, eq-eqb}
 use Rattle.std.specs.Option.{option_map_or}
-use Rattle.world_store.specs.Words.{b64, set_spelling, entry_spelling, table_from_rows, target_set_rows, source_of, trail_rows, no_rows, member_table, tables, with_first, first_table, Holds}
+use Rattle.world_store.specs.Words.{b64, set_spelling, entry_spelling, table_from_rows, target_set_rows, source_of, trail_rows, no_rows, member_table, tables, first_table, Holds, Becomes, StaysShown, becomes_holds}
 use Rattle.repl_model.specs.Words.{Area, target_set_spelling, SetDef, Entry, TargetSide, Server, World, KnownSet, same_set, known_sets, ServerKeepsRules, read_only_sets, IsSound, with_entry, refreshed, In, at_one}
 use Rattle.repl_types.specs.declared.area.Area.TheVariants as areas
 use Rattle.keep_core.specs.Contents.{Contents}
 use Rattle.world_commits.specs.actions.laws.Signals.{set_stands}
-use Rattle.stored_commits.specs.actions.ActedServers.{HasTargetNumber, Acted, with_step, with_refresh, BlockHolds, RefreshHolds, OthersHoldAfterStep}
+use Rattle.stored_commits.specs.actions.ActedServers.{HasTargetNumber, is_of_step, with_step, with_refresh, BlockHolds, RefreshHolds, OthersHoldAfterStep}
 use Rattle.stored_commits.specs.laws.OneRow.{OneChanges, one_changes, places_stay}
 use Rattle.stored_commits.specs.laws.TargetRows.{definitions_stay}
 use Rattle.stored_commits.specs.laws.ActedWorlds.{same_tables}
@@ -44,39 +44,15 @@ module _ (world : World) (server : Server) (sides : List TargetSide) (number : �
         ap (λ (o : Option TargetSide). option_map_or (λ side. table_from_rows b64 entry_spelling (trail_rows world side)) o no_rows)
         (places n (apart n e))
 
-    module _ (before now : Contents) (holds : Holds world server before) (acted : Acted number world after before now) where
-      -- each target of the server has what the world calls for
-      target_holds : (n : ℕ) (b : Bool) → (n / 64 == number) ≡ b → now areas.Target n ≡ tables world after areas.Target n
-      target_holds n true e = acted.has areas.Target n e
-      target_holds n false e = acted.others areas.Target n e ∙ holds areas.Target n ∙ sym (targets_stay n e)
-
-      -- so has each trail
-      trail_holds : (n : ℕ) (b : Bool) → (n == number) ≡ b → now areas.Trail n ≡ tables world after areas.Trail n
-      trail_holds n true e = acted.has areas.Trail n e
-      trail_holds n false e = acted.others areas.Trail n e ∙ holds areas.Trail n ∙ sym (trail_stays n e)
-
-      -- and each table
-      acted_holds : Holds world after now
-      unfolding tables first_table
-      acted_holds areas.Log n = acted.others areas.Log n refl ∙ holds areas.Log n
-      acted_holds areas.Source n = acted.others areas.Source n refl ∙ holds areas.Source n
-      acted_holds areas.Inflight n = acted.others areas.Inflight n refl ∙ holds areas.Inflight n
-      acted_holds areas.Head n = ap (with_first (first_table server areas.Head n)) (acted.others areas.Head n refl) ∙ holds areas.Head n
-      acted_holds areas.Defs zero = acted.others areas.Defs 0 refl ∙ holds areas.Defs 0
-      acted_holds areas.Defs (suc zero) = acted.others areas.Defs 1 refl ∙ holds areas.Defs 1
-      acted_holds areas.Defs (suc (suc zero)) = acted.others areas.Defs 2 refl ∙ holds areas.Defs 2
-      acted_holds areas.Defs (suc (suc (suc zero))) = acted.others areas.Defs 3 refl ∙ holds areas.Defs 3 ∙ ap (table_from_rows set_spelling target_set_spelling) (sym definitions)
-      acted_holds areas.Defs (suc (suc (suc (suc n)))) = acted.others areas.Defs (suc (suc (suc (suc n)))) refl ∙ holds areas.Defs (suc (suc (suc (suc n))))
-      acted_holds areas.Cd n = acted.others areas.Cd n refl ∙ holds areas.Cd n
-      acted_holds areas.Uow n = acted.others areas.Uow n refl ∙ holds areas.Uow n
-      acted_holds areas.Capture n = ap (with_first (first_table server areas.Capture n)) (acted.others areas.Capture n refl) ∙ holds areas.Capture n
-      acted_holds areas.Prune n = ap (with_first (first_table server areas.Prune n)) (acted.others areas.Prune n refl) ∙ holds areas.Prune n
-      acted_holds areas.Spill n = refl
-      acted_holds areas.Target n = target_holds n (n / 64 == number) refl
-      acted_holds areas.SetState zero = acted.has areas.SetState 0 refl
-      acted_holds areas.SetState (suc zero) = acted.has areas.SetState 1 refl
-      acted_holds areas.SetState (suc (suc n)) = ap (with_first no_rows) (acted.others areas.SetState (suc (suc n)) refl) ∙ holds areas.SetState (suc (suc n))
-      acted_holds areas.Trail n = trail_holds n (n == number) refl
+    -- the tables that a step of the set with the number leaves alone show what is called for at the server with those rows
+    step_stays : (a : Area) (n : ℕ) → is_of_step number a n ≡ false → StaysShown world server after a n
+    unfolding tables first_table
+    step_stays areas.Defs (suc (suc (suc zero))) e t h = h ∙ ap (table_from_rows set_spelling target_set_spelling) (sym definitions)
+    step_stays areas.Target n e t h = h ∙ sym (targets_stay n e)
+    step_stays areas.SetState zero e t h = absurd cc
+    step_stays areas.SetState (suc zero) e t h = absurd cc
+    step_stays areas.Trail n e t h = h ∙ sym (trail_stays n e)
+    step_stays a n e t h = h
 
 -- ---- a set's row
 
@@ -97,10 +73,11 @@ one_set_changes world k number change sound i is changes =
 
 -- The target of a set holds what the world calls for there after a change of the set's row, with the tables of a step.
 step_holds : (world after_it : World) (k : KnownSet) (number : ℕ) (change : TargetSide → TargetSide) (before now : Contents) → IsSound world → In k (read_only_sets (known_sets world)) → HasTargetNumber k number → ChangesSet k.at_target.def change
-    → Holds after_it k.target before → Acted number after_it (record k.target { target_sets = map change k.target.target_sets }) before now
+    → Holds after_it k.target before → Becomes (is_of_step number) after_it (record k.target { target_sets = map change k.target.target_sets }) before now
     → Holds after_it (record k.target { target_sets = map change k.target.target_sets }) now
-step_holds world after_it k number change before now sound i is changes holds acted =
-    acted_holds after_it k.target (map change sides) number (definitions_stay k.target change changes.defined) (places_stay change sides number k.at_target one) before now holds acted
+step_holds world after_it k number change before now sound i is changes holds becomes =
+    becomes_holds (is_of_step number) after_it k.target (record k.target { target_sets = map change sides })
+    (step_stays after_it k.target (map change sides) number (definitions_stay k.target change changes.defined) (places_stay change sides number k.at_target one)) before now holds becomes
   where
     sides : List TargetSide
     sides = k.target.target_sets
@@ -165,13 +142,13 @@ others_hold_step world k entry other held holds = (after_step world k entry othe
 
 -- the target of the set holds it after a block, with the tables of the block
 pub block_holds : BlockHolds
-block_holds world k number entry before now sound i is holds acted =
-    step_holds world (with_step world k entry) k number (by_name k.at_target.def (longer entry)) before now sound i is (entry_changes k.at_target.def entry) (after_step world k entry k.target before holds) acted
+block_holds world k number entry before now sound i is holds becomes =
+    step_holds world (with_step world k entry) k number (by_name k.at_target.def (longer entry)) before now sound i is (entry_changes k.at_target.def entry) (after_step world k entry k.target before holds) becomes
 
 -- and after a refresh, with those of the refresh
 pub refresh_holds : RefreshHolds
-refresh_holds world k number entry before now sound i is holds acted =
+refresh_holds world k number entry before now sound i is holds becomes =
     let twice = made_twice (by_name k.at_target.def cleared) (by_name k.at_target.def (longer entry)) k.target.target_sets in
-    subst (λ (sides : List TargetSide). Acted number (with_refresh world k entry) (record k.target { target_sets = sides }) before now → Holds (with_refresh world k entry) (record k.target { target_sets = sides }) now) (sym twice)
+    subst (λ (sides : List TargetSide). Becomes (is_of_step number) (with_refresh world k entry) (record k.target { target_sets = sides }) before now → Holds (with_refresh world k entry) (record k.target { target_sets = sides }) now) (sym twice)
     (step_holds world (with_refresh world k entry) k number (λ side. by_name k.at_target.def cleared (by_name k.at_target.def (longer entry) side)) before now sound i is (refresh_changes k.at_target.def entry) (after_refresh world k entry k.target before holds))
-    acted
+    becomes

@@ -1,17 +1,21 @@
 -- Which actions of a read-only set may be made, and that a world stays sound with each of these.
-use Rattle.std.specs.Prelude.{◌≡◌, ℕ, ◌+◌, ◌<◌, ◌≤◌, false, IsTrue, length, None, ⊤}
+use Rattle.std.specs.Prelude.{◌≡◌, ℕ, ◌+◌, ◌<◌, ◌≤◌, false, IsTrue, length, Option, None, ⊤}
 use Rattle.repl_model.specs.Trails.{synchpoint, base_of}
 use Rattle.repl_model.specs.World.{World, KnownSet, known_sets}
 use Rattle.repl_model.specs.SoundLogs.{log_limit}
 use Rattle.repl_model.specs.SoundDefinitions.{read_only_sets}
 use Rattle.repl_model.specs.Sound.{is_seq, IsSound}
-use Rattle.repl_model.specs.NextActions.{gap_of, is_new, Action, signals, refreshes, blocks, reports, idles, refuses, next_action}
+use Rattle.repl_model.specs.NextActions.{gap_of, is_new, Action, signals, refreshes, blocks, reports, idles, refuses, next_action_within}
 use Rattle.repl_model.specs.AfterActions.{signal_records, after_action}
 use Rattle.lists.specs.laws.Members.{In}
 
--- the log of a set's source has room for its signal
+-- how long the log of a set's source is with the set's signal
+abbrev pub length_signalled : KnownSet → ℕ
+length_signalled k = length k.source.log + length (signal_records k.at_source.def k.source.log)
+
+-- the log has room for the signal
 abbrev pub HasRoom : KnownSet → Type 0
-HasRoom k = length k.source.log + length (signal_records k.at_source.def k.source.log) ≤ log_limit
+HasRoom k = length_signalled k ≤ log_limit
 
 -- a refresh may be made: the set's last signal is later than its last refresh
 abbrev pub MayRefresh : KnownSet → Type 0
@@ -39,6 +43,7 @@ MayMake k (refuses place) = ⊤
 abbrev pub ActionsSound : Type 0
 ActionsSound = (world : World) (k : KnownSet) (action : Action) → IsSound world → In k (read_only_sets (known_sets world)) → MayMake k action → IsSound (after_action world k action)
 
--- what such a set does next may be made, if the log of its source has room for a signal, should that be the action
+-- What a read-only set does next, with any end, may be made, if the log of its source has room for a signal, should that be
+-- the action.
 abbrev pub NextMayBeMade : Type 0
-NextMayBeMade = (world : World) (k : KnownSet) → IsSound world → In k (read_only_sets (known_sets world)) → (next_action k ≡ signals → HasRoom k) → MayMake k (next_action k)
+NextMayBeMade = (end : Option ℕ) (k : KnownSet) → (next_action_within end k ≡ signals → HasRoom k) → MayMake k (next_action_within end k)

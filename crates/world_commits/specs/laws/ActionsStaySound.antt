@@ -1,9 +1,9 @@
 -- A world stays sound with an action of a read-only set that may be made, and what is next may be.
 use Rattle.std.proofs.Common.{◌≡◌, ℕ, ◌+◌, List, ◌++◌, length, Some, refl, sym, subst, IsTrue, length-append}
-use Rattle.repl_model.specs.Words.{LogRecord, SetDef, World, KnownSet, known_sets, read_only_sets, is_seq_or_zero, NumbersAreSound, TrailIsSound, IsSound, with_more, grown, Action, signals, refreshes, blocks, reports, idles, refuses, next_action, source_tables, signal_records, after_action, In, at_one, source_in}
+use Rattle.repl_model.specs.Words.{LogRecord, SetDef, World, KnownSet, known_sets, read_only_sets, is_seq_or_zero, TrailIsSound, IsSound, with_more, grown, Action, signals, refreshes, blocks, reports, idles, refuses, next_action_within, source_tables, signal_records, after_action, In, at_one}
 use Rattle.world_commits.specs.actions.StaysSound.{HasRoom, MayMake, ActionsSound, NextMayBeMade}
 use Rattle.world_commits.specs.actions.Flags.{FlagsSound}
-use Rattle.world_commits.specs.actions.laws.Signals.{set_stands, signal_is}
+use Rattle.world_commits.specs.actions.laws.Signals.{signal_is}
 use Rattle.world_commits.specs.laws.SetRows.{source_side_sound, target_side_sound, report_sound}
 use Rattle.world_commits.specs.laws.Trails.{refresh_sound, block_sound, next_refresh_may, block_is_next, next_block_may}
 use Rattle.world_commits.specs.laws.OwnUnits.{own_is_seq}
@@ -45,12 +45,12 @@ actions_sound world k (refuses place) sound i may = sound
 
 -- what is next may be made
 pub next_may : NextMayBeMade
-next_may world k sound i room = by_action (next_action k) refl
+next_may end k room = by_action (next_action_within end k) refl
   where
-    by_action : (a : Action) → next_action k ≡ a → MayMake k a
+    by_action : (a : Action) → next_action_within end k ≡ a → MayMake k a
     by_action signals is = room is
-    by_action refreshes is = next_refresh_may k is
-    by_action (blocks upto) is = next_block_may k upto (at_one NumbersAreSound world k.source sound.numbers (source_in world k (set_stands world k i))) (block_is_next k upto is)
+    by_action refreshes is = next_refresh_may end k is
+    by_action (blocks upto) is = next_block_may end k upto (block_is_next end k upto is)
     by_action reports is = tt
     by_action idles is = tt
     by_action (refuses place) is = tt

@@ -1,9 +1,8 @@
 -- The last commit of a log, and the units that a block takes.
-use Rattle.std.proofs.Common.{◌≡◌, ℕ, ◌<◌, ◌≤◌, Bool, true, ◌&&◌, ◌⊎◌, inl, inr, List, [], ◌∷◌, map, Option, Some, refl, sym, ap, subst, arith, ◌==◌, nat_lt, nat_le, filter, fold}
+use Rattle.std.proofs.Common.{◌≡◌, ℕ, ◌<◌, ◌≤◌, true, ◌&&◌, ◌⊎◌, inl, inr, List, [], ◌∷◌, map, Option, None, Some, refl, sym, subst, ◌∙◌, arith, ◌==◌, nat_lt, nat_le, filter, fold}
 use Rattle.std.specs.List.{enumerate_from, last_or}
-use Rattle.std.specs.Option.{option_map_or}
 use Rattle.std.proofs.lemmas.Bool.{and_parts, and_from, or_cases, lt-ltb, le-leb, ltb-true, leb-true, eqb-true, eq-eqb}
-use Rattle.repl_model.specs.Words.{LogRecord, Unit, SetDef, units, last_seq, last_commit, units_between, is_seq, is_seq_or_zero, is_within, first_cut, In, any_from, some_passes, in_filter, kept_by, in_map, numbered_in}
+use Rattle.repl_model.specs.Words.{LogRecord, Unit, SetDef, units, last_seq, last_commit, units_between, units_until, is_seq, is_seq_or_zero, is_within, first_cut, In, any_from, some_passes, in_filter, kept_by, in_map, numbered_in}
 use Rattle.world_commits.specs.captures.laws.Units.{Rise, units_rise}
 
 -- ---- the last commit
@@ -86,21 +85,34 @@ cut_is_unit def first us = let last = last_in first (map (λ r. r.1) numbered) i
         let r = in_map (λ (p : ℕ × Unit). p.1) numbered u i in
         subst (λ (v : Unit). In v (first ∷ us)) (sym r.2) (numbered_in 1 (first ∷ us) r.0 (in_filter (is_within def first) (enumerate_from 1 (first ∷ us)) r.0 r.1).0)
 
--- so it is if there is one
-cut_of_some : (def : SetDef) (us : List Unit) (u : Unit) → In u us → (v : Unit) × In v us × (first_cut def us ≡ Some v)
-cut_of_some def [] u i = absurd i
-cut_of_some def (v ∷ vs) u i = cut_is_unit def v vs
+-- so it is wherever there is one
+pub cut_in : (def : SetDef) (us : List Unit) (u : Unit) → first_cut def us ≡ Some u → In u us
+cut_in def [] u e = absurd cc
+cut_in def (v ∷ vs) u e = let r = cut_is_unit def v vs in subst (λ (w : Unit). In w (v ∷ vs)) (inside r.0 (sym r.2 ∙ e)) r.1
+  where
+    inside : (w : Unit) → ◌≡◌ {A = Option Unit} (Some w) (Some u) → w ≡ u
+    inside w e = cc
 
--- a block of the units after one point and up to another ends at a seq between them, if the other is a seq above it
-pub cut_above : (def : SetDef) (log : List LogRecord) (low high : ℕ) → low < high → is_seq log high ≡ true → let point = option_map_or (λ u. u.head.seq) (first_cut def (units_between low high log)) 0 in (low < point) × (point ≤ high) × (is_seq log point ≡ true)
-cut_above def log low high above e =
+-- a unit up to an end is one of all
+pub in_units_until : (end : Option ℕ) (us : List Unit) (u : Unit) → In u (units_until end us) → In u us
+in_units_until None us u i = i
+in_units_until (Some time) us u i = (in_filter (λ (v : Unit). nat_le v.head.time time) us u i).0
+
+-- a unit between two points has its seq there
+pub unit_between : (log : List LogRecord) (low high : ℕ) (u : Unit) → In u (units_between low high log) → (low < u.head.seq) × (u.head.seq ≤ high) × (is_seq log u.head.seq ≡ true)
+unit_between log low high u i =
+    let kept = in_filter (λ (v : Unit). nat_lt low v.head.seq && nat_le v.head.seq high) (units log) u i in
+    let within = and_parts (nat_lt low u.head.seq) (nat_le u.head.seq high) kept.1 in
+    (ltb-true low u.head.seq within.0, leb-true u.head.seq high within.1, unit_has_seq log u.head.seq u kept.0 refl)
+
+-- one block takes some of the units after one point and up to another, if the other is a seq above it
+pub some_cut : (def : SetDef) (log : List LogRecord) (low high : ℕ) → low < high → is_seq log high ≡ true → (u : Unit) × (first_cut def (units_between low high log) ≡ Some u)
+some_cut def log low high above e =
     let u = some_passes (λ (v : Unit). v.head.seq == high) (units log) e in
     let at : u.0.head.seq ≡ high = eqb-true u.0.head.seq high u.2 in
-    let cut = cut_of_some def (units_between low high log) u.0 (kept_by is_between (units log) u.0 u.1 (and_from (nat_lt low u.0.head.seq) (nat_le u.0.head.seq high) (lt-ltb low u.0.head.seq (omega (arith, at, above))) (le-leb u.0.head.seq high (omega (arith, at))))) in
-    let kept = in_filter is_between (units log) cut.0 cut.1 in
-    let within = and_parts (nat_lt low cut.0.head.seq) (nat_le cut.0.head.seq high) kept.1 in
-    subst (λ (point : ℕ). (low < point) × (point ≤ high) × (is_seq log point ≡ true)) (ap (λ (o : Option Unit). option_map_or (λ v. v.head.seq) o 0) (sym cut.2))
-    (ltb-true low cut.0.head.seq within.0, leb-true cut.0.head.seq high within.1, unit_has_seq log cut.0.head.seq cut.0 kept.0 refl)
+    of_some u.0 (units_between low high log)
+    (kept_by (λ (v : Unit). nat_lt low v.head.seq && nat_le v.head.seq high) (units log) u.0 u.1 (and_from (nat_lt low u.0.head.seq) (nat_le u.0.head.seq high) (lt-ltb low u.0.head.seq (omega (arith, at, above))) (le-leb u.0.head.seq high (omega (arith, at)))))
   where
-    is_between : Unit → Bool
-    is_between u = nat_lt low u.head.seq && nat_le u.head.seq high
+    of_some : (v : Unit) (us : List Unit) → In v us → (w : Unit) × (first_cut def us ≡ Some w)
+    of_some v [] i = absurd i
+    of_some v (first ∷ us) i = let r = cut_is_unit def first us in (r.0, r.2)

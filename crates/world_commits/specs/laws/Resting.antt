@@ -2,14 +2,15 @@
 use Rattle.std.proofs.Common.{◌≡◌, ℕ, ◌+◌, ◌-◌, ◌<◌, ◌≤◌, Bool, true, false, cond, not, ◌||◌, List, [], ◌∷◌, ◌++◌, length, map, Option, Some, None, refl, sym, ap, ap₂, subst, ◌∙◌, arith, IsTrue, nat_lt, nat_le, fold, option_and_then, length-append}
 use Rattle.std.specs.List.{filter_map, cons_option, list_any}
 use Rattle.std.proofs.lemmas.Bool.{true≢false, false≢true, le-ltb, ltb-false, lt-leb, leb-false}
-use Rattle.repl_model.specs.Words.{LogRecord, GapPlace, Member, SetDef, units, last_time, last_commit, Entry, Trail, refresh, block, load, settle, point_after, synchpoint, base_after, base_of, Registered, Server, World, KnownSet, same_set, known_sets, is_replica_set, read_only_sets, NumbersAreSound, TrailIsSound, EndsWithin, with_more, grown_server, grown, block_end, registration_of, is_disabled, place_of_gap, member_gap, uow_gap, Gap, gap_of, Action, signals, refreshes, blocks, reports, idles, refuses, is_new, refresh_by_signal, by_gap, next_action, source_tables, signal_records, refresh_entry, block_entry, after_action, In, at_one, kept_by, found_in, source_in, trail_within}
+use Rattle.std.proofs.lemmas.Option.{none-some}
+use Rattle.repl_model.specs.Words.{LogRecord, Unit, GapPlace, Member, SetDef, units, last_time, last_commit, Entry, Trail, refresh, block, load, settle, point_after, synchpoint, base_after, base_of, Registered, Server, World, KnownSet, same_set, known_sets, is_replica_set, read_only_sets, NumbersAreSound, TrailIsSound, EndsWithin, with_more, grown_server, grown, first_cut, next_units, registration_of, is_disabled, place_of_gap, member_gap, uow_gap, Gap, gap_of, Action, signals, refreshes, blocks, reports, idles, refuses, is_new, refresh_by_signal, at_rest, by_gap, next_action, source_tables, signal_records, refresh_entry, block_entry, after_action, In, at_one, kept_by, found_in, source_in, trail_within}
 use Rattle.repl_types.specs.declared.record.Change.TheVariants.{Start}
 use Rattle.repl_types.specs.declared.record.LogRecord.TheVariants as records
 use Rattle.repl_types.specs.declared.refusal.GapPlace.TheVariants as gaps
 use Rattle.world_commits.specs.actions.Resting.{commits_world, refresh_steps, report_steps, steps_by_gap, steps_left, NextActionsRest}
 use Rattle.world_commits.specs.actions.laws.Signals.{set_stands, signal_is}
-use Rattle.world_commits.specs.laws.Commits.{seq_or_zero_up_to_last}
-use Rattle.world_commits.specs.laws.Trails.{BlocksNext, block_is_next, next_block_may, reached_with, both_changes}
+use Rattle.world_commits.specs.laws.Commits.{seq_above, seq_or_zero_up_to_last, some_cut}
+use Rattle.world_commits.specs.laws.Trails.{cut_or, BlocksNext, block_is_next, next_block_may, reached_with, both_changes}
 use Rattle.world_commits.specs.laws.KnownAfter.{grown_named, HasFewerLeft, fewer_at_source, fewer_at_target}
 
 -- ---- gaps
@@ -112,12 +113,28 @@ refresh_is k = by_test (nat_le k.at_source.signal (base_of k.at_target.trail))
     by_test true = refl
     by_test false = refl
 
+-- what is done at rest is neither
+rests : (k : KnownSet) → is_of_refresh (at_rest k) ≡ false
+rests k = by_test (nat_lt k.at_source.mark (synchpoint k.at_target.trail))
+  where
+    by_test : (b : Bool) → is_of_refresh (cond b reports idles) ≡ false
+    by_test true = refl
+    by_test false = refl
+
+-- nor is what is done without a gap
+goes_on : (k : KnownSet) (cut : Option Unit) → is_of_refresh (cut_or (at_rest k) cut) ≡ false
+goes_on k None = rests k
+goes_on k (Some u) = refl
+
 -- If a signal or a refresh is next, a refresh is called for. So it is with any other last signal, and the steps left
 -- are those of a refresh.
 refresh_next : (k : KnownSet) (action : Action) → is_of_refresh action ≡ true → next_action k ≡ action
     → (refresh_by_signal k ≡ action) × ((signal : ℕ) → let l = record k { at_source = record k.at_source { signal = signal } } in steps_left l ≡ refresh_steps l)
-refresh_next k action e next = by_tests (is_new k.at_target.trail || k.at_target.flag) (nat_le k.source.captured (synchpoint k.at_target.trail)) (nat_lt k.at_source.mark (synchpoint k.at_target.trail)) (gap_of k) next
+refresh_next k action e next = by_tests (is_new k.at_target.trail || k.at_target.flag) (nat_le k.source.captured (synchpoint k.at_target.trail)) (gap_of k) next
   where
+    is_behind : Bool
+    is_behind = nat_lt k.at_source.mark (synchpoint k.at_target.trail)
+
     with_signal : ℕ → KnownSet
     with_signal signal = record k { at_source = record k.at_source { signal = signal } }
 
@@ -126,13 +143,12 @@ refresh_next k action e next = by_tests (is_new k.at_target.trail || k.at_target
     by_disabled gap true now = not_of_refresh action (refuses gap.place) e refl now
     by_disabled gap false now = (now, λ signal. refl)
 
-    by_tests : (a b c : Bool) (gap : Option Gap) → cond a (refresh_by_signal k) (cond b (cond c reports idles) (by_gap k gap)) ≡ action
-        → (refresh_by_signal k ≡ action) × ((signal : ℕ) → cond a (refresh_steps (with_signal signal)) (cond b (cond c 2 1) (steps_by_gap (with_signal signal) gap)) ≡ refresh_steps (with_signal signal))
-    by_tests true b c gap now = (now, λ signal. refl)
-    by_tests false true true gap now = not_of_refresh action reports e refl now
-    by_tests false true false gap now = not_of_refresh action idles e refl now
-    by_tests false false c None now = not_of_refresh action (blocks (block_end k)) e refl now
-    by_tests false false c (Some gap) now = by_disabled gap gap.disabled now
+    by_tests : (a b : Bool) (gap : Option Gap) → cond a (refresh_by_signal k) (cond b (at_rest k) (by_gap None k gap)) ≡ action
+        → (refresh_by_signal k ≡ action) × ((signal : ℕ) → cond a (refresh_steps (with_signal signal)) (cond b (cond is_behind 2 1) (steps_by_gap (with_signal signal) gap)) ≡ refresh_steps (with_signal signal))
+    by_tests true b gap now = (now, λ signal. refl)
+    by_tests false true gap now = not_of_refresh action (at_rest k) e (rests k) now
+    by_tests false false None now = not_of_refresh action (by_gap None k None) e (goes_on k (first_cut k.at_source.def (next_units None k))) now
+    by_tests false false (Some gap) now = by_disabled gap gap.disabled now
 
 -- a number is below another, if they are two numbers of which that holds
 below_by : (m n a b : ℕ) → m ≡ a → n ≡ b → a < b → m < n
@@ -230,11 +246,11 @@ fewer_by_block k upto numbers next =
     (few_with_entry k k.at_target.flag (block_entry k upto) known.calm (λ behind. gap_kept k.source k.at_source.def.members (synchpoint k.at_target.trail) upto (omega (arith, above)) known.gap))
     before known.ahead above
   where
-    known : BlocksNext k upto
-    known = block_is_next k upto next
+    known : BlocksNext None k upto
+    known = block_is_next None k upto next
 
     above : synchpoint k.at_target.trail < upto
-    above = (next_block_may k upto numbers known).above
+    above = (next_block_may None k upto known).above
 
     before : steps_left k ≡ k.source.captured - synchpoint k.at_target.trail + 2
     before =
@@ -245,8 +261,8 @@ fewer_by_block k upto numbers next =
 -- ---- a report
 
 -- a report leaves fewer steps
-fewer_by_report : (k : KnownSet) → next_action k ≡ reports → steps_left (record k { at_source = record k.at_source { mark = synchpoint k.at_target.trail } }) < steps_left k
-fewer_by_report k next = by_tests (is_new k.at_target.trail || k.at_target.flag) (nat_le k.source.captured (synchpoint k.at_target.trail)) (nat_lt k.at_source.mark (synchpoint k.at_target.trail)) (gap_of k) next
+fewer_by_report : (k : KnownSet) → NumbersAreSound k.source → next_action k ≡ reports → steps_left (record k { at_source = record k.at_source { mark = synchpoint k.at_target.trail } }) < steps_left k
+fewer_by_report k numbers next = by_tests (is_new k.at_target.trail || k.at_target.flag) (nat_le k.source.captured (synchpoint k.at_target.trail)) refl (gap_of k) next
   where
     after : KnownSet
     after = record k { at_source = record k.at_source { mark = synchpoint k.at_target.trail } }
@@ -258,13 +274,23 @@ fewer_by_report k next = by_tests (is_new k.at_target.trail || k.at_target.flag)
     by_disabled gap true now = absurd cc
     by_disabled gap false now = no_refresh now
 
-    by_tests : (a b c : Bool) (gap : Option Gap) → cond a (refresh_by_signal k) (cond b (cond c reports idles) (by_gap k gap)) ≡ reports
-        → cond a (refresh_steps after) (cond b (report_steps after) (steps_by_gap after gap)) < cond a (refresh_steps k) (cond b (cond c 2 1) (steps_by_gap k gap))
-    by_tests true b c gap now = no_refresh now
-    by_tests false true true gap now = subst (λ (b : Bool). cond b 2 1 < 2) (sym (le-ltb (synchpoint k.at_target.trail) (synchpoint k.at_target.trail) (omega arith))) (omega arith)
-    by_tests false true false gap now = absurd cc
-    by_tests false false c None now = absurd cc
-    by_tests false false c (Some gap) now = by_disabled gap gap.disabled now
+    no_block : {A : Type 0} (cut : Option Unit) → (u : Unit) × (cut ≡ Some u) → cut_or (at_rest k) cut ≡ reports → A
+    no_block None some now = absurd (none-some some.0 some.1)
+    no_block (Some u) some now = absurd cc
+
+    by_mark : (b : Bool) → cond b reports idles ≡ reports → cond (nat_lt (synchpoint k.at_target.trail) (synchpoint k.at_target.trail)) 2 1 < cond b 2 1
+    by_mark true now = subst (λ (b : Bool). cond b 2 1 < 2) (sym (le-ltb (synchpoint k.at_target.trail) (synchpoint k.at_target.trail) (omega arith))) (omega arith)
+    by_mark false now = absurd cc
+
+    by_tests : (a b : Bool) → nat_le k.source.captured (synchpoint k.at_target.trail) ≡ b → (gap : Option Gap) → cond a (refresh_by_signal k) (cond b (at_rest k) (by_gap None k gap)) ≡ reports
+        → cond a (refresh_steps after) (cond b (report_steps after) (steps_by_gap after gap)) < cond a (refresh_steps k) (cond b (report_steps k) (steps_by_gap k gap))
+    by_tests true b behind gap now = no_refresh now
+    by_tests false true behind gap now = by_mark (nat_lt k.at_source.mark (synchpoint k.at_target.trail)) now
+    by_tests false false behind None now =
+        let ahead = leb-false k.source.captured (synchpoint k.at_target.trail) behind in
+        no_block (first_cut k.at_source.def (next_units None k))
+        (some_cut k.at_source.def k.source.log (synchpoint k.at_target.trail) k.source.captured ahead (seq_above k.source.log (synchpoint k.at_target.trail) k.source.captured ahead numbers.captured)) now
+    by_tests false false behind (Some gap) now = by_disabled gap gap.disabled now
 
 -- ---- all actions
 
@@ -303,6 +329,6 @@ each_leaves_fewer world k id sound named read_only commits = by_action (next_act
         (fewer_by_block k upto numbers is)
     by_action reports is c = fewer_at_source world id k (λ side. record side { mark = synchpoint k.at_target.trail })
         (record { def = λ side. refl; t = λ side. refl; d = λ side. refl; codes = λ side. refl }) named
-        (fewer_by_report k is)
+        (fewer_by_report k numbers is)
     by_action idles is c = absurd (false≢true c)
     by_action (refuses place) is c = absurd (false≢true c)

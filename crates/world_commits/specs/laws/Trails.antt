@@ -1,14 +1,15 @@
 -- A world stays sound with the actions of a read-only set that make its trail longer.
 use Rattle.std.proofs.Common.{◌≡◌, ℕ, ◌<◌, ◌≤◌, Bool, true, false, cond, ◌||◌, List, [], ◌∷◌, ◌++◌, map, Option, Some, None, refl, sym, ap, subst, ◌∙◌, arith, ◌==◌, nat_lt, nat_le, fold}
 use Rattle.std.specs.List.{list_any}
+use Rattle.std.specs.Option.{option_map_or}
 use Rattle.std.proofs.lemmas.Bool.{true≢false, and_parts, and_from, or_right, or_parts, cond-true, cond-false, leb-false}
 use Rattle.std.proofs.lemmas.List.Sums.{fold-append}
 use Rattle.std.proofs.lemmas.Simd.{map-map}
 use Rattle.std.proofs.Math.Path.{fun_ext}
-use Rattle.repl_model.specs.Words.{LogRecord, last_commit, Entry, Trail, refresh, block, load, settle, point_after, synchpoint, base_after, base_of, TargetSide, Server, World, KnownSet, same_set, known_sets, read_only_sets, is_seq, is_seq_or_zero, NumbersAreSound, is_base, GoesOn, SignalsAreSound, TrailIsSound, IsSound, block_end, Gap, gap_of, signals, refreshes, blocks, reports, idles, refuses, is_new, refresh_by_signal, by_gap, next_action, with_server, with_target_side, refreshed, is_base_aggregate, base_point, refresh_entry, block_entry, after_action, In, at_one}
+use Rattle.repl_model.specs.Words.{LogRecord, Unit, last_commit, Entry, Trail, refresh, block, load, settle, point_after, synchpoint, base_after, base_of, TargetSide, Server, World, KnownSet, same_set, known_sets, read_only_sets, is_seq, is_seq_or_zero, is_base, GoesOn, SignalsAreSound, TrailIsSound, IsSound, units_between, Gap, gap_of, Action, signals, refreshes, blocks, reports, idles, refuses, is_new, first_cut, next_units, refresh_by_signal, at_rest, by_gap, next_action_within, with_server, with_target_side, refreshed, is_base_aggregate, base_point, refresh_entry, block_entry, after_action, In, at_one}
 use Rattle.world_commits.specs.actions.StaysSound.{MayRefresh, MayBlock}
 use Rattle.world_commits.specs.actions.laws.Signals.{is_one_known}
-use Rattle.world_commits.specs.laws.Commits.{seq_up_to_last, last_is_seq, seq_above, seq_or_zero_up_to_last, cut_above}
+use Rattle.world_commits.specs.laws.Commits.{seq_up_to_last, last_is_seq, seq_above, seq_or_zero_up_to_last, cut_in, in_units_until, unit_between}
 use Rattle.world_commits.specs.laws.SetRows.{target_side_sound}
 
 -- ---- trails
@@ -59,39 +60,64 @@ base_is_seq k e = by_test (list_any (λ member. is_base_aggregate member.kind) k
 
 -- ---- what is next
 
+-- an action to which the last of some units leads, or else another one
+abbrev pub cut_or : Action → Option Unit → Action
+cut_or rest cut = option_map_or (λ u. blocks u.head.seq) cut rest
+
+-- what is left to do if nothing is left to take is no refresh, and no block
+no_refresh_at_rest : {A : Type 0} (b : Bool) → cond b reports idles ≡ refreshes → A
+no_refresh_at_rest true now = absurd cc
+no_refresh_at_rest false now = absurd cc
+
+no_block_at_rest : {A : Type 0} (upto : ℕ) (b : Bool) → cond b reports idles ≡ blocks upto → A
+no_block_at_rest upto true now = absurd cc
+no_block_at_rest upto false now = absurd cc
+
 -- if the next action is a refresh, it may be made
-pub next_refresh_may : (k : KnownSet) → next_action k ≡ refreshes → MayRefresh k
-next_refresh_may k e = by_signal (nat_le k.at_source.signal (base_of k.at_target.trail)) refl
-    (by_tests (is_new k.at_target.trail || k.at_target.flag) (nat_le k.source.captured (synchpoint k.at_target.trail)) (nat_lt k.at_source.mark (synchpoint k.at_target.trail)) (gap_of k) e)
+pub next_refresh_may : (end : Option ℕ) (k : KnownSet) → next_action_within end k ≡ refreshes → MayRefresh k
+next_refresh_may end k e = by_signal (nat_le k.at_source.signal (base_of k.at_target.trail)) refl
+    (by_tests (is_new k.at_target.trail || k.at_target.flag) (nat_le k.source.captured (synchpoint k.at_target.trail)) (gap_of k) e)
   where
+    is_behind : Bool
+    is_behind = nat_lt k.at_source.mark (synchpoint k.at_target.trail)
+
     by_disabled : (gap : Gap) (b : Bool) → cond b (refuses gap.place) (refresh_by_signal k) ≡ refreshes → refresh_by_signal k ≡ refreshes
     by_disabled gap true now = absurd cc
     by_disabled gap false now = now
 
-    by_tests : (a b c : Bool) (gap : Option Gap) → cond a (refresh_by_signal k) (cond b (cond c reports idles) (by_gap k gap)) ≡ refreshes → refresh_by_signal k ≡ refreshes
-    by_tests true b c gap now = now
-    by_tests false true true gap now = absurd cc
-    by_tests false true false gap now = absurd cc
-    by_tests false false c None now = absurd cc
-    by_tests false false c (Some gap) now = by_disabled gap gap.disabled now
+    by_cut : {A : Type 0} (cut : Option Unit) → cut_or (at_rest k) cut ≡ refreshes → A
+    by_cut None now = no_refresh_at_rest is_behind now
+    by_cut (Some u) now = absurd cc
+
+    by_tests : (a b : Bool) (gap : Option Gap) → cond a (refresh_by_signal k) (cond b (at_rest k) (by_gap end k gap)) ≡ refreshes → refresh_by_signal k ≡ refreshes
+    by_tests true b gap now = now
+    by_tests false true gap now = no_refresh_at_rest is_behind now
+    by_tests false false None now = by_cut (first_cut k.at_source.def (next_units end k)) now
+    by_tests false false (Some gap) now = by_disabled gap gap.disabled now
 
     by_signal : (b : Bool) → nat_le k.at_source.signal (base_of k.at_target.trail) ≡ b → cond b signals refreshes ≡ refreshes → base_of k.at_target.trail < k.at_source.signal
     by_signal true above now = absurd cc
     by_signal false above now = leb-false k.at_source.signal (base_of k.at_target.trail) above
 
 -- What is known of a set whose next action is a block up to a point: it was refreshed, no refresh was asked for, its
--- source has captured units that its targets haven't taken, it has no gap, and the block ends at the point.
-pub record BlocksNext (k : KnownSet) (upto : ℕ) : Type 0 where
+-- source has captured units that its targets haven't taken, it has no gap, and a block of the units that come next ends
+-- at the point.
+pub record BlocksNext (end : Option ℕ) (k : KnownSet) (upto : ℕ) : Type 0 where
   pub old : is_new k.at_target.trail ≡ false
   pub calm : k.at_target.flag ≡ false
   pub ahead : synchpoint k.at_target.trail < k.source.captured
   pub gap : gap_of k ≡ None
-  pub ends : block_end k ≡ upto
+  pub last : Unit
+  pub cut : first_cut k.at_source.def (next_units end k) ≡ Some last
+  pub ends : last.head.seq ≡ upto
 
 -- if the next action is a block, this is known
-pub block_is_next : (k : KnownSet) (upto : ℕ) → next_action k ≡ blocks upto → BlocksNext k upto
-block_is_next k upto e = by_tests (is_new k.at_target.trail || k.at_target.flag) (nat_le k.source.captured (synchpoint k.at_target.trail)) (nat_lt k.at_source.mark (synchpoint k.at_target.trail)) (gap_of k) refl refl refl e
+pub block_is_next : (end : Option ℕ) (k : KnownSet) (upto : ℕ) → next_action_within end k ≡ blocks upto → BlocksNext end k upto
+block_is_next end k upto e = by_tests (is_new k.at_target.trail || k.at_target.flag) (nat_le k.source.captured (synchpoint k.at_target.trail)) (gap_of k) refl refl refl e
   where
+    is_behind : Bool
+    is_behind = nat_lt k.at_source.mark (synchpoint k.at_target.trail)
+
     no_signal : {A : Type 0} (b : Bool) → cond b signals refreshes ≡ blocks upto → A
     no_signal true now = absurd cc
     no_signal false now = absurd cc
@@ -106,28 +132,34 @@ block_is_next k upto e = by_tests (is_new k.at_target.trail || k.at_target.flag)
     same_end : (n : ℕ) → blocks n ≡ blocks upto → n ≡ upto
     same_end n now = cc
 
-    by_tests : (a b c : Bool) (gap : Option Gap) → (is_new k.at_target.trail || k.at_target.flag) ≡ a → nat_le k.source.captured (synchpoint k.at_target.trail) ≡ b → gap_of k ≡ gap
-        → cond a (refresh_by_signal k) (cond b (cond c reports idles) (by_gap k gap)) ≡ blocks upto → BlocksNext k upto
-    by_tests true b c gap old ahead is now = no_refresh now
-    by_tests false true true gap old ahead is now = absurd cc
-    by_tests false true false gap old ahead is now = absurd cc
-    by_tests false false c None old ahead is now = record {
+    by_cut : (cut : Option Unit) → first_cut k.at_source.def (next_units end k) ≡ cut → (is_new k.at_target.trail || k.at_target.flag) ≡ false → nat_le k.source.captured (synchpoint k.at_target.trail) ≡ false → gap_of k ≡ None
+        → cut_or (at_rest k) cut ≡ blocks upto → BlocksNext end k upto
+    by_cut None cut old ahead is now = no_block_at_rest upto is_behind now
+    by_cut (Some u) cut old ahead is now = record {
       old = (or_parts (is_new k.at_target.trail) k.at_target.flag old).0;
       calm = (or_parts (is_new k.at_target.trail) k.at_target.flag old).1;
       ahead = leb-false k.source.captured (synchpoint k.at_target.trail) ahead;
       gap = is;
-      ends = same_end (block_end k) now;
+      last = u;
+      cut = cut;
+      ends = same_end u.head.seq now;
     }
-    by_tests false false c (Some gap) old ahead is now = by_disabled gap gap.disabled now
+
+    by_tests : (a b : Bool) (gap : Option Gap) → (is_new k.at_target.trail || k.at_target.flag) ≡ a → nat_le k.source.captured (synchpoint k.at_target.trail) ≡ b → gap_of k ≡ gap
+        → cond a (refresh_by_signal k) (cond b (at_rest k) (by_gap end k gap)) ≡ blocks upto → BlocksNext end k upto
+    by_tests true b gap old ahead is now = no_refresh now
+    by_tests false true gap old ahead is now = no_block_at_rest upto is_behind now
+    by_tests false false None old ahead is now = by_cut (first_cut k.at_source.def (next_units end k)) refl old ahead is now
+    by_tests false false (Some gap) old ahead is now = by_disabled gap gap.disabled now
 
 -- and the block may be made
-pub next_block_may : (k : KnownSet) (upto : ℕ) → NumbersAreSound k.source → BlocksNext k upto → MayBlock k upto
-next_block_may k upto numbers known = record { refreshed = known.old; gap = known.gap; above = cut.0; captured = cut.1; seq = cut.2 }
+pub next_block_may : (end : Option ℕ) (k : KnownSet) (upto : ℕ) → BlocksNext end k upto → MayBlock k upto
+next_block_may end k upto known = record { refreshed = known.old; gap = known.gap; above = cut.0; captured = cut.1; seq = cut.2 }
   where
     cut : (synchpoint k.at_target.trail < upto) × (upto ≤ k.source.captured) × (is_seq k.source.log upto ≡ true)
     cut = subst (λ (point : ℕ). (synchpoint k.at_target.trail < point) × (point ≤ k.source.captured) × (is_seq k.source.log point ≡ true)) known.ends
-        (cut_above k.at_source.def k.source.log (synchpoint k.at_target.trail) k.source.captured known.ahead
-        (seq_above k.source.log (synchpoint k.at_target.trail) k.source.captured known.ahead numbers.captured))
+        (unit_between k.source.log (synchpoint k.at_target.trail) k.source.captured known.last
+        (in_units_until end (units_between (synchpoint k.at_target.trail) k.source.captured k.source.log) known.last (cut_in k.at_source.def (next_units end k) known.last known.cut)))
 
 -- ---- one more entry
 

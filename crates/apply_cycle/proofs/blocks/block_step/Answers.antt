@@ -1,13 +1,11 @@
-use Rattle.std.proofs.Common.{◌≡◌, ◌∙◌, inl, inr, sym, subst, refl, arith}
+use Rattle.std.proofs.Common.{◌≡◌, ◌∙◌, inl, inr, refl, arith, None}
 use Rattle.std.proofs.lemmas.Result.{err_from_is_err_and}
 use Rattle.site_store.specs.Words.{looks_none, looks_then}
 use Rattle.repl_model.specs.Words.{after_action, blocks}
 use Rattle.repl_types.specs.declared.area.Area.TheVariants as areas
 use Rattle.subs_sets.specs.Cuts.{time_from}
 use Rattle.subs_sets.specs.States.{state_in}
-use Rattle.subs_sets.specs.declared.states.ReadOnlyState.{ReadOnlyState}
 use Rattle.target_steps.specs.declared.step.Step.TheVariants.{Block}
-use Rattle.target_steps.specs.Taking.{CanStep}
 use Rattle.target_steps.specs.Steps.{PutsTargets, PutsSomeTargets}
 use Rattle.target_steps.specs.laws.AtServers.{unchanged, stepped_after, revealed_after, target_after, captured_undamaged, state_undamaged}
 use Rattle.apply_cycle.proofs.BlockSteps.{put_blames}
@@ -67,13 +65,12 @@ returns-in_err-counts-clause-fault g c =
     let time_is : time ≡ time_from c.args.upto k.source = c.in_ok-time.ensures.time w k stands.sound placed (revealed_after kept set s0 s1 c.requires.closed w k stands placed first) in
     let r = revealed_after kept set s0 s2 c.requires.closed w k stands placed looks in
     let target = target_after kept set s0 s2 c.requires.closed w k stands placed looks in
-    let able = can takes g.met.T.Targets.unnumbered w k set stands.sound placed read_only c.args.upto next in
     record {
-      stands = may_have_blocked takes g.met.T.Targets.unnumbered w k set stands.sound placed read_only c.args.upto next time time_is kept shows s0 s2 s3 stands r known known_is c.in_err-counts.field-0.0 (elim may.stepped [
+      stands = may_have_blocked takes g.met.T.Targets.unnumbered w k set stands.sound placed read_only c.args.upto next known known_is time time_is kept shows s0 s2 s3 stands r c.in_err-counts.field-0.0 (elim may.stepped [
         | inl same ↦ inl (same ∙ looks.stays.held)
-        | inr stepped ↦ inr (stepped.0, stepped_after kept set s0 s2 s3 set.target (PutsSomeTargets kept takes shows s2 set (Block known.synchpoint c.args.upto) time known) looks.stays.held stepped.1)
+        | inr stepped ↦ inr (stepped.0, stepped_after kept set s0 s2 s3 set.target (PutsSomeTargets kept takes shows s2 set (Block known.synchpoint known.time c.args.upto time None) known) looks.stays.held stepped.1)
       ]);
-      undamaged = c.in_err-counts.ensures.undamaged target.0 target.1 w k stands.sound placed r read_only (subst (λ (s : ReadOnlyState). CanStep k (Block s.synchpoint c.args.upto)) (sym known_is) able) next.1 target.2;
+      undamaged = c.in_err-counts.ensures.undamaged target.0 target.1 w k stands.sound placed r read_only (can takes g.met.T.Targets.unnumbered w k set stands.sound placed read_only c.args.upto next known known_is time time_is) next.1 target.2;
     })
 
 pub returns-clause-ok : goal.returns-clause-ok
@@ -93,7 +90,7 @@ returns-clause-ok g c = λ w k stands placed read_only next.
     let known_is : known ≡ state_in w k = c.in_ok-known.ensures.state w k stands.sound placed (target_after kept set s0 s0 c.requires.closed w k stands placed (looks_none kept s0)) in
     let time_is : time ≡ time_from c.args.upto k.source = c.in_ok-time.ensures.time w k stands.sound placed (revealed_after kept set s0 s1 c.requires.closed w k stands placed first) in
     let r = revealed_after kept set s0 s2 c.requires.closed w k stands placed looks in
-    has_answered takes g.met.T.Targets.unnumbered w k set stands.sound placed read_only c.args.upto next time time_is kept shows s0 s2 s3 stands r known known_is c.in_ok-counts.counts (stepped_after kept set s0 s2 s3 set.target (PutsTargets kept takes shows s2 set (Block known.synchpoint c.args.upto) time known c.in_ok-counts.counts) looks.stays.held c.in_ok-counts.ensures.ok.stepped)
+    has_answered takes g.met.T.Targets.unnumbered w k set stands.sound placed read_only c.args.upto next known known_is time time_is kept shows s0 s2 s3 stands r c.in_ok-counts.counts (stepped_after kept set s0 s2 s3 set.target (PutsTargets kept takes shows s2 set (Block known.synchpoint known.time c.args.upto time None) known c.in_ok-counts.counts) looks.stays.held c.in_ok-counts.ensures.ok.stepped)
 
 pub returns-clause-counted : goal.returns-clause-counted
 returns-clause-counted g c = λ short s. omega (arith, c.in_ok-known.ensures.reads s areas.Cd refl, c.in_ok-time.ensures.reads s areas.Cd refl, c.in_ok-counts.ensures.counted short s)

@@ -1,7 +1,7 @@
 use Rattle.std.proofs.Common.{ℕ, sym, subst}
 use Rattle.std.proofs.lemmas.Result.{err_from_is_err_and}
 use Rattle.site_store.specs.Words.{IsRead}
-use Rattle.repl_model.specs.Words.{SetDef, Area, DamageCause}
+use Rattle.repl_model.specs.Words.{SetDef, Area, DamageCause, next_action}
 use Rattle.target_steps.specs.Steps.{TakesEach}
 use Rattle.set_places.specs.laws.Known.{same_def}
 use Rattle.apply_cycle.specs.Stepping.{ShowsDamage}
@@ -24,7 +24,7 @@ returns-in_err-stepped-clause-fault g c =
     let read_only = read_only_known w set known.0 c.in_ok-set.ensures.read_only known.2 in
     let e = c.in_err-stepped.field-0.0 in
     broken_failed kept s0 s2 c.args.id.now w known.0 set.source known.1 known.2.source e
-    (failed_back kept s0 s1 looks s2 w known.0 e (c.in_err-stepped.ensures.fault w known.0 (stands_on kept s0 s1 looks w stands) known.2 read_only takes)))
+    (failed_back kept s0 s1 looks s2 w known.0 (next_action known.0) e (c.in_err-stepped.ensures.fault w known.0 (stands_on kept s0 s1 looks w stands) known.2 read_only takes)))
 
 pub returns-in_err-stepped-clause-cause : goal.returns-in_err-stepped-clause-cause
 returns-in_err-stepped-clause-cause g c =
@@ -52,4 +52,4 @@ returns-clause-ok g c = λ w stands each.
     let read_only = read_only_known w set known.0 c.in_ok-set.ensures.read_only known.2 in
     let stepped = c.in_ok-stepped.stepped in
     stepped_made kept s0 s2 c.args.id.now w known.0 set.source known.1 known.2.source stepped
-    (made_back kept s0 s1 looks s2 w known.0 set.source stepped (c.in_ok-stepped.ensures.ok w known.0 (stands_on kept s0 s1 looks w stands) known.2 read_only takes))
+    (made_back kept s0 s1 looks s2 w known.0 (next_action known.0) set.source stepped (c.in_ok-stepped.ensures.ok w known.0 (stands_on kept s0 s1 looks w stands) known.2 read_only takes))

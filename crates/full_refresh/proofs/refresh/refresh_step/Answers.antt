@@ -1,6 +1,6 @@
 use Rattle.std.proofs.Common.{◌≡◌, ◌∙◌, inl, inr, ap}
 use Rattle.std.proofs.lemmas.Result.{err_from_is_err_and}
-use Rattle.world_store.specs.Words.{Head, head_of}
+use Rattle.world_store.specs.Words.{head_of}
 use Rattle.site_store.specs.Words.{looks_none, looks_then}
 use Rattle.repl_model.specs.Words.{after_action, refreshes}
 use Rattle.subs_sets.specs.States.{state_in}
@@ -8,7 +8,7 @@ use Rattle.target_steps.specs.declared.step.Step.TheVariants.{Refresh}
 use Rattle.target_steps.specs.Steps.{PutsTargets, PutsSomeTargets}
 use Rattle.target_steps.specs.laws.AtServers.{unchanged, stepped_after, revealed_after, target_after, state_undamaged}
 use Rattle.full_refresh.proofs.RefreshSteps.{put_blames}
-use Rattle.full_refresh.proofs.Refreshed.{may_have_refreshed, has_answered}
+use Rattle.full_refresh.proofs.Refreshed.{can_load, may_have_refreshed, has_answered}
 use Rattle.full_refresh.proofs.SignalSteps.{seen_as, place_is}
 use Rattle.full_refresh.proofs.refresh.refresh_step.Goals as goal
 
@@ -62,9 +62,9 @@ returns-in_err-counts-clause-fault g c =
     record {
       stands = may_have_refreshed takes g.met.T.Targets.unnumbered w k set stands.sound placed read_only next kept shows s0 s2 s3 stands r end at known known_is c.in_err-counts.field-0.0 (elim may.stepped [
         | inl same ↦ inl (same ∙ looks.stays.held)
-        | inr stepped ↦ inr (stepped.0, stepped_after kept set s0 s2 s3 set.target (PutsSomeTargets kept takes shows s2 set (Refresh end.commit) end.time known) looks.stays.held stepped.1)
+        | inr stepped ↦ inr (stepped.0, stepped_after kept set s0 s2 s3 set.target (PutsSomeTargets kept takes shows s2 set (Refresh end.commit end.time) known) looks.stays.held stepped.1)
       ]);
-      undamaged = c.in_err-counts.ensures.undamaged target.0 target.1 w k stands.sound placed r read_only (ap (λ (h : Head). h.commit) at) next.1 target.2;
+      undamaged = c.in_err-counts.ensures.undamaged target.0 target.1 w k stands.sound placed r read_only (can_load k end at) next.1 target.2;
     })
 
 pub returns-in_err-counts-clause-blames : goal.returns-in_err-counts-clause-blames
@@ -92,4 +92,4 @@ returns-clause-ok g c = λ w k stands placed read_only next.
     let at : end ≡ head_of k.source = c.in_ok-end.ensures.world w (seen_as kept set s0 s0 c.requires.closed w k stands placed (looks_none kept s0)) ∙ ap head_of (place_is kept set s0 s0 c.requires.closed w k stands placed) in
     let known_is : known ≡ state_in w k = c.in_ok-known.ensures.state w k stands.sound placed (target_after kept set s0 s1 c.requires.closed w k stands placed first) in
     let r = revealed_after kept set s0 s2 c.requires.closed w k stands placed looks in
-    has_answered takes g.met.T.Targets.unnumbered w k set stands.sound placed read_only next kept shows s0 s2 s3 stands r end at known known_is c.in_ok-counts.counts (stepped_after kept set s0 s2 s3 set.target (PutsTargets kept takes shows s2 set (Refresh end.commit) end.time known c.in_ok-counts.counts) looks.stays.held c.in_ok-counts.ensures.ok.stepped)
+    has_answered takes g.met.T.Targets.unnumbered w k set stands.sound placed read_only next kept shows s0 s2 s3 stands r end at known known_is c.in_ok-counts.counts (stepped_after kept set s0 s2 s3 set.target (PutsTargets kept takes shows s2 set (Refresh end.commit end.time) known c.in_ok-counts.counts) looks.stays.held c.in_ok-counts.ensures.ok.stepped)

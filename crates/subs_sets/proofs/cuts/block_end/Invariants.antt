@@ -10,7 +10,7 @@ use Rattle.subs_sets.proofs.cuts.block_end.Given as goal
 abbrev pub invariant-loop-next : goal.invariant-loop-next
 invariant-loop-next g l = record {
   look : Looks g.K.Keeper.kept l.fn.sites l.sites;
-  cut : ForSource g.K.Keeper.kept l.fn.sites l.set (λ w k. l.fn.point ≡ synchpoint k.at_target.trail → k.source.floor ≤ l.fn.point → IsCutTo k l.time l.number l.cut);
+  cut : ForSource g.K.Keeper.kept l.fn.sites l.set (λ w k. l.fn.point ≡ synchpoint k.at_target.trail → k.source.floor ≤ l.fn.point → IsCutTo l.end k l.time l.number l.cut);
   reads : ReadsOnly is_read g.K.Keeper.kept l.fn.sites l.sites;
 }
 

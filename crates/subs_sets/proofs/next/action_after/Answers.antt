@@ -40,7 +40,7 @@ returns-then-capture-point-clause-action g c = λ w k sound placed reveals point
     let look = looked kept s0 c.get_state.new.self set.source areas.Capture c.in_ok-capture.ensures.ok in
     let state = capture_is w k set (sees kept s0 set.source) c.in_ok-capture.capture sound placed reveals (c.in_ok-capture.ensures.fits (omega arith, omega arith, omega arith)) c.in_ok-capture.ensures.state in
     for_source_back kept s0 c.get_state.new.self set (λ w k. action_of c.in_ok-action.action ≡ cond (nat_lt k.at_source.mark c.args.point) reports idles) look c.in_ok-action.ensures.action w k sound placed reveals
-    ∙ reports_or_idles k c.in_ok-capture.capture.captured c.args.point (ap (λ (s : CaptureState). s.captured) state) point_is c.if-capture-point.true
+    ∙ reports_or_idles c.args.end k c.in_ok-capture.capture.captured c.args.point (ap (λ (s : CaptureState). s.captured) state) point_is c.if-capture-point.true
 
 pub returns-in_err-action-2-clause-fault : goal.returns-in_err-action-2-clause-fault
 returns-in_err-action-2-clause-fault g c =
@@ -61,5 +61,5 @@ returns-clause-action g c = λ w k sound placed reveals point_is base_is.
     let set = c.args.set.now in
     let look = looked kept s0 c.get_state.new.self set.source areas.Capture c.in_ok-capture.ensures.ok in
     let state = capture_is w k set (sees kept s0 set.source) c.in_ok-capture.capture sound placed reveals (c.in_ok-capture.ensures.fits (omega arith, omega arith, omega arith)) c.in_ok-capture.ensures.state in
-    for_source_back kept s0 c.get_state.new.self set (λ w k. c.args.point ≡ synchpoint k.at_target.trail → c.args.base ≡ base_of k.at_target.trail → c.in_ok-capture.capture.floor ≡ k.source.floor → action_of c.in_ok-action-2.action ≡ by_gap k (gap_of k)) look c.in_ok-action-2.ensures.action w k sound placed reveals point_is base_is (ap (λ (s : CaptureState). s.floor) state)
-    ∙ as_gap_says k c.in_ok-capture.capture.captured c.args.point (ap (λ (s : CaptureState). s.captured) state) point_is c.if-capture-point.false
+    for_source_back kept s0 c.get_state.new.self set (λ w k. c.args.point ≡ synchpoint k.at_target.trail → c.args.base ≡ base_of k.at_target.trail → c.in_ok-capture.capture.floor ≡ k.source.floor → action_of c.in_ok-action-2.action ≡ by_gap c.args.end k (gap_of k)) look c.in_ok-action-2.ensures.action w k sound placed reveals point_is base_is (ap (λ (s : CaptureState). s.floor) state)
+    ∙ as_gap_says c.args.end k c.in_ok-capture.capture.captured c.args.point (ap (λ (s : CaptureState). s.captured) state) point_is c.if-capture-point.false

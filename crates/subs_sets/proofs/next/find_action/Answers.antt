@@ -41,7 +41,7 @@ returns-then-not-state-clause-action g c = λ w k stands placed read_only.
       | then-not-state-via-else-not-state+then-state w ↦ or_right (not c.in_ok-state.state.has_points) c.in_ok-state.state.flag w.if-state.true
     ] in
     for_source_back kept s0 c.read_only_state.new.sites set (λ w k. c.in_ok-state.state.base ≡ base_of k.at_target.trail → action_of c.in_ok-action.action ≡ refresh_by_signal k) c.in_ok-state.ensures.ok c.in_ok-action.ensures.action w k stands.sound placed (source_revealed kept s0 w k set stands (closed set.source) placed) (ap (λ (s : ReadOnlyState). s.base) state)
-    ∙ is_refreshed k c.in_ok-state.state.has_points c.in_ok-state.state.flag (ap (λ (s : ReadOnlyState). s.has_points) state) (ap (λ (s : ReadOnlyState). s.flag) state) due
+    ∙ is_refreshed c.args.end k c.in_ok-state.state.has_points c.in_ok-state.state.flag (ap (λ (s : ReadOnlyState). s.has_points) state) (ap (λ (s : ReadOnlyState). s.flag) state) due
 
 pub returns-in_err-action-2-clause-fault : goal.returns-in_err-action-2-clause-fault
 returns-in_err-action-2-clause-fault g c =
@@ -61,5 +61,5 @@ returns-clause-action g c = λ w k stands placed read_only.
     let set = c.args.set.now in
     let closed = c.requires.closed in
     let state = c.in_ok-state.ensures.state w k stands.sound placed (target_revealed kept s0 w k set stands (closed set.target) placed) in
-    for_source_back kept s0 c.read_only_state.new.sites set (λ w k. c.in_ok-state.state.synchpoint ≡ synchpoint k.at_target.trail → c.in_ok-state.state.base ≡ base_of k.at_target.trail → action_of c.in_ok-action-2.action ≡ once_refreshed k) c.in_ok-state.ensures.ok c.in_ok-action-2.ensures.action w k stands.sound placed (source_revealed kept s0 w k set stands (closed set.source) placed) (ap (λ (s : ReadOnlyState). s.synchpoint) state) (ap (λ (s : ReadOnlyState). s.base) state)
-    ∙ goes_on k c.in_ok-state.state.has_points c.in_ok-state.state.flag (ap (λ (s : ReadOnlyState). s.has_points) state) (ap (λ (s : ReadOnlyState). s.flag) state) (ap₂ (λ (a b : Bool). a || b) c.if-not-state.false c.if-state.false)
+    for_source_back kept s0 c.read_only_state.new.sites set (λ w k. c.in_ok-state.state.synchpoint ≡ synchpoint k.at_target.trail → c.in_ok-state.state.base ≡ base_of k.at_target.trail → action_of c.in_ok-action-2.action ≡ once_refreshed c.args.end k) c.in_ok-state.ensures.ok c.in_ok-action-2.ensures.action w k stands.sound placed (source_revealed kept s0 w k set stands (closed set.source) placed) (ap (λ (s : ReadOnlyState). s.synchpoint) state) (ap (λ (s : ReadOnlyState). s.base) state)
+    ∙ goes_on c.args.end k c.in_ok-state.state.has_points c.in_ok-state.state.flag (ap (λ (s : ReadOnlyState). s.has_points) state) (ap (λ (s : ReadOnlyState). s.flag) state) (ap₂ (λ (a b : Bool). a || b) c.if-not-state.false c.if-state.false)

@@ -17,6 +17,9 @@ returns-in-ReadOnly-clause-state g c = λ w k sound placed reveals.
     ap parts_of (sym c.in-ReadOnly.is ∙ state_is w k set (sees g.K.Keeper.kept c.args.sites.now set.target) c.in_ok-state.state sound placed reveals read.fits read.stands)
     ∙ parts_are w k (subst (λ (def : SetDef). not (is_replica_set def) ≡ true) placed.target_def c.requires.read_only)
 
+pub returns-in-ReadOnly-clause-zeros : goal.returns-in-ReadOnly-clause-zeros
+returns-in-ReadOnly-clause-zeros g c = (subst IsState c.in-ReadOnly.is c.in_ok-state.ensures.fits).1
+
 pub returns-in-Replica-clause-fault : goal.returns-in-Replica-clause-fault
 returns-in-Replica-clause-fault g c =
     let kept = g.K.Keeper.kept in

@@ -43,7 +43,7 @@ loop-member-preserved g c =
     )
 
 pub returns-clause-ok : goal.returns-clause-ok
-returns-clause-ok g c = goes_all g.K.Keeper.kept g.T.Targets.takes g.T.Targets.shows c.args.sites.now c.args.set.now c.args.step c.requires.open c.requires.closed g.met.T.Targets.unnumbered c.loop-member.sites c.loop-member.counts c.loop-member.member (omega (arith, ap length c.as_slice.ensures)) c.loop-member.invariant.0
+returns-clause-ok g c = goes_all g.K.Keeper.kept g.T.Targets.takes g.T.Targets.shows c.args.sites.now c.args.set.now c.args.step c.requires.open c.requires.closed c.loop-member.sites c.loop-member.counts c.loop-member.member (omega (arith, ap length c.as_slice.ensures)) c.loop-member.invariant.0
 
 pub returns-clause-counted : goal.returns-clause-counted
 returns-clause-counted g c =

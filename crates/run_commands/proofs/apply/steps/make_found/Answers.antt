@@ -67,7 +67,7 @@ returns-in-Err-Refused g c =
     let t = g.O.Sink.taken c.args.output.now in
     let u = g.O.Sink.taken c.refuse_step.new.output in
     let failed = λ (w : World) (k : KnownSet) (stands : Stands (names s0) (held kept s0) w) (placed : IsPlacedAs w k set).
-    subst (λ (e : Fault). HasFailed kept s0 s1 w k e) c.in-Err-Refused.field-0-is (c.in-Err-Refused.ensures.fault w k stands placed (is_read_only set carried w k placed) (takes_each set carried w k placed stands.sound)) in
+    subst (λ (e : Fault). HasFailed kept s0 s1 w k (next_action k) e) c.in-Err-Refused.field-0-is (c.in-Err-Refused.ensures.fault w k stands placed (is_read_only set carried w k placed) (takes_each set carried w k placed stands.sound)) in
     record {
       part = λ events known. part_written wrote.line events is_refusal c.step.ensures.servers
           (λ took w stands.
