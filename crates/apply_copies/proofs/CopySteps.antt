@@ -1,35 +1,34 @@
 -- The load of a copy, and its change rows, take a member through a step: proofs.
-use Rattle.std.proofs.Common.{◌≡◌, ℕ, ◌<◌, true, false, [], length, inl, inr, refl, sym, ap, subst, ◌∙◌, Option, Some, None, Result, Ok, Err, IfOk}
+use Rattle.std.proofs.Common.{◌≡◌, ℕ, ◌<◌, true, [], length, refl, sym, ap, subst, ◌∙◌, Option, Some, None, Result, Ok, Err, IfOk}
 use Rattle.world_store.specs.Words.{rows_refreshed}
 use Rattle.site_store.specs.Words.{Contents, Table, Kept, ShownBefore, work, IsOpenAt, GoesOn, goes_as}
 use Rattle.site_store.specs.declared.sites.Sites.{Sites}
-use Rattle.repl_model.specs.Words.{Area, DamageCause, Counts, Fault, Member, TargetKind, member_gap, is_copy, refresh, last_commit, at_place_in, at_one}
+use Rattle.repl_model.specs.Words.{Area, DamageCause, Counts, Fault, Member, TargetKind, TargetSet, member_gap, is_copy, refresh, last_commit, at_place_in, at_one}
 use Rattle.repl_types.specs.declared.area.Area.TheVariants as areas
 use Rattle.stored_commits.specs.copies.ChangedCopies.{copy_table}
 use Rattle.set_places.specs.declared.placed_set.PlacedSet.{PlacedSet}
 use Rattle.target_steps.specs.declared.step.BasePoint.{BasePoint}
 use Rattle.target_steps.specs.declared.step.Step.TheVariants.{Refresh, Block}
 use Rattle.target_steps.specs.Taking.{base_of_step, entry_of, counts_of, TakesMember}
-use Rattle.apply_copies.specs.Loading.{target_number, is_target, HasOnlyRows, LoadsCopy}
+use Rattle.set_places.specs.Targets.{target_number}
+use Rattle.set_places.specs.laws.Targets.{number_is}
+use Rattle.apply_copies.specs.Loading.{HasOnlyRows, LoadsCopy}
 use Rattle.apply_copies.specs.Rules.{target_rules}
 use Rattle.apply_copies.specs.Taking.{TakesChanges}
 use Rattle.apply_copies.specs.Copies.{is_user_copy, ShowsCopyDamage}
 use Rattle.apply_copies.specs.laws.TargetLaws.{kind_is}
-use Rattle.apply_copies.proofs.CopyDamage.{source_shown, change_source_shown}
-use Rattle.apply_copies.proofs.CopyTables.{number_is, table_is, rows_are, changes_are, table_after, copies_keyed}
+use Rattle.apply_copies.proofs.CopyTables.{table_is, rows_are, changes_are, table_after, copies_keyed}
 
--- a target that alone was changed, and shows no damage that wasn't shown before, shows none of copies
-copy_shown : (number : ℕ) (c d : Contents) → ((a : Area) (n : ℕ) → is_target number a n ≡ false → d a n ≡ c a n) → ((n : ℕ) → ShownBefore (target_rules n) c d) → (a : Area) (cause : DamageCause) → ShowsCopyDamage a cause (Some d) → ShowsCopyDamage a cause (Some c)
-copy_shown number c d others targets a cause (inl (inl h)) = inl (inl (source_shown number c d others a cause h))
-copy_shown number c d others targets a cause (inl (inr h)) = inl (inr (change_source_shown number c d others a cause h))
-copy_shown number c d others targets a cause (inr h) = inr (h.0, targets h.0 a cause h.1)
+-- where no damage of a target is shown that wasn't shown before, none is shown of a set's copies
+copy_shown : (row : TargetSet) (c d : Contents) → ((n : ℕ) → ShownBefore (target_rules n) c d) → (a : Area) (cause : DamageCause) → ShowsCopyDamage (Some row) a cause (Some d) → ShowsCopyDamage (Some row) a cause (Some c)
+copy_shown row c d targets a cause h = (h.0, h.1, targets h.0 a cause h.2)
 
 module _ {K : Type 0} (kept : K → Kept) (sites : Sites K) (set : PlacedSet) (place : ℕ) (counts : Counts) (c d : Contents) (within : place < length set.at_source.def.members) where
   -- if a target became the copy of its source, the member was taken through a refresh
   loads_member : (point time : ℕ) → HasOnlyRows counts → LoadsCopy kept sites set place counts.rows c d → TakesMember kept is_user_copy sites set place (Refresh point time) ShowsCopyDamage counts c d
   loads_member point time only load = record {
     others = λ w k sound placed a n other. load.others a n (rw (number_is w k set place sound placed within) other);
-    shown = copy_shown (target_number set.at_target.number place) c d load.others load.shown;
+    shown = copy_shown set.at_target c d load.shown;
     taken = λ w k sound placed reveals member source read_only can at named copy was.
         let q = base_of_step k.at_source.def (Refresh point time) in
         let number = number_is w k set place sound placed within in
@@ -44,7 +43,7 @@ module _ {K : Type 0} (kept : K → Kept) (sites : Sites K) (set : PlacedSet) (p
   takes_member : (low low_time high time : ℕ) (base : Option BasePoint) → TakesChanges kept sites set place low high counts c d → TakesMember kept is_user_copy sites set place (Block low low_time high time base) ShowsCopyDamage counts c d
   takes_member low low_time high time base takes = record {
     others = λ w k sound placed a n other. takes.others a n (rw (number_is w k set place sound placed within) other);
-    shown = copy_shown (target_number set.at_target.number place) c d takes.others takes.shown;
+    shown = copy_shown set.at_target c d takes.shown;
     taken = λ w k sound placed reveals member source read_only can at named copy was.
         let number = number_is w k set place sound placed within in
         let before : c areas.Target (target_number set.at_target.number place) ≡ copy_table source member low = ap (λ (n : ℕ). c areas.Target n) number ∙ was ∙ table_is source member copy k.at_target.trail ∙ ap (copy_table source member) (sym can.from) in

@@ -1,35 +1,18 @@
--- The target of a user copy: its number, its rows, and that none has the empty key: proofs.
-use Rattle.std.proofs.Common.{◌≡◌, ℕ, ◌+◌, ◌*◌, ◌<◌, ◌≤◌, true, List, [], ◌∷◌, ◌++◌, length, refl, sym, ap, subst, ◌∙◌, arith, min, Option, Some, None, Less}
+-- The target of a user copy: its rows, and that none has the empty key: proofs.
+use Rattle.std.proofs.Common.{◌≡◌, ℕ, ◌+◌, ◌<◌, true, List, [], ◌∷◌, ◌++◌, length, refl, sym, ap, subst, ◌∙◌, Option, Some, None, Less}
 use Rattle.std.specs.FinMap.{entries}
-use Rattle.std.proofs.Math.Nat.{min-eq_left}
 use Rattle.std.proofs.lemmas.List.Sums.{fold-append}
 use Rattle.world_store.specs.Words.{key_spelling, copy_spelling, CopyRow, table_from_rows, AllAfter, found_after, member_table, copy_rows, rows_refreshed}
-use Rattle.repl_model.specs.Words.{bytes_cmp, Values, all_filter, Member, SetDef, changes_between, SourceTable, is_selected, selected_rows, target_row, IsSound, KeepsTable, ServerKeepsRules, LogIsSound, source_at, Entry, Trail, point_after, synchpoint, Server, World, KnownSet, source_named, In, at_one, each_image}
+use Rattle.repl_model.specs.Words.{bytes_cmp, Values, all_filter, Member, changes_between, SourceTable, is_selected, selected_rows, target_row, IsSound, KeepsTable, ServerKeepsRules, LogIsSound, source_at, Entry, Trail, point_after, synchpoint, Server, World, source_named, In, at_one, each_image}
 use Rattle.repl_definitions.specs.declared.member.TargetKind.TheVariants.{UserCopy}
 use Rattle.stored_commits.specs.records.laws.StandingRows.{standing_some}
 use Rattle.stored_commits.specs.copies.ChangedCopies.{copy_table}
-use Rattle.set_places.specs.declared.placed_set.PlacedSet.{PlacedSet}
-use Rattle.set_places.specs.Places.{IsPlacedAs}
-use Rattle.set_places.specs.laws.Known.{placed_def, members_few, number_few}
 use Rattle.set_places.specs.laws.Sources.{source_is_of, table_keyed}
-use Rattle.target_steps.specs.Taking.{changes_taken, number_of}
+use Rattle.target_steps.specs.Taking.{changes_taken}
 use Rattle.apply_copies.specs.Copying.{selected, copied}
-use Rattle.apply_copies.specs.Loading.{greatest_number, target_number}
 use Rattle.apply_copies.specs.laws.CopyRows.{copied_are, rows_stand_at}
 use Rattle.apply_copies.specs.Copies.{is_user_copy}
 use Rattle.apply_copies.specs.laws.TargetLaws.{kind_is}
-
--- ---- its number
-
--- the number of a target that the code computes doesn't pass the greatest number
-pub number_is : (w : World) (k : KnownSet) (set : PlacedSet) (place : ℕ) → IsSound w → IsPlacedAs w k set → place < length set.at_source.def.members → target_number set.at_target.number place ≡ number_of set place
-number_is w k set place sound placed within =
-    let number = set.at_target.number in
-    let low : number < 256 = number_few w k set sound placed in
-    let few : length set.at_source.def.members ≤ 64 = subst (λ (def : SetDef). length def.members ≤ 64) (sym (placed_def w k set sound placed ∙ placed.target_def)) (members_few w k sound placed.known) in
-    let inner : min (number * 64) greatest_number ≡ number * 64 = min-eq_left (omega (arith, low)) in
-    let outer : min (number * 64 + place) greatest_number ≡ number * 64 + place = min-eq_left (omega (arith, low, few, within)) in
-    ap (λ (n : ℕ). min (n + place) greatest_number) inner ∙ outer ∙ omega arith
 
 -- ---- what the kind says
 

@@ -10,7 +10,7 @@ pub mod MemberFaults
 pub mod MemberLoads
 pub mod MemberTakes
 pub mod TakenRows
-mod CopyDamage
 mod CopySteps
 mod CopyTables
+mod ShownCopies
 mod StepFaults

@@ -12,7 +12,8 @@ use Rattle.set_places.specs.Members.{ForSource, IsRegistrationOf}
 use Rattle.set_places.specs.Places.{IsPlacedAs}
 use Rattle.apply_copies.specs.Clearing.{cleared, Clears}
 use Rattle.apply_copies.specs.Copying.{selected, copied, HasRows, LoadsAll}
-use Rattle.apply_copies.specs.Loading.{target_number, is_target, LoadsCopy}
+use Rattle.set_places.specs.Targets.{target_number}
+use Rattle.apply_copies.specs.Loading.{is_target, LoadsCopy}
 use Rattle.apply_copies.specs.laws.CopyRows.{copied_are}
 use Rattle.apply_copies.specs.laws.SourceRows.{has_committed}
 use Rattle.apply_copies.proofs.CopiedRows.{other_number}

@@ -16,7 +16,7 @@ use Rattle.stored_commits.specs.copies.ChangedCopies.{copy_table, with_change, w
 use Rattle.apply_copies.specs.declared.source.Source.{Source}
 use Rattle.apply_copies.specs.ChangeRules.{source_of, IsRegisteredIn}
 use Rattle.apply_copies.specs.Changing.{source_as, HasChanges, TakesAll, rows_between}
-use Rattle.apply_copies.specs.Loading.{target_number}
+use Rattle.set_places.specs.Targets.{target_number}
 use Rattle.target_steps.specs.Taking.{counts_of}
 use Rattle.apply_copies.specs.Taking.{IsKept, TakesChanges}
 use Rattle.apply_copies.specs.laws.HeldChanges.{IsRegisteredAt, registration_held, table_held, changes_held}

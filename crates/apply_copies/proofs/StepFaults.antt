@@ -1,5 +1,5 @@
 -- Why a step of a copy failed: proofs.
-use Rattle.std.proofs.Common.{◌≡◌, ◌⊎◌, ℕ, ◌<◌, length, inl, inr, ap, subst, ◌∙◌, Option, Result, Ok, Err, IfErr}
+use Rattle.std.proofs.Common.{◌≡◌, ◌⊎◌, ℕ, ◌<◌, length, inl, inr, ap, subst, ◌∙◌, Option, None, Result, Ok, Err, IfErr}
 use Rattle.std.specs.List.{AllByRecursion}
 use Rattle.world_store.specs.Words.{Holds}
 use Rattle.site_store.specs.Words.{Contents, Kept, Blames, Rules, Shows, Damages, IsUndamaged, IsNoDamage, sees, Stops, stops_as}
@@ -12,24 +12,25 @@ use Rattle.set_places.specs.Places.{IsPlacedAtSource}
 use Rattle.set_places.specs.laws.Sources.{source_is_of}
 use Rattle.target_steps.specs.declared.step.Step.{Step}
 use Rattle.target_steps.specs.Taking.{ShowsAtEnds, ForMember}
-use Rattle.apply_copies.specs.Loading.{target_number}
+use Rattle.set_places.specs.Targets.{target_number, HasTargetOfKind}
+use Rattle.set_places.specs.laws.Targets.{number_is}
 use Rattle.apply_copies.specs.Rules.{target_rules}
 use Rattle.apply_copies.specs.Copies.{is_user_copy, ShowsCopyDamage}
-use Rattle.apply_copies.proofs.CopyTables.{number_is, table_is}
+use Rattle.apply_copies.proofs.CopyTables.{table_is}
 use Rattle.apply_copies.specs.laws.CopyRows.{copied_undamaged}
 
-module _ {K : Type 0} (kept : K → Kept) (rules : Rules) (shown : (a : Area) (cause : DamageCause) (saw : Option Contents) → Shows rules a cause saw → ShowsCopyDamage a cause saw) (s0 : Sites K) (set : PlacedSet) where
+module _ {K : Type 0} (kept : K → Kept) (rules : Rules) (shown : (a : Area) (cause : DamageCause) (saw : Option Contents) → Shows rules a cause saw → ShowsCopyDamage None a cause saw) (s0 : Sites K) (set : PlacedSet) where
   -- what the source was seen to have shows damage by its rules, or the target with a number by its own
   abbrev pub ShowsByRules : ℕ → ℕ → Area → DamageCause → Type 0
   ShowsByRules number s a cause = Damages (λ q. q ≡ set.source) rules kept s0 s a cause ⊎ Damages (λ q. q ≡ set.target) (target_rules number) kept s0 s a cause
 
   -- damage of a copy or of its source is shown at an end of the set
-  shown_at_ends : (number : ℕ) (s1 : Sites K) (e : Fault) → Stops kept s0 s1 (ShowsByRules number) e → Stops kept s0 s1 (ShowsAtEnds kept ShowsCopyDamage s0 set) e
-  shown_at_ends number s1 e stops = stops_as kept s0 s1 (ShowsByRules number) (ShowsAtEnds kept ShowsCopyDamage s0 set) e at_end stops
+  shown_at_ends : (number : ℕ) (s1 : Sites K) (e : Fault) → HasTargetOfKind is_user_copy number set.at_target → Stops kept s0 s1 (ShowsByRules number) e → Stops kept s0 s1 (ShowsAtEnds kept ShowsCopyDamage s0 set) e
+  shown_at_ends number s1 e has stops = stops_as kept s0 s1 (ShowsByRules number) (ShowsAtEnds kept ShowsCopyDamage s0 set) e at_end stops
     where
       at_end : (s : ℕ) (a : Area) (cause : DamageCause) → ShowsByRules number s a cause → ShowsAtEnds kept ShowsCopyDamage s0 set s a cause
-      at_end s a cause (inl source) = (inl source.0, shown a cause (sees kept s0 s) source.1)
-      at_end s a cause (inr target) = (inr target.0, inr (number, target.1))
+      at_end s a cause (inl source) = inl (source.0, shown a cause (sees kept s0 s) source.1)
+      at_end s a cause (inr target) = inr (target.0, (number, has, target.1))
 
   -- a set whose servers have what a world calls for shows no damage, so none was reported
   no_damage : (place : ℕ) (step : Step) (s1 : Sites K) (e : Fault) → ((w : World) (server : Server) (c : Contents) → IsSound w → In server w → Holds w server c → IsUndamaged rules c) → IsPlacedAtSource kept s0 set → place < length set.at_source.def.members → Stops kept s0 s1 (ShowsByRules (target_number set.at_target.number place)) e → ForMember kept is_user_copy s0 set place step (IsNoDamage e)
@@ -52,9 +53,9 @@ module _ {K : Type 0} (kept : K → Kept) (rules : Rules) (shown : (a : Area) (c
       none number (faults.Refused refusal) source target blames = blames
 
   -- so it is of what a call answers
-  pub fault_at_ends : (number : ℕ) (s1 : Sites K) (result : Result Counts Fault) → IfErr result (Stops kept s0 s1 (ShowsByRules number)) → IfErr result (Stops kept s0 s1 (ShowsAtEnds kept ShowsCopyDamage s0 set))
-  fault_at_ends number s1 (Ok counts) stops = tt
-  fault_at_ends number s1 (Err e) stops = shown_at_ends number s1 e stops
+  pub fault_at_ends : (number : ℕ) (s1 : Sites K) (result : Result Counts Fault) → HasTargetOfKind is_user_copy number set.at_target → IfErr result (Stops kept s0 s1 (ShowsByRules number)) → IfErr result (Stops kept s0 s1 (ShowsAtEnds kept ShowsCopyDamage s0 set))
+  fault_at_ends number s1 (Ok counts) has stops = tt
+  fault_at_ends number s1 (Err e) has stops = shown_at_ends number s1 e has stops
 
   pub answer_undamaged : (place : ℕ) (step : Step) (s1 : Sites K) (result : Result Counts Fault) → ((w : World) (server : Server) (c : Contents) → IsSound w → In server w → Holds w server c → IsUndamaged rules c) → IsPlacedAtSource kept s0 set → place < length set.at_source.def.members → IfErr result (Stops kept s0 s1 (ShowsByRules (target_number set.at_target.number place))) → IfErr result (λ e. ForMember kept is_user_copy s0 set place step (IsNoDamage e))
   answer_undamaged place step s1 (Ok counts) source_sound placed_at within stops = tt

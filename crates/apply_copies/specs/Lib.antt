@@ -5,6 +5,7 @@ pub mod Copying
 pub mod Keys
 pub mod Loading
 pub mod Rules
+pub mod Showing
 pub mod Taking
 pub mod Copies
 pub mod laws

@@ -1,5 +1,5 @@
 -- What the load of a copy makes of contents.
-use Rattle.std.specs.Prelude.{◌≡◌, ℕ, ◌+◌, ◌*◌, ◌&&◌, ◌==◌, min, Bool, false, [], length, Some, None, slice_get, map}
+use Rattle.std.specs.Prelude.{◌≡◌, ℕ, ◌&&◌, ◌==◌, Bool, false, [], length, Some, None, slice_get, map}
 use Rattle.repl_types.specs.Area.{same_area}
 use Rattle.repl_types.specs.declared.area.Area.{Area}
 use Rattle.repl_types.specs.declared.area.Area.TheVariants as areas
@@ -18,15 +18,8 @@ use Rattle.site_store.specs.declared.sites.Sites.{Sites}
 use Rattle.site_store.specs.Damage.{ShownBefore}
 use Rattle.set_places.specs.declared.placed_set.PlacedSet.{PlacedSet}
 use Rattle.set_places.specs.Members.{ForSource}
+use Rattle.set_places.specs.Targets.{target_number}
 use Rattle.apply_copies.specs.Rules.{target_rules}
-
--- the greatest number of a table
-abbrev pub greatest_number : ℕ
-greatest_number = 4294967295
-
--- the number of the target of a set's member: 64 times the set's number, and then the member's place
-abbrev pub target_number : ℕ → ℕ → ℕ
-target_number number place = min (min (number * 64) greatest_number + place) greatest_number
 
 -- the table is the target with this number
 abbrev pub is_target : ℕ → Area → ℕ → Bool

@@ -18,7 +18,8 @@ use Rattle.target_steps.specs.Taking.{counts_of}
 use Rattle.set_places.specs.declared.placed_set.PlacedSet.{PlacedSet}
 use Rattle.set_places.specs.Members.{ForSource}
 use Rattle.set_places.specs.Places.{IsReadOnly}
-use Rattle.apply_copies.specs.Loading.{target_number, is_target}
+use Rattle.set_places.specs.Targets.{target_number}
+use Rattle.apply_copies.specs.Loading.{is_target}
 use Rattle.apply_copies.specs.Rules.{target_rules}
 
 -- the areas that are read to take change rows

@@ -12,11 +12,13 @@
 //! interval is captured whole, and `specs/ChangeRules.antt` what shows that a server is damaged.
 //! That the target is then the later copy is a law of `stored_commits`.
 //!
-//! Both work inside the transaction that the caller has open at the target. Lemmas in `specs/laws`
-//! say that no source of a sound world shows damage, and no target that has the rows of a copy.
-//! `CopyTargets` takes the members of a set that are user copies through a refresh by `load_rows`,
-//! and through a block by `apply_rows`: so `refresh_step` of `full_refresh` and `step` of
-//! `apply_cycle` carry out the steps of a set all of whose members are user copies. It stands on
+//! `show_copy` writes the rows of a target, one after another, by `show_records` of `shows`.
+//! `specs/Showing.antt` says which lines these are, and what shows that they are damaged.
+//!
+//! The first two work inside the transaction that the caller has open at the target. Lemmas in
+//! `specs/laws` say that no source of a sound world shows damage, and no target that has the rows
+//! of a copy. `take_copy` takes a member that is a user copy through a refresh by `load_rows`, and
+//! through a block by `apply_rows`, as `target_steps` wants it of each kind of target. It stands on
 //! `set_places`, which finds a set and its registrations, on `row_expr`, which evaluates columns
 //! and predicates, and on `cd_tables`, whose change rows it reads.
 //!
@@ -29,12 +31,16 @@
 mod changing;
 mod clearing;
 mod images;
+mod kinds;
 mod loading;
 mod rows;
+mod showing;
 mod source;
 mod taking;
 mod targets;
 
+pub use kinds::is_copy_at;
 pub use loading::load_rows;
+pub use showing::show_copy;
 pub use taking::apply_rows;
-pub use targets::CopyTargets;
+pub use targets::take_copy;

@@ -1,6 +1,6 @@
 //! A target is made the copy of its source at the source's last commit.
 
-ghost use Rattle.std.specs.Prelude.{◌≡◌, ◌<◌, length, OnErr, IfOk, IfErr, IfSome};
+ghost use Rattle.std.specs.Prelude.{◌<◌, length, OnErr, IfOk, IfErr, IfSome};
 ghost use Rattle.row_codec.specs.Spelling.{IsRow, key_spelling};
 ghost use Rattle.site_store.specs.Records.{after_key};
 ghost use Rattle.site_store.specs.Servers.{AllClosed};
@@ -8,7 +8,8 @@ ghost use Rattle.site_store.specs.Views.{names, work, sees, IsOpenAt, IsClosedAt
 ghost use Rattle.site_store.specs.one_server.Calls.{GoesOn, Stops, Breaks, FailsToWrite};
 ghost use Rattle.set_places.specs.Places.{IsPlacedAtSource};
 ghost use Rattle.set_places.specs.Reading.{ReadsOnly};
-ghost use Rattle.apply_copies.specs.Loading.{target_number as target_number_lem, LoadsCopy};
+ghost use Rattle.set_places.specs.Targets.{target_number as target_number_lem};
+ghost use Rattle.apply_copies.specs.Loading.{LoadsCopy};
 ghost use Rattle.apply_copies.specs.Keys.{IsStoredKey, IsLaterKey};
 ghost use Rattle.apply_copies.specs.Loading.{HasOnlyRows};
 ghost use Rattle.apply_copies.specs.Copying.{CanBeCopied, no_area, LoadsRow, LoadsNext, LoadsAll};
@@ -20,20 +21,9 @@ use keep_core::Keeper;
 use repl_definitions::{Member, SourceSet};
 use repl_records::{CopyRow, SourceRow};
 use repl_types::{Counts, Fault, ROW_LIMIT, Row};
-use set_places::{PlacedSet, read_registration};
+use set_places::{PlacedSet, read_registration, target_number};
 use site_store::Sites;
 use std::alloc::Global;
-
-/// The number of the target of a member. No set of a server that stands for a world has a number
-/// for which this would pass the greatest number.
-pub fn target_number(set: &PlacedSet, member: u32) -> u32
-    ensures { result ≡ target_number_lem set.now.at_target.number member }
-{
-    set.at_target
-        .number
-        .saturating_mul(64)
-        .saturating_add(member)
-}
 
 /// Puts the row that a row of the source makes, if the member selects it, and answers how many rows
 /// were put.

@@ -23,12 +23,11 @@ ghost use Rattle.apply_copies.specs.Changing.{counted as counted_lem, start_of a
 ghost use Rattle.apply_copies.specs.Changing.{source_as, FindsNext, IsFound, IsLaterChange};
 ghost use Rattle.apply_copies.specs.Changing.{TakesNext, TakesAll, ReadsOnce};
 ghost use Rattle.apply_copies.specs.Copying.{CanBeCopied};
-ghost use Rattle.apply_copies.specs.Loading.{target_number as target_number_lem};
+ghost use Rattle.set_places.specs.Targets.{target_number as target_number_lem};
 ghost use Rattle.apply_copies.specs.Taking.{is_of_changes, TakesChanges};
 
 use crate::changing::take_row;
 use crate::images::{imaged_row, is_storable};
-use crate::loading::target_number;
 use crate::source::Source;
 use keep_core::Keeper;
 use repl_definitions::{DefinedRegistration, DefinedTable, Member, SourceSet};
@@ -36,7 +35,7 @@ use repl_records::{CdKey, ChangeRow};
 use repl_types::{CdRow, Counts, Fault, Op, ROW_LIMIT, Sequence};
 use row_changes::key_of;
 use row_codec::Table0;
-use set_places::{PlacedSet, read_registration};
+use set_places::{PlacedSet, read_registration, target_number};
 use site_store::Sites;
 use std::alloc::Global;
 

@@ -2,15 +2,16 @@
 use Rattle.std.proofs.Common.{◌≡◌, inl, inr, subst, Option}
 use Rattle.site_store.specs.Words.{Contents, Kept, Shows, Damages, Looks, Breaks, stops_as, stops_after, looks_sees}
 use Rattle.site_store.specs.declared.sites.Sites.{Sites}
-use Rattle.repl_model.specs.Words.{Area, DamageCause, Fault}
+use Rattle.repl_model.specs.Words.{Area, DamageCause, Fault, TargetSet}
 use Rattle.subs_sets.specs.Rules.{source_rules, state_rules}
 use Rattle.set_places.specs.declared.placed_set.PlacedSet.{PlacedSet}
 use Rattle.set_places.specs.Steps.{BlamesUnchanged}
 use Rattle.set_places.specs.laws.Commits.{stops_unchanged, unchanged_after}
 use Rattle.target_steps.specs.Taking.{ShowsAtEnds}
+use Rattle.target_steps.specs.laws.AtServers.{ends_as}
 use Rattle.apply_cycle.specs.Blocks.{ShowsDamage}
 
-module _ {K : Type 0} (kept : K → Kept) (shows : Area → DamageCause → Option Contents → Type 0) (set : PlacedSet) where
+module _ {K : Type 0} (kept : K → Kept) (shows : Option TargetSet → Area → DamageCause → Option Contents → Type 0) (set : PlacedSet) where
   -- ---- who is to blame
 
   module _ (s0 s1 : Sites K) where
@@ -27,4 +28,4 @@ module _ {K : Type 0} (kept : K → Kept) (shows : Area → DamageCause → Opti
       -- or the block wasn't put
       pub put_blames : BlamesUnchanged kept s1 s2 (ShowsAtEnds kept shows s1 set) e → BlamesUnchanged kept s0 s2 (ShowsDamage kept shows s0 set) e
       put_blames h = unchanged_after kept s0 s1 s2 (ShowsAtEnds kept shows s1 set) (ShowsDamage kept shows s0 set) e looks
-          (λ s a cause d. inr (d.0, subst (shows a cause) (looks_sees kept s0 s1 looks s) d.1)) h
+          (λ s a cause d. inr (ends_as kept shows set s0 s1 (looks_sees kept s0 s1 looks) s a cause d)) h

@@ -6,7 +6,7 @@ use Rattle.std.proofs.lemmas.Bool.{cond-false}
 use Rattle.world_store.specs.Words.{Holds, Becomes, Reveals, Stands, source_time, set_changes, trail_entry}
 use Rattle.site_store.specs.Words.{Contents, Kept, names, held, sees}
 use Rattle.site_store.specs.declared.sites.Sites.{Sites}
-use Rattle.repl_model.specs.Words.{Area, DamageCause, Counts, Fault, Member, TargetKind, SetDef, is_base_aggregate, base_point, block_entry, with_entry, after_action, blocks, IsSound, read_only_sets, time_at, Entry, block, synchpoint, base_of, Server, World, KnownSet, known_sets, known_stands, In}
+use Rattle.repl_model.specs.Words.{Area, DamageCause, Counts, Fault, Member, TargetKind, SetDef, is_base_aggregate, base_point, block_entry, with_entry, after_action, blocks, IsSound, read_only_sets, time_at, Entry, block, synchpoint, base_of, Server, World, KnownSet, known_sets, known_stands, In, TargetSet}
 use Rattle.repl_types.specs.declared.fault.Fault.TheVariants as faults
 use Rattle.repl_types.specs.declared.fault.Stepped.TheVariants as steps
 use Rattle.repl_definitions.specs.declared.member.TargetKind.TheVariants.{UserCopy, PointInTime, BaseAggregate, ChangeAggregate, Ccd, Replica}
@@ -107,7 +107,7 @@ module _ (takes : TargetKind → Bool) (unnumbered : (kind : TargetKind) → tak
     entry_is : block_entry k upto ≡ block known.synchpoint upto None
     entry_is = ap (block (synchpoint k.at_target.trail) upto) no_base ∙ ap (λ (s : ReadOnlyState). block s.synchpoint upto None) (sym known_is)
 
-    module _ {K : Type 0} (kept : K → Kept) (shows : Area → DamageCause → Option Contents → Type 0) (sites : Sites K) (reveals : Reveals w k.source (sees kept sites set.source)) (counts : Counts) (c d : Contents) (holds : Holds w k.target c) (puts : PutsTargets kept takes shows sites set step known counts c d) where
+    module _ {K : Type 0} (kept : K → Kept) (shows : Option TargetSet → Area → DamageCause → Option Contents → Type 0) (sites : Sites K) (reveals : Reveals w k.source (sees kept sites set.source)) (counts : Counts) (c d : Contents) (holds : Holds w k.target c) (puts : PutsTargets kept takes shows sites set step known counts c d) where
       -- what was put makes the step of the world
       put : PutsStep set.at_target.number (block_state upto (source_time w k.at_target.def upto) (base_of k.at_target.trail) k.at_target.flag (length k.at_target.trail)) (length k.at_target.trail) (trail_entry w k.at_target.def (block known.synchpoint upto None)) c d
       put = subst (λ (t : ℕ). PutsStep set.at_target.number (block_state upto t (base_of k.at_target.trail) k.at_target.flag (length k.at_target.trail)) (length k.at_target.trail) (trail_entry w k.at_target.def (block known.synchpoint upto None)) c d) (end_is ∙ sym (time_is_at upto))
@@ -123,7 +123,7 @@ module _ (takes : TargetKind → Bool) (unnumbered : (kind : TargetKind) → tak
 
     -- ---- at the servers
 
-    module _ {K : Type 0} (kept : K → Kept) (shows : Area → DamageCause → Option Contents → Type 0) (s0 s1 s2 : Sites K) (stands : Stands (names s0) (held kept s0) w) (reveals : Reveals w k.source (sees kept s1 set.source)) where
+    module _ {K : Type 0} (kept : K → Kept) (shows : Option TargetSet → Area → DamageCause → Option Contents → Type 0) (s0 s1 s2 : Sites K) (stands : Stands (names s0) (held kept s0) w) (reveals : Reveals w k.source (sees kept s1 set.source)) where
       -- once the block is put, they stand for the world after it
       pub has_blocked : HasStepped kept s0 s2 set.target (PutsSomeTargets kept takes shows s1 set step known) → HasBecome kept s0 s2 after
       has_blocked stepped = has_become kept s0 s2 w set.target k.target (with_entry k.at_target.def (block_entry k upto)) (PutsSomeTargets kept takes shows s1 set step known) stands placed.target (λ s. refl) sound_after

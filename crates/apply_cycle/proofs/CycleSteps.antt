@@ -4,13 +4,14 @@ use Rattle.std.proofs.Math.Nat.{min-eq_left}
 use Rattle.world_store.specs.Words.{Stands}
 use Rattle.site_store.specs.Words.{Contents, Kept, KeepsServers, IsRead, Blames, keeps_passed, Looks, Rules, Shows, IsNoDamage, AllClosed, names, held, work, sees}
 use Rattle.site_store.specs.declared.sites.Sites.{Sites}
-use Rattle.repl_model.specs.Words.{Area, SetId, DamageCause, Fault, Stepped, after_action, Action, signals, refreshes, blocks, reports, idles, refuses, next_action, is_replica_set, log_limit, World, KnownSet, known_set, at_place_in, TargetKind, SetDef}
+use Rattle.repl_model.specs.Words.{Area, SetId, DamageCause, Fault, Stepped, after_action, Action, signals, refreshes, blocks, reports, idles, refuses, next_action, is_replica_set, log_limit, World, KnownSet, known_set, at_place_in, TargetKind, SetDef, TargetSet}
 use Rattle.repl_types.specs.declared.status.DamageCause.TheVariants as causes
 use Rattle.repl_types.specs.declared.fault.Fault.TheVariants as faults
 use Rattle.repl_types.specs.declared.fault.Stepped.TheVariants as steps
 use Rattle.world_commits.specs.actions.Resting.{commits_world, steps_left}
 use Rattle.world_commits.specs.actions.laws.Resting.{few_steps}
 use Rattle.target_steps.specs.Steps.{TakesEach}
+use Rattle.target_steps.specs.Taking.{ShowsAtEnds}
 use Rattle.set_places.specs.Members.{ForSource}
 use Rattle.set_places.specs.Places.{IsPlacedAs, IsKnownAs, IsReadOnly}
 use Rattle.set_places.specs.Steps.{HasBecome, MayHaveBecome}
@@ -177,8 +178,13 @@ shown_read rules a (causes.Absent key) saw h = tt
 shown_read rules a (causes.Unfit bytes) saw h = tt
 shown_read rules a (causes.NoRest n) saw h = absurd h
 
+-- that a set doesn't come to rest is shown at none of its ends
+none_at_ends : {K : Type 0} (kept : K → Kept) (shows : Option TargetSet → Area → DamageCause → Option Contents → Type 0) → ((row : Option TargetSet) (a : Area) (n : ℕ) (saw : Option Contents) → shows row a (causes.NoRest n) saw → ⊥) → (s0 : Sites K) (set : PlacedSet) (s : ℕ) (a : Area) (n : ℕ) → ShowsAtEnds kept shows s0 set s a (causes.NoRest n) → IsRead (causes.NoRest n)
+none_at_ends kept shows no_rest s0 set s a n (inl h) = absurd (no_rest None a n (sees kept s0 s) h.1)
+none_at_ends kept shows no_rest s0 set s a n (inr h) = absurd (no_rest (Some set.at_target) a n (sees kept s0 s) h.1)
+
 -- so it is with what a step finds
-pub step_read : {K : Type 0} (kept : K → Kept) (shows : Area → DamageCause → Option Contents → Type 0) → ((a : Area) (n : ℕ) (saw : Option Contents) → shows a (causes.NoRest n) saw → ⊥) → (s0 : Sites K) (set : PlacedSet) (s : ℕ) (a : Area) (cause : DamageCause) → ShowsDamage kept shows s0 set s a cause → IsRead cause
+pub step_read : {K : Type 0} (kept : K → Kept) (shows : Option TargetSet → Area → DamageCause → Option Contents → Type 0) → ((row : Option TargetSet) (a : Area) (n : ℕ) (saw : Option Contents) → shows row a (causes.NoRest n) saw → ⊥) → (s0 : Sites K) (set : PlacedSet) (s : ℕ) (a : Area) (cause : DamageCause) → ShowsDamage kept shows s0 set s a cause → IsRead cause
 step_read kept shows no_rest s0 set s a (causes.Spelling bytes) h = tt
 step_read kept shows no_rest s0 set s a (causes.Absent key) h = tt
 step_read kept shows no_rest s0 set s a (causes.Unfit bytes) h = tt
@@ -186,10 +192,10 @@ step_read kept shows no_rest s0 set s a (causes.NoRest n) (inl next) = absurd ne
 step_read kept shows no_rest s0 set s a (causes.NoRest n) (inr (inl signal)) = absurd signal.1
 step_read kept shows no_rest s0 set s a (causes.NoRest n) (inr (inr (inl (inl (inl end))))) = absurd end.1
 step_read kept shows no_rest s0 set s a (causes.NoRest n) (inr (inr (inl (inl (inr state))))) = absurd state.1
-step_read kept shows no_rest s0 set s a (causes.NoRest n) (inr (inr (inl (inr rows)))) = absurd (no_rest a n (sees kept s0 s) rows.1)
+step_read kept shows no_rest s0 set s a (causes.NoRest n) (inr (inr (inl (inr rows)))) = none_at_ends kept shows no_rest s0 set s a n rows
 step_read kept shows no_rest s0 set s a (causes.NoRest n) (inr (inr (inr (inl (inl (inl captured)))))) = absurd captured.1
 step_read kept shows no_rest s0 set s a (causes.NoRest n) (inr (inr (inr (inl (inl (inr state)))))) = absurd state.1
-step_read kept shows no_rest s0 set s a (causes.NoRest n) (inr (inr (inr (inl (inr rows))))) = absurd (no_rest a n (sees kept s0 s) rows.1)
+step_read kept shows no_rest s0 set s a (causes.NoRest n) (inr (inr (inr (inl (inr rows))))) = none_at_ends kept shows no_rest s0 set s a n rows
 step_read kept shows no_rest s0 set s a (causes.NoRest n) (inr (inr (inr (inr (inl state))))) = absurd state.1
 step_read kept shows no_rest s0 set s a (causes.NoRest n) (inr (inr (inr (inr (inr mark))))) = absurd mark.1
 

@@ -3,7 +3,7 @@ use Rattle.std.proofs.Common.{◌≡◌, ◌∙◌, ℕ, Bool, true, false, ◌|
 use Rattle.world_store.specs.Words.{Stands}
 use Rattle.site_store.specs.Words.{Contents, Kept, AllClosed, names, held, work, Rules, Shows, Damages, Looks, looks_sees}
 use Rattle.site_store.specs.declared.sites.Sites.{Sites}
-use Rattle.repl_model.specs.Words.{Area, DamageCause, Fault, Stepped, after_action, Action, signals, refreshes, blocks, reports, idles, refuses, next_action_within, World, KnownSet}
+use Rattle.repl_model.specs.Words.{Area, DamageCause, Fault, Stepped, after_action, Action, signals, refreshes, blocks, reports, idles, refuses, next_action_within, World, KnownSet, TargetSet}
 use Rattle.repl_types.specs.declared.area.Area.TheVariants as areas
 use Rattle.repl_types.specs.declared.fault.Fault.TheVariants as faults
 use Rattle.repl_types.specs.declared.fault.Stepped.TheVariants as steps
@@ -17,7 +17,8 @@ use Rattle.full_refresh.specs.Rules.{all_rules}
 use Rattle.subs_sets.specs.Rules.{is_read, source_rules, state_rules}
 use Rattle.prune_control.specs.Noting as noting
 use Rattle.prune_control.specs.Noting.{mark_rules}
-use Rattle.target_steps.specs.Taking.{is_of_block, ShowsAtEnds}
+use Rattle.target_steps.specs.Taking.{is_of_block}
+use Rattle.target_steps.specs.laws.AtServers.{ends_as}
 use Rattle.full_refresh.specs.Refreshes as refreshing
 use Rattle.full_refresh.specs.Refreshes.{IsRefresh}
 use Rattle.apply_cycle.specs.Blocks as blocking
@@ -105,10 +106,6 @@ module _ {K : Type 0} (kept : K → Kept) (s0 s1 : Sites K) (looks : Looks kept 
   pub blames_back : (D E : ℕ → Area → DamageCause → Type 0) → ((s : ℕ) (a : Area) (cause : DamageCause) → D s a cause → E s a cause) → (s2 : Sites K) (e : Fault) → BlamesUnchanged kept s1 s2 D e → BlamesUnchanged kept s0 s2 E e
   blames_back D E weaker s2 e h = unchanged_after kept s0 s1 s2 D E e looks weaker h
 
-  -- damage of either end
-  pub ends_back : (shows : Area → DamageCause → Option Contents → Type 0) (set : PlacedSet) (s : ℕ) (a : Area) (cause : DamageCause) → ShowsAtEnds kept shows s1 set s a cause → ShowsAtEnds kept shows s0 set s a cause
-  ends_back shows set s a cause h = (h.0, subst (shows a cause) (looks_sees kept s0 s1 looks s) h.1)
-
   pub blamed_back : (D E : ℕ → Area → DamageCause → Type 0) → ((s : ℕ) (a : Area) (cause : DamageCause) → D s a cause → E s a cause) → (s2 : Sites K) (e : Fault) → IsBlamed kept s1 s2 D e → IsBlamed kept s0 s2 E e
   blamed_back D E weaker s2 faults.Memory h = blames_back D E weaker s2 faults.Memory h
   blamed_back D E weaker s2 (faults.Keeper s) h = blames_back D E weaker s2 (faults.Keeper s) h
@@ -129,7 +126,7 @@ pub noted_blamed : {K : Type 0} (kept : K → Kept) (set : PlacedSet) (s0 s1 s2 
 noted_blamed kept set s0 s1 s2 looks e h = blamed kept s0 s2 (ShowsReportDamage kept s0 set) e
     (blames_back kept s0 s1 looks (noting.ShowsDamage kept s1 set.source) (ShowsReportDamage kept s0 set) (λ s a cause d. inr (damage_back kept s0 s1 looks (λ q. q ≡ set.source) mark_rules s a cause d)) s2 e h)
 
-module _ {K : Type 0} (kept : K → Kept) (shows : Area → DamageCause → Option Contents → Type 0) (set : PlacedSet) (s0 s1 s2 : Sites K) (looks : Looks kept s0 s1) (e : Fault) where
+module _ {K : Type 0} (kept : K → Kept) (shows : Option TargetSet → Area → DamageCause → Option Contents → Type 0) (set : PlacedSet) (s0 s1 s2 : Sites K) (looks : Looks kept s0 s1) (e : Fault) where
   -- for a refresh
   pub refresh_blamed : BlamesUnchanged kept s1 s2 (refreshing.ShowsDamage kept shows s1 set) e → IsBlamed kept s0 s2 (ShowsDamage kept shows s0 set) e
   refresh_blamed h = blamed kept s0 s2 (ShowsDamage kept shows s0 set) e (blames_back kept s0 s1 looks (refreshing.ShowsDamage kept shows s1 set) (ShowsDamage kept shows s0 set) weaker s2 e h)
@@ -137,7 +134,7 @@ module _ {K : Type 0} (kept : K → Kept) (shows : Area → DamageCause → Opti
       weaker : (s : ℕ) (a : Area) (cause : DamageCause) → refreshing.ShowsDamage kept shows s1 set s a cause → ShowsDamage kept shows s0 set s a cause
       weaker s a cause (inl (inl h)) = inr (inr (inl (inl (inl (damage_back kept s0 s1 looks (λ q. q ≡ set.source) all_rules s a cause h)))))
       weaker s a cause (inl (inr h)) = inr (inr (inl (inl (inr (damage_back kept s0 s1 looks (λ q. q ≡ set.target) state_rules s a cause h)))))
-      weaker s a cause (inr h) = inr (inr (inl (inr (ends_back kept s0 s1 looks shows set s a cause h))))
+      weaker s a cause (inr h) = inr (inr (inl (inr (ends_as kept shows set s0 s1 (looks_sees kept s0 s1 looks) s a cause h))))
 
   -- for a block
   pub block_blamed : BlamesUnchanged kept s1 s2 (blocking.ShowsDamage kept shows s1 set) e → IsBlamed kept s0 s2 (ShowsDamage kept shows s0 set) e
@@ -146,7 +143,7 @@ module _ {K : Type 0} (kept : K → Kept) (shows : Area → DamageCause → Opti
       weaker : (s : ℕ) (a : Area) (cause : DamageCause) → blocking.ShowsDamage kept shows s1 set s a cause → ShowsDamage kept shows s0 set s a cause
       weaker s a cause (inl (inl h)) = inr (inr (inr (inl (inl (inl (damage_back kept s0 s1 looks (λ q. q ≡ set.source) source_rules s a cause h))))))
       weaker s a cause (inl (inr h)) = inr (inr (inr (inl (inl (inr (damage_back kept s0 s1 looks (λ q. q ≡ set.target) state_rules s a cause h))))))
-      weaker s a cause (inr h) = inr (inr (inr (inl (inr (ends_back kept s0 s1 looks shows set s a cause h)))))
+      weaker s a cause (inr h) = inr (inr (inr (inl (inr (ends_as kept shows set s0 s1 (looks_sees kept s0 s1 looks) s a cause h)))))
 
   -- for a report
   pub report_blamed : IsBlamed kept s1 s2 (ShowsReportDamage kept s1 set) e → IsBlamed kept s0 s2 (ShowsDamage kept shows s0 set) e

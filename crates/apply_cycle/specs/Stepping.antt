@@ -10,6 +10,7 @@ use Rattle.repl_types.specs.declared.fault.Stepped.{Stepped}
 use Rattle.repl_types.specs.declared.fault.Stepped.TheVariants as steps
 use Rattle.keep_core.specs.Contents.{Contents}
 use Rattle.keep_core.specs.Kept.{Kept}
+use Rattle.repl_definitions.specs.declared.set.TargetSet.{TargetSet}
 use Rattle.repl_model.specs.AfterActions.{base_point, after_action}
 use Rattle.repl_model.specs.NextActions.{Action, signals, refreshes, blocks, reports, idles, refuses}
 use Rattle.repl_model.specs.SoundLogs.{log_limit}
@@ -88,5 +89,5 @@ abbrev pub ShowsReportDamage : {K : Type 0} → (K → Kept) → Sites K → Pla
 ShowsReportDamage kept sites set s a cause = Damages (λ q. q ≡ set.target) state_rules kept sites s a cause ⊎ noting.ShowsDamage kept sites set.source s a cause
 
 -- what one of a set's servers was seen to have shows damage, by the rules of what the set does next or of one of its actions
-abbrev pub ShowsDamage : {K : Type 0} → (K → Kept) → (Area → DamageCause → Option Contents → Type 0) → Sites K → PlacedSet → ℕ → Area → DamageCause → Type 0
+abbrev pub ShowsDamage : {K : Type 0} → (K → Kept) → (Option TargetSet → Area → DamageCause → Option Contents → Type 0) → Sites K → PlacedSet → ℕ → Area → DamageCause → Type 0
 ShowsDamage kept shows sites set s a cause = states.ShowsDamage kept sites s a cause ⊎ (signalling.ShowsDamage kept sites set s a cause ⊎ (refreshing.ShowsDamage kept shows sites set s a cause ⊎ (blocking.ShowsDamage kept shows sites set s a cause ⊎ ShowsReportDamage kept sites set s a cause)))

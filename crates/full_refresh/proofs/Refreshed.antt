@@ -4,7 +4,7 @@ use Rattle.std.specs.Option.{option_map_or}
 use Rattle.world_store.specs.Words.{Head, head_of, Holds, Reveals, Stands, source_time, set_rows_refreshed, trail_entry}
 use Rattle.site_store.specs.Words.{Contents, Kept, names, held, sees}
 use Rattle.site_store.specs.declared.sites.Sites.{Sites}
-use Rattle.repl_model.specs.Words.{Area, DamageCause, Counts, Fault, TargetKind, base_point, refresh_entry, refreshed, after_action, refreshes, time_at, IsSound, read_only_sets, refresh, units, last_commit, last_time, Server, World, KnownSet, known_sets, known_stands, In}
+use Rattle.repl_model.specs.Words.{Area, DamageCause, Counts, Fault, TargetKind, base_point, refresh_entry, refreshed, after_action, refreshes, time_at, IsSound, read_only_sets, refresh, units, last_commit, last_time, Server, World, KnownSet, known_sets, known_stands, In, TargetSet}
 use Rattle.repl_types.specs.declared.fault.Fault.TheVariants as faults
 use Rattle.repl_types.specs.declared.fault.Stepped.TheVariants as steps
 use Rattle.stored_commits.specs.actions.StoredSteps.{is_numbered, PutsStep, refreshed_state}
@@ -61,7 +61,7 @@ module _ (takes : TargetKind → Bool) (unnumbered : (kind : TargetKind) → tak
   can : CanStep k step
   can = can_load k (head_of k.source) refl
 
-  module _ {K : Type 0} (kept : K → Kept) (shows : Area → DamageCause → Option Contents → Type 0) (sites : Sites K) (reveals : Reveals w k.source (sees kept sites set.source)) (at : Head) (at_is : at ≡ head_of k.source) (known : ReadOnlyState) (known_is : known ≡ state_in w k) (counts : Counts) (c d : Contents) (holds : Holds w k.target c) (puts : PutsTargets kept takes shows sites set (Refresh at.commit at.time) known counts c d) where
+  module _ {K : Type 0} (kept : K → Kept) (shows : Option TargetSet → Area → DamageCause → Option Contents → Type 0) (sites : Sites K) (reveals : Reveals w k.source (sees kept sites set.source)) (at : Head) (at_is : at ≡ head_of k.source) (known : ReadOnlyState) (known_is : known ≡ state_in w k) (counts : Counts) (c d : Contents) (holds : Holds w k.target c) (puts : PutsTargets kept takes shows sites set (Refresh at.commit at.time) known counts c d) where
     -- it was put at that point and time
     puts_there : PutsTargets kept takes shows sites set step known counts c d
     puts_there = subst (λ (h : Head). PutsTargets kept takes shows sites set (Refresh h.commit h.time) known counts c d) at_is puts
@@ -83,7 +83,7 @@ module _ (takes : TargetKind → Bool) (unnumbered : (kind : TargetKind) → tak
 
   -- ---- at the servers
 
-  module _ {K : Type 0} (kept : K → Kept) (shows : Area → DamageCause → Option Contents → Type 0) (s0 s1 s2 : Sites K) (stands : Stands (names s0) (held kept s0) w) (reveals : Reveals w k.source (sees kept s1 set.source)) (at : Head) (at_is : at ≡ head_of k.source) (known : ReadOnlyState) (known_is : known ≡ state_in w k) where
+  module _ {K : Type 0} (kept : K → Kept) (shows : Option TargetSet → Area → DamageCause → Option Contents → Type 0) (s0 s1 s2 : Sites K) (stands : Stands (names s0) (held kept s0) w) (reveals : Reveals w k.source (sees kept s1 set.source)) (at : Head) (at_is : at ≡ head_of k.source) (known : ReadOnlyState) (known_is : known ≡ state_in w k) where
     -- once the refresh is put, they stand for the world after it
     pub has_refreshed : HasStepped kept s0 s2 set.target (PutsSomeTargets kept takes shows s1 set (Refresh at.commit at.time) known) → HasBecome kept s0 s2 after
     has_refreshed stepped = has_become kept s0 s2 w set.target k.target (refreshed k.at_target.def (refresh_entry k)) (PutsSomeTargets kept takes shows s1 set (Refresh at.commit at.time) known) stands placed.target (λ s. refl) sound_after

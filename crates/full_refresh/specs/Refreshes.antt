@@ -7,6 +7,7 @@ use Rattle.repl_types.specs.declared.fault.Stepped.TheVariants as steps
 use Rattle.keep_core.specs.Contents.{Contents}
 use Rattle.keep_core.specs.Kept.{Kept}
 use Rattle.repl_definitions.specs.declared.member.TargetKind.{TargetKind}
+use Rattle.repl_definitions.specs.declared.set.TargetSet.{TargetSet}
 use Rattle.repl_model.specs.Units.{last_commit}
 use Rattle.repl_model.specs.World.{World, KnownSet}
 use Rattle.repl_model.specs.NextActions.{refreshes}
@@ -40,5 +41,5 @@ IsRefresh other = ⊥
 
 -- what the source of a set was seen to have of its log, the target of the set's state, or either of what is taken through it,
 -- shows damage
-abbrev pub ShowsDamage : {K : Type 0} → (K → Kept) → (Area → DamageCause → Option Contents → Type 0) → Sites K → PlacedSet → ℕ → Area → DamageCause → Type 0
+abbrev pub ShowsDamage : {K : Type 0} → (K → Kept) → (Option TargetSet → Area → DamageCause → Option Contents → Type 0) → Sites K → PlacedSet → ℕ → Area → DamageCause → Type 0
 ShowsDamage kept shows sites set s a cause = (Damages (λ q. q ≡ set.source) all_rules kept sites s a cause ⊎ Damages (λ q. q ≡ set.target) state_rules kept sites s a cause) ⊎ ShowsAtEnds kept shows sites set s a cause

@@ -4,9 +4,8 @@ use Rattle.std.specs.List.{list_all, list_any}
 use Rattle.std.specs.Option.{option_map_or}
 use Rattle.std.proofs.lemmas.Bool.{and_parts}
 use Rattle.site_store.specs.Words.{Contents, Takes, TakesPrefix, takes_nothing}
-use Rattle.repl_model.specs.Words.{SetId, Refusal, Member, TargetKind, after_action, Action, signals, refreshes, blocks, reports, idles, refuses, next_action, is_replica, IsSound, log_limit, World, KnownSet, known_set}
+use Rattle.repl_model.specs.Words.{SetId, Refusal, Member, after_action, Action, signals, refreshes, blocks, reports, idles, refuses, next_action, is_replica, IsSound, log_limit, World, KnownSet, known_set}
 use Rattle.repl_types.specs.declared.refusal.Refusal.TheVariants as refusals
-use Rattle.repl_definitions.specs.declared.member.TargetKind.TheVariants.{UserCopy, PointInTime, BaseAggregate, ChangeAggregate, Ccd, Replica}
 use Rattle.reply_text.specs.Replies.{reply_line}
 use Rattle.reply_text.specs.declared.reply.Reply.TheVariants as replies
 use Rattle.run_core.specs.Runs.{Event, commits, writes, last_world, lines_of, is_refused, Went, Stopped}
@@ -16,7 +15,8 @@ use Rattle.run_commands.specs.parts.Refusing.{refused}
 use Rattle.world_commits.specs.actions.Resting.{commits_world, steps_left}
 use Rattle.world_commits.specs.actions.laws.Resting.{few_steps}
 use Rattle.world_commits.specs.actions.StaysSound.{length_signalled}
-use Rattle.apply_copies.specs.Copies.{is_user_copy}
+use Rattle.member_targets.specs.Kinds.{is_taken}
+use Rattle.member_targets.specs.laws.Kinds.{no_replica_taken}
 use Rattle.run_commands.specs.apply.Progress.{progress_of, step_of}
 use Rattle.run_commands.specs.apply.StepEvents.{Outcome, declines, rests, makes, making, outcome_of, is_carried_out, next_outcome, outcome, events_of, events_from, most_steps, apply_events}
 use Rattle.run_commands.specs.declared.apply.steps.Progress.TheVariants.{Refused, Rested, Made}
@@ -24,21 +24,12 @@ use Rattle.world_commits.specs.laws.Resting.{each_leaves_fewer}
 
 -- ---- sets that are carried out
 
--- a user copy is no replica
-copy_no_replica : (kind : TargetKind) → is_user_copy kind ≡ true → is_replica kind ≡ false
-copy_no_replica UserCopy is = refl
-copy_no_replica PointInTime is = refl
-copy_no_replica BaseAggregate is = refl
-copy_no_replica ChangeAggregate is = refl
-copy_no_replica (Ccd complete condensed) is = refl
-copy_no_replica Replica is = absurd cc
-
--- so a set of user copies has none
-pub not_replicas : (members : List Member) → list_all (λ member. is_user_copy member.kind) members ≡ true → not (list_any (λ member. is_replica member.kind) members) ≡ true
+-- a set whose members are carried out has no replica
+pub not_replicas : (members : List Member) → list_all (λ member. is_taken member.kind) members ≡ true → not (list_any (λ member. is_replica member.kind) members) ≡ true
 not_replicas [] all = refl
 not_replicas (member ∷ members) all =
-    let both = and_parts (is_user_copy member.kind) (list_all (λ m. is_user_copy m.kind) members) all in
-    ap (λ (b : Bool). not (b || list_any (λ m. is_replica m.kind) members)) (copy_no_replica member.kind both.0) ∙ not_replicas members both.1
+    let both = and_parts (is_taken member.kind) (list_all (λ m. is_taken m.kind) members) all in
+    ap (λ (b : Bool). not (b || list_any (λ m. is_replica m.kind) members)) (no_replica_taken member.kind both.0) ∙ not_replicas members both.1
 
 -- ---- the next world
 

@@ -18,7 +18,7 @@ use Rattle.run_commands.specs.parts.Parts.{IsPart, WritesRefusal}
 use Rattle.run_commands.specs.parts.Refusing.{refused}
 use Rattle.run_commands.specs.parts.RunErrors.{error_of_fault}
 use Rattle.run_commands.specs.declared.parts.run_error.RunError.{RunError}
-use Rattle.run_commands.specs.parts.laws.Damage.{append_shown, fault_cause}
+use Rattle.run_commands.specs.parts.laws.Damage.{append_shown, layer_shown, fault_cause}
 use Rattle.run_commands.specs.parts.laws.Composing.{part_as, part_gives, part_refused, part_then}
 use Rattle.run_commands.specs.feed.FeedEvents.{commit_events, error_events, server_events, batch_events, last_position}
 use Rattle.run_commands.specs.declared.feed.feed.Feed.{Feed}
@@ -126,7 +126,7 @@ module _ {K O : Type 0} (kept : K → Kept) (taken : O → Option (List ℕ)) (f
                 stopped_in_second (Stands (names s0)) w (first w) rest (held kept s1) (held kept s1) (taken o) (taken o) (taken o) went (stopped_before (Stands (names s0)) (last_world w (first w)) rest (held kept s1) (taken o) went.stands))
           ];
       servers = keeps;
-      cause = fault_cause kept s0 s1 closed keeps all_rules append_shown (λ s. s ≡ n) (λ s at. subst (λ (m : ℕ). m < length (names s0)) (sym at) place.within) (faults o) (faults o) e error is blames.blames
+      cause = fault_cause kept s0 s1 closed keeps (ShowsDamage kept s0 n) (layer_shown kept s0 all_rules append_shown (λ s. s ≡ n) (λ s at. subst (λ (m : ℕ). m < length (names s0)) (sym at) place.within)) (faults o) (faults o) e error is blames.blames
           (λ s a cause met. unchanged_if_damaged kept s0 s1 s a cause (subst (HoldsOrInDoubt kept s0 s1) met blames.holds)) (λ w stands. (has w stands).0);
       counts = omega arith;
     }

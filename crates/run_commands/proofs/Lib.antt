@@ -12,6 +12,7 @@ pub mod LoadEvents
 mod MadeSteps
 mod NamedSteps
 mod Outcomes
+mod RefreshEvents
 mod ShowEvents
 pub mod StatusEvents
 mod StepDamage

@@ -1,6 +1,6 @@
 -- Why a load failed.
-use Rattle.std.proofs.Common.{◌≡◌, ℕ, ◌<◌, length, Some}
-use Rattle.site_store.specs.Words.{Kept, KeepsServers, Blames, AllClosed, names, held, work}
+use Rattle.std.proofs.Common.{◌≡◌, ℕ, Some}
+use Rattle.site_store.specs.Words.{Kept, KeepsServers, Blames, AllClosed, held, work}
 use Rattle.site_store.specs.declared.sites.Sites.{Sites}
 use Rattle.repl_model.specs.Words.{Area, DamageCause, Fault}
 use Rattle.repl_types.specs.declared.fault.Fault.TheVariants as faults
@@ -10,7 +10,7 @@ use Rattle.load_defs.specs.Loading.{BlamesOrRefuses}
 use Rattle.run_commands.specs.parts.Causes.{PartHasCause}
 use Rattle.run_commands.specs.parts.RunErrors.{error_of_fault}
 use Rattle.run_commands.specs.declared.parts.run_error.RunError.{RunError}
-use Rattle.run_commands.specs.parts.laws.Damage.{stored_shown, fault_cause}
+use Rattle.run_commands.specs.parts.laws.Damage.{all_shown, stored_shown, fault_cause}
 
 module _ {K : Type 0} (kept : K → Kept) (s0 s1 : Sites K) (closed : AllClosed (work kept s0)) (keeps : KeepsServers kept s0 s1) where
   -- who is to blame, if nothing was refused
@@ -31,4 +31,4 @@ module _ {K : Type 0} (kept : K → Kept) (s0 s1 : Sites K) (closed : AllClosed 
   pub load_cause : (before now : ℕ) (e : Fault) (error : RunError) → Some error ≡ error_of_fault e → BlamesOrRefuses kept s0 s1 (ShowsDamage kept s0) e → PartHasCause kept s0 s1 before now error
   load_cause before now e error is blames =
       let who = blamed e error is blames in
-      fault_cause kept s0 s1 closed keeps rules stored_shown (λ n. n < length (names s0)) (λ n lt. lt) before now e error is who (unchanged e blames) (λ w stands. none_damaged kept s0 closed w stands s1 e who)
+      fault_cause kept s0 s1 closed keeps (ShowsDamage kept s0) (all_shown kept s0 rules stored_shown) before now e error is who (unchanged e blames) (λ w stands. none_damaged kept s0 closed w stands s1 e who)

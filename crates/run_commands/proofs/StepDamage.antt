@@ -1,5 +1,5 @@
 -- Damage that a step met is damage by the rules of a run.
-use Rattle.std.proofs.Common.{◌≡◌, ◌⊎◌, inl, inr, ℕ, ◌<◌, List, length, map, false, sym, subst, true≢false, zero, Option, Some, None}
+use Rattle.std.proofs.Common.{◌≡◌, ◌⊎◌, inl, inr, ℕ, ◌<◌, List, length, map, false, sym, subst, true≢false, zero, Option, Some, None, IfSome}
 use Rattle.world_store.specs.Words.{Stands}
 use Rattle.site_store.specs.Words.{Contents, Kept, KeepsServers, HoldsOrInDoubt, Rules, joined, Shows, Damages, IsNoDamage, shown_first, shown_second, AllClosed, names, held, work, sees, if_seen}
 use Rattle.site_store.specs.declared.sites.Sites.{Sites}
@@ -15,11 +15,13 @@ use Rattle.subs_sets.specs.Rules.{captured_rules, state_rules}
 use Rattle.set_places.specs.Members.{member_rules}
 use Rattle.set_places.specs.Places.{IsPlaced}
 use Rattle.set_places.specs.Steps.{BlamesUnchanged}
+use Rattle.set_places.specs.Targets.{DefinesTargets}
+use Rattle.set_places.specs.laws.Targets.{targets_defined}
 use Rattle.set_places.specs.declared.placed_set.PlacedSet.{PlacedSet}
 use Rattle.apply_cycle.specs.Noting.{mark_rules}
 use Rattle.apply_cycle.specs.Signals.{start_of, signal_rules}
 use Rattle.apply_cycle.specs.Taking.{ShowsAtEnds}
-use Rattle.apply_copies.specs.Copies.{ShowsCopyDamage}
+use Rattle.member_targets.specs.Kinds.{ShowsMemberDamage, ShowsTargetDamage}
 use Rattle.apply_cycle.specs.Stepping.{IsBlamed, ShowsDamage}
 use Rattle.run_commands.specs.parts.Causes.{PartHasCause, FoundByRead}
 use Rattle.run_commands.specs.parts.Damage as running
@@ -82,7 +84,7 @@ pub source_shown : IsShown sets.source_rules
 source_shown a cause saw h = set_shown a cause saw (shown_first sets.source_rules state_rules a cause saw h)
 
 -- those of its state
-state_shown : IsShown state_rules
+pub state_shown : IsShown state_rules
 state_shown a cause saw h = set_shown a cause saw (shown_second sets.source_rules state_rules a cause saw h)
 
 -- and those of its mark
@@ -92,7 +94,7 @@ mark_shown a cause saw h = source_shown a cause saw (shown_second member_rules (
 module _ {K : Type 0} (kept : K → Kept) (s0 s1 : Sites K) (set : PlacedSet) (placed : IsPlaced kept s0 set) (closed : AllClosed (work kept s0)) (keeps : KeepsServers kept s0 s1) where
   -- what a server was seen to have, by the rules of a run
   abbrev Shown : ℕ → Area → DamageCause → Type 0
-  Shown n a cause = (n < length (names s0)) × (Shows rules a cause (sees kept s0 n) ⊎ ShowsCopyDamage a cause (sees kept s0 n))
+  Shown n a cause = (n < length (names s0)) × (Shows rules a cause (sees kept s0 n) ⊎ ShowsTargetDamage a cause (sees kept s0 n))
 
   -- of one of the ends
   at_source : (layer : Rules) → IsShown layer → (n : ℕ) (a : Area) (cause : DamageCause) → Damages (λ s. s ≡ set.source) layer kept s0 n a cause → Shown n a cause
@@ -101,16 +103,16 @@ module _ {K : Type 0} (kept : K → Kept) (s0 s1 : Sites K) (set : PlacedSet) (p
   at_target : (layer : Rules) → IsShown layer → (n : ℕ) (a : Area) (cause : DamageCause) → Damages (λ s. s ≡ set.target) layer kept s0 n a cause → Shown n a cause
   at_target layer all n a cause h = (subst (λ (m : ℕ). m < length (names s0)) (sym h.0) placed.target.within, inl (all a cause (sees kept s0 n) h.1))
 
-  -- of the rows that are copied
-  at_ends : (n : ℕ) (a : Area) (cause : DamageCause) → ShowsAtEnds kept ShowsCopyDamage s0 set n a cause → Shown n a cause
-  at_ends n a cause h = (within h.0, inr h.1)
-    where
-      within : (n ≡ set.source) ⊎ (n ≡ set.target) → n < length (names s0)
-      within (inl is) = subst (λ (m : ℕ). m < length (names s0)) (sym is) placed.source.within
-      within (inr is) = subst (λ (m : ℕ). m < length (names s0)) (sym is) placed.target.within
+  -- of targets
+  at_ends : (n : ℕ) (a : Area) (cause : DamageCause) → ShowsAtEnds kept ShowsMemberDamage s0 set n a cause → Shown n a cause
+  at_ends n a cause (inl h) = (subst (λ (m : ℕ). m < length (names s0)) (sym h.0) placed.source.within, inr (inl h.1))
+  at_ends n a cause (inr h) = (
+    subst (λ (m : ℕ). m < length (names s0)) (sym h.0) placed.target.within,
+    inr (inr (set.at_target, subst (λ (m : ℕ). IfSome (sees kept s0 m) (DefinesTargets set.at_target)) (sym h.0) (targets_defined kept s0 set placed.target), h.1)),
+  )
 
   -- whichever action met it
-  step_shown : (n : ℕ) (a : Area) (cause : DamageCause) → ShowsDamage kept ShowsCopyDamage s0 set n a cause → Shown n a cause
+  step_shown : (n : ℕ) (a : Area) (cause : DamageCause) → ShowsDamage kept ShowsMemberDamage s0 set n a cause → Shown n a cause
   step_shown n a cause (inl next) = (next.0, inl (set_shown a cause (sees kept s0 n) next.1))
   step_shown n a cause (inr (inl signal)) = at_source (signal_rules set.at_source.def) (signal_shown set.at_source.def) n a cause signal
   step_shown n a cause (inr (inr (inl (inl (inl end))))) = at_source all_rules append_shown n a cause end
@@ -126,30 +128,30 @@ module _ {K : Type 0} (kept : K → Kept) (s0 s1 : Sites K) (set : PlacedSet) (p
   shown_after : held kept s1 ≡ held kept s0 → (n : ℕ) (a : Area) (cause : DamageCause) → Shown n a cause → running.ShowsDamage kept s1 n a cause
   shown_after same n a cause h = (
     subst (λ (l : List (List ℕ)). n < length l) (sym keeps.names) h.0,
-    subst (λ (saw : Option Contents). Shows rules a cause saw ⊎ ShowsCopyDamage a cause saw) (seen_after kept s0 s1 closed keeps same n) h.1,
+    subst (λ (saw : Option Contents). Shows rules a cause saw ⊎ ShowsTargetDamage a cause saw) (seen_after kept s0 s1 closed keeps same n) h.1,
   )
 
   -- what it found was read
-  pub step_reads : (e : Fault) (error : RunError) → Some error ≡ error_of_fault e → IsBlamed kept s0 s1 (ShowsDamage kept ShowsCopyDamage s0 set) e → FoundByRead error
+  pub step_reads : (e : Fault) (error : RunError) → Some error ≡ error_of_fault e → IsBlamed kept s0 s1 (ShowsDamage kept ShowsMemberDamage s0 set) e → FoundByRead error
   step_reads e error is blamed = by_fault e is blamed
     where
-      by_blames : (e : Fault) → Some error ≡ error_of_fault e → BlamesUnchanged kept s0 s1 (ShowsDamage kept ShowsCopyDamage s0 set) e → FoundByRead error
-      by_blames e is blames = fault_reads kept s0 s1 (ShowsDamage kept ShowsCopyDamage s0 set) step_shown e error is blames.blames
+      by_blames : (e : Fault) → Some error ≡ error_of_fault e → BlamesUnchanged kept s0 s1 (ShowsDamage kept ShowsMemberDamage s0 set) e → FoundByRead error
+      by_blames e is blames = fault_reads kept s0 s1 (ShowsDamage kept ShowsMemberDamage s0 set) step_shown e error is blames.blames
 
-      by_fault : (e : Fault) → Some error ≡ error_of_fault e → IsBlamed kept s0 s1 (ShowsDamage kept ShowsCopyDamage s0 set) e → FoundByRead error
+      by_fault : (e : Fault) → Some error ≡ error_of_fault e → IsBlamed kept s0 s1 (ShowsDamage kept ShowsMemberDamage s0 set) e → FoundByRead error
       by_fault faults.Memory is blamed = by_blames faults.Memory is blamed
       by_fault (faults.Keeper s) is blamed = by_blames (faults.Keeper s) is blamed
       by_fault (faults.Damaged s a cause) is blamed = by_blames (faults.Damaged s a cause) is blamed
       by_fault (faults.Refused refusal) is blamed = absurd cc
 
   -- why a run ends at a step that failed
-  pub step_cause : (before now : ℕ) (e : Fault) (error : RunError) → Some error ≡ error_of_fault e → IsBlamed kept s0 s1 (ShowsDamage kept ShowsCopyDamage s0 set) e → ((w : World) → Stands (names s0) (held kept s0) w → IsNoDamage e) → PartHasCause kept s0 s1 before now error
+  pub step_cause : (before now : ℕ) (e : Fault) (error : RunError) → Some error ≡ error_of_fault e → IsBlamed kept s0 s1 (ShowsDamage kept ShowsMemberDamage s0 set) e → ((w : World) → Stands (names s0) (held kept s0) w → IsNoDamage e) → PartHasCause kept s0 s1 before now error
   step_cause before now e error is blamed none = by_fault e is blamed none
     where
-      by_blames : (e : Fault) → Some error ≡ error_of_fault e → BlamesUnchanged kept s0 s1 (ShowsDamage kept ShowsCopyDamage s0 set) e → ((w : World) → Stands (names s0) (held kept s0) w → IsNoDamage e) → PartHasCause kept s0 s1 before now error
-      by_blames e is blames none = blamed_cause kept s0 s1 closed keeps (ShowsDamage kept ShowsCopyDamage s0 set) before now e error is blames.blames (λ n a cause met shows. shown_after (unchanged_if_damaged kept s0 s1 n a cause (subst (HoldsOrInDoubt kept s0 s1) met blames.holds)) n a cause (step_shown n a cause shows)) none
+      by_blames : (e : Fault) → Some error ≡ error_of_fault e → BlamesUnchanged kept s0 s1 (ShowsDamage kept ShowsMemberDamage s0 set) e → ((w : World) → Stands (names s0) (held kept s0) w → IsNoDamage e) → PartHasCause kept s0 s1 before now error
+      by_blames e is blames none = blamed_cause kept s0 s1 closed keeps (ShowsDamage kept ShowsMemberDamage s0 set) before now e error is blames.blames (λ n a cause met shows. shown_after (unchanged_if_damaged kept s0 s1 n a cause (subst (HoldsOrInDoubt kept s0 s1) met blames.holds)) n a cause (step_shown n a cause shows)) none
 
-      by_fault : (e : Fault) → Some error ≡ error_of_fault e → IsBlamed kept s0 s1 (ShowsDamage kept ShowsCopyDamage s0 set) e → ((w : World) → Stands (names s0) (held kept s0) w → IsNoDamage e) → PartHasCause kept s0 s1 before now error
+      by_fault : (e : Fault) → Some error ≡ error_of_fault e → IsBlamed kept s0 s1 (ShowsDamage kept ShowsMemberDamage s0 set) e → ((w : World) → Stands (names s0) (held kept s0) w → IsNoDamage e) → PartHasCause kept s0 s1 before now error
       by_fault faults.Memory is blamed none = by_blames faults.Memory is blamed none
       by_fault (faults.Keeper s) is blamed none = by_blames (faults.Keeper s) is blamed none
       by_fault (faults.Damaged s a cause) is blamed none = by_blames (faults.Damaged s a cause) is blamed none

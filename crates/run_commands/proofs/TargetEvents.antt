@@ -1,14 +1,14 @@
 -- How a set and a target are shown.
-use Rattle.std.proofs.Common.{◌≡◌, ◌∙◌, ℕ, ◌<◌, List, [], ◌∷◌, length, map, cond, Bool, true, false, refl, sym, ap, subst, Option, Some, None, IsSome, slice_get}
+use Rattle.std.proofs.Common.{◌≡◌, ◌∙◌, ℕ, List, [], ◌∷◌, map, cond, Bool, true, false, refl, sym, ap, subst, Option, Some, None, IsSome, slice_get}
 use Rattle.std.specs.Option.{option_map_or}
+use Rattle.std.proofs.lemmas.Bool.{false_from_ne_true}
 use Rattle.std.proofs.lemmas.Option.{same_Some}
 use Rattle.world_store.specs.Words.{Stands}
 use Rattle.site_store.specs.Words.{Kept, AllClosed, HasNone, IsPlace, names, held, work, KeepsServers}
 use Rattle.site_store.specs.declared.sites.Sites.{Sites}
-use Rattle.repl_model.specs.Words.{SetId, ShowError, Member, TargetKind, SetDef, is_replica_set, Server, World, KnownSet, server_in}
+use Rattle.repl_model.specs.Words.{Area, DamageCause, SetId, ShowError, Member, SetDef, is_replica_set, Server, World, KnownSet, server_in}
 use Rattle.repl_types.specs.declared.refusal.Refusal.TheVariants as refusals
 use Rattle.repl_types.specs.declared.call_errors.ShowError.TheVariants as shows
-use Rattle.repl_definitions.specs.declared.member.TargetKind.TheVariants.{UserCopy, PointInTime, BaseAggregate, ChangeAggregate, Ccd, Replica}
 use Rattle.run_core.specs.Runs.{Event, writes}
 use Rattle.stored_defs.specs.laws.Standing.{server_at_place, no_server}
 use Rattle.shows.specs.servers.Showing.{IsUndamagedShow}
@@ -17,16 +17,16 @@ use Rattle.run_commands.specs.parts.Refusing.{refused}
 use Rattle.run_commands.specs.parts.RunErrors.{error_of_show}
 use Rattle.run_commands.specs.declared.parts.run_error.RunError.{RunError}
 use Rattle.run_commands.specs.declared.parts.run_error.RunError.TheVariants as errors
-use Rattle.run_commands.specs.parts.laws.Damage.{sets_shown}
+use Rattle.run_commands.specs.parts.laws.Damage.{IsOfRun}
 use Rattle.run_commands.specs.parts.laws.Looking.{looked_keeps, stops_keeps, stops_run, stops_cause}
 use Rattle.set_places.specs.Places.{IsPlacedAs, IsKnownAs}
 use Rattle.set_places.specs.declared.placed_set.PlacedSet.{PlacedSet}
-use Rattle.apply_copies.specs.Copies.{is_user_copy}
-use Rattle.shows.specs.sets.Replies.{set_line, copy_lines, target_named}
-use Rattle.shows.specs.sets.Rules.{rules, ShowsDamage}
+use Rattle.shows.specs.sets.Replies.{set_line, target_named}
 use Rattle.shows.specs.sets.Showing.{FailsShowing}
-use Rattle.shows.specs.sets.Targets.{IsCopyAt, IsTargetNamed, IsNamedAs}
+use Rattle.shows.specs.sets.Targets.{IsTargetNamed, IsNamedAs}
 use Rattle.shows.specs.declared.targets.PlacedTarget.{PlacedTarget}
+use Rattle.member_targets.specs.Kinds.{is_taken}
+use Rattle.member_targets.specs.Showing.{IsTakenAt, target_lines}
 use Rattle.run_commands.specs.target.TargetEvents.{known_set_events, set_events, member_events, server_target_events, target_events}
 
 -- ---- a set
@@ -59,32 +59,23 @@ module _ (number : ℕ) (id : SetId) (w : World) where
 
 -- ---- a target
 
--- a kind that isn't that of a user copy
-not_copy : (kind : TargetKind) → (kind ≡ UserCopy → ⊥) → is_user_copy kind ≡ false
-not_copy UserCopy other = absurd (other refl)
-not_copy PointInTime other = refl
-not_copy BaseAggregate other = refl
-not_copy ChangeAggregate other = refl
-not_copy (Ccd complete condensed) other = refl
-not_copy Replica other = refl
-
 module _ (number : ℕ) (w : World) (k : KnownSet) (member : Member) where
-  -- what is done at a member, by whether it is a user copy
-  at_member : (b : Bool) → is_user_copy member.kind ≡ b → cond b (map writes (copy_lines w k member)) (refused (refusals.UnknownCommand number)) ≡ member_events number w k member
-  at_member b is = ap (λ (c : Bool). cond c (map writes (copy_lines w k member)) (refused (refusals.UnknownCommand number))) (sym is)
+  -- what is done at a member, by whether its kind is carried out
+  at_member : (b : Bool) → is_taken member.kind ≡ b → cond b (map writes (target_lines w k member)) (refused (refusals.UnknownCommand number)) ≡ member_events number w k member
+  at_member b is = ap (λ (c : Bool). cond c (map writes (target_lines w k member)) (refused (refusals.UnknownCommand number))) (sym is)
 
   module _ (target : PlacedTarget) (placed : IsPlacedAs w k target.set) (at : slice_get k.at_target.def.members target.member ≡ Some member) where
     -- it stands where it was found
     there : slice_get target.set.at_target.def.members target.member ≡ Some member
     there = subst (λ (def : SetDef). slice_get def.members target.member ≡ Some member) (sym placed.target_def) at
 
-    -- it isn't a user copy
-    pub other_refused : (IsCopyAt target.set.at_target.def target.member → ⊥) → refused (refusals.UnknownCommand number) ≡ member_events number w k member
-    other_refused other = at_member false (not_copy member.kind (λ copy. other (record { member = member; there = there; copy = copy })))
+    -- its kind isn't carried out
+    pub other_refused : (IsTakenAt target.set.at_target.def target.member → ⊥) → refused (refusals.UnknownCommand number) ≡ member_events number w k member
+    other_refused other = at_member false (false_from_ne_true (is_taken member.kind) (λ taken. other (record { member = member; there = there; taken = taken })))
 
     -- it is
-    pub copy_shown : IsCopyAt target.set.at_target.def target.member → map writes (copy_lines w k member) ≡ member_events number w k member
-    copy_shown copy = at_member true (ap (λ (m : Member). is_user_copy m.kind) (sym (same_Some copy.member member (sym copy.there ∙ there))) ∙ ap is_user_copy copy.copy)
+    pub target_shown : IsTakenAt target.set.at_target.def target.member → map writes (target_lines w k member) ≡ member_events number w k member
+    target_shown is = at_member true (ap (λ (m : Member). is_taken m.kind) (sym (same_Some is.member member (sym is.there ∙ there))) ∙ is.taken)
 
 module _ {K : Type 0} (kept : K → Kept) (s0 : Sites K) (closed : AllClosed (work kept s0)) (number : ℕ) (name table : List ℕ) where
   -- what is done at what the world has of the server
@@ -114,23 +105,23 @@ module _ {K : Type 0} (kept : K → Kept) (s0 : Sites K) (closed : AllClosed (wo
 
 -- ---- why it ends
 
-module _ {K : Type 0} (kept : K → Kept) (s0 s1 : Sites K) (closed : AllClosed (work kept s0)) (before now : ℕ) where
+module _ {K : Type 0} (kept : K → Kept) (s0 s1 : Sites K) (damage : ℕ → Area → DamageCause → Type 0) (shown : IsOfRun kept s0 damage) (closed : AllClosed (work kept s0)) (before now : ℕ) where
   -- a call that writes and fails leaves what is held
-  pub fails_held : (error : ShowError) → FailsShowing kept s0 s1 (ShowsDamage kept s0) before now error → held kept s1 ≡ held kept s0
+  pub fails_held : (error : ShowError) → FailsShowing kept s0 s1 damage before now error → held kept s1 ≡ held kept s0
   fails_held (shows.Fault fault) fails = fails.0.held
   fails_held shows.Output fails = fails.0.1.stays.held
 
   -- it keeps the servers
-  pub fails_keeps : (error : ShowError) → FailsShowing kept s0 s1 (ShowsDamage kept s0) before now error → KeepsServers kept s0 s1
-  fails_keeps (shows.Fault fault) fails = stops_keeps kept s0 s1 rules sets_shown (λ n. n < length (names s0)) (λ n lt. lt) fault fails.0 fails.1
+  pub fails_keeps : (error : ShowError) → FailsShowing kept s0 s1 damage before now error → KeepsServers kept s0 s1
+  fails_keeps (shows.Fault fault) fails = stops_keeps kept s0 s1 damage shown fault fails.0 fails.1
   fails_keeps shows.Output fails = looked_keeps kept s0 s1 fails.0.1 closed
 
   -- it is none that a refusal would be
-  pub fails_run : (error : ShowError) → FailsShowing kept s0 s1 (ShowsDamage kept s0) before now error → IsSome (error_of_show error)
-  fails_run (shows.Fault fault) fails = stops_run kept s0 s1 rules sets_shown (λ n. n < length (names s0)) (λ n lt. lt) fault fails.0
+  pub fails_run : (error : ShowError) → FailsShowing kept s0 s1 damage before now error → IsSome (error_of_show error)
+  fails_run (shows.Fault fault) fails = stops_run kept s0 s1 damage shown fault fails.0
   fails_run shows.Output fails = refl
 
   -- why the run ends
-  pub show_cause : (error : ShowError) (e : RunError) → Some e ≡ error_of_show error → FailsShowing kept s0 s1 (ShowsDamage kept s0) before now error → ((w : World) → Stands (names s0) (held kept s0) w → IsUndamagedShow error) → PartHasCause kept s0 s1 before now e
-  show_cause (shows.Fault fault) e is fails none = stops_cause kept s0 s1 rules sets_shown (λ n. n < length (names s0)) (λ n lt. lt) fault fails.0 closed fails.1 none before now e is
+  pub show_cause : (error : ShowError) (e : RunError) → Some e ≡ error_of_show error → FailsShowing kept s0 s1 damage before now error → ((w : World) → Stands (names s0) (held kept s0) w → IsUndamagedShow error) → PartHasCause kept s0 s1 before now e
+  show_cause (shows.Fault fault) e is fails none = stops_cause kept s0 s1 damage shown fault fails.0 closed fails.1 none before now e is
   show_cause shows.Output e is fails none = rw (same_Some e errors.OutputFailed is) (record { streams = fails.0.0; servers = tt })

@@ -5,5 +5,6 @@ pub mod capture
 pub mod feed
 pub mod load
 pub mod apply
+pub mod refresh
 pub mod target
 pub use Rattle.source_log.specs.Appending

@@ -4,8 +4,8 @@
 //! step of a set and hands out its line; `step_set` is one such step, and `apply_set` makes them
 //! until there is nothing to do. No step is begun before the line of the step before it was
 //! written whole. It stands on `set_places`, which finds the set of a name, on `apply_cycle`,
-//! which makes a step, by `CopyTargets` of `apply_copies`, and on `parts`, which has the words of
-//! its contracts. `session_core` carries out commands by it.
+//! which makes a step, by `MemberTargets` of `member_targets`, and on `parts`, which has the words
+//! of its contracts. `session_core` carries out commands by it.
 //!
 //! For example, of a set whose targets have reached 3, and whose source has captured one more
 //! unit, at 5, with one change row, `apply q s` commits twice and writes `ok block

@@ -14,6 +14,7 @@ pub mod capture;
 pub mod feed;
 pub mod load;
 pub mod parts;
+pub mod refresh;
 pub mod show;
 pub mod status;
 pub mod target;

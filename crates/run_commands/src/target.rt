@@ -1,8 +1,9 @@
 //! The commands `status Q N` and `show S target T`, as parts of a run.
 //!
 //! `specs/TargetEvents.antt` says which lines they write in a world. It stands on `shows`, which
-//! writes them, on `set_places`, which finds the set of a name, and on `parts`, which has the
-//! words of its contracts. `session_core` carries out these commands by it.
+//! finds targets and writes how far sets are, on `member_targets`, which writes the rows of targets,
+//! on `set_places`, which finds the set of a name, and on `parts`, which has the words of its
+//! contracts. `session_core` carries out these commands by it.
 //!
 //! For example, at the name of no set the line `refused 8 NoSuchSet q/z` is written.
 
@@ -21,9 +22,10 @@ ghost use Rattle.run_core.specs.Runs.{Event};
 
 use crate::parts::{RunError, error_of_fault, error_of_reply, refuse, refuse_set};
 use keep_core::{Keeper, Sink};
+use member_targets::{is_taken_at, show_target};
 use repl_types::{Name, Refusal, SetId};
 use set_places::{PlacedSet, find_set};
-use shows::{PlacedTarget, find_target, is_user_copy, show_copy, show_set};
+use shows::{PlacedTarget, find_target, show_set};
 use site_store::Sites;
 use std::alloc::Global;
 use subs_sets::is_replica_set;
@@ -76,8 +78,8 @@ pub fn show_set_status<K: Keeper, O: Sink>(
     }
 }
 
-/// Writes the rows of a target that was found, and says whether it was refused, as one of another
-/// kind than user copies. Nothing is changed.
+/// Writes the rows of a target that was found, and says whether it was refused, as one of a kind
+/// that isn't carried out. Nothing is changed.
 fn show_found_target<K: Keeper, O: Sink>(
     alloc: Global,
     sites: &mut Sites<K>,
@@ -94,10 +96,10 @@ fn show_found_target<K: Keeper, O: Sink>(
         → IsPart K.kept O.taken O.faults sites.old sites.new output.old output.new events
         (λ refused. refused) result }
 {
-    if !is_user_copy(target) {
+    if !is_taken_at(target) {
         return refuse(alloc, output, &Refusal::UnknownCommand { line: number });
     }
-    match show_copy(sites, alloc, output, target) {
+    match show_target(sites, alloc, output, target) {
         Ok(()) => Ok(false),
         Err(error) => Err(error_of_reply(error)),
     }

@@ -10,7 +10,7 @@ use Rattle.session_core.specs.Commands.{talk_of, is_carried_out_verb, takes_no_b
 
 -- each of these words is the first of a command that is carried out
 pub command_of_verb : (word : List ℕ) → IsTrue (is_carried_out_verb word) → (command : Command) × IsSome (talk_of command) × (slice_get (command_words command) 0 ≡ Some word)
-command_of_verb word is = by_verb (bytes_eq word (codes "load")) refl (bytes_eq word (codes "feed")) refl (bytes_eq word (codes "capture")) refl (bytes_eq word (codes "step")) refl (bytes_eq word (codes "apply")) refl (bytes_eq word (codes "show")) refl (bytes_eq word (codes "status")) refl is
+command_of_verb word is = by_verb (bytes_eq word (codes "load")) refl (bytes_eq word (codes "feed")) refl (bytes_eq word (codes "capture")) refl (bytes_eq word (codes "step")) refl (bytes_eq word (codes "apply")) refl (bytes_eq word (codes "refresh")) refl (bytes_eq word (codes "show")) refl (bytes_eq word (codes "status")) refl is
   where
     no_set : SetId
     no_set = record { qual = []; name = [] }
@@ -18,16 +18,17 @@ command_of_verb word is = by_verb (bytes_eq word (codes "load")) refl (bytes_eq 
     is_it : (text : List ℕ) → bytes_eq word text ≡ true → ◌≡◌ {A = Option (List ℕ)} (Some text) (Some word)
     is_it text same = ap (λ (w : List ℕ). Some w) (sym ((bytes_eq-Decides word text).0 same))
 
-    by_verb : (l : Bool) → bytes_eq word (codes "load") ≡ l → (f : Bool) → bytes_eq word (codes "feed") ≡ f → (k : Bool) → bytes_eq word (codes "capture") ≡ k → (p : Bool) → bytes_eq word (codes "step") ≡ p → (a : Bool) → bytes_eq word (codes "apply") ≡ a → (s : Bool) → bytes_eq word (codes "show") ≡ s → (t : Bool) → bytes_eq word (codes "status") ≡ t
-        → (l || (f || (k || (p || (a || (s || (t || false))))))) ≡ true → (command : Command) × IsSome (talk_of command) × (slice_get (command_words command) 0 ≡ Some word)
-    by_verb true load_is f feed_is k capture_is p step_is a apply_is s show_is t status_is e = (Load, refl, is_it (codes "load") load_is)
-    by_verb false load_is true feed_is k capture_is p step_is a apply_is s show_is t status_is e = (Feed [], refl, is_it (codes "feed") feed_is)
-    by_verb false load_is false feed_is true capture_is p step_is a apply_is s show_is t status_is e = (Capture [] None None, refl, is_it (codes "capture") capture_is)
-    by_verb false load_is false feed_is false capture_is true step_is a apply_is s show_is t status_is e = (Step no_set, refl, is_it (codes "step") step_is)
-    by_verb false load_is false feed_is false capture_is false step_is true apply_is s show_is t status_is e = (Apply no_set, refl, is_it (codes "apply") apply_is)
-    by_verb false load_is false feed_is false capture_is false step_is false apply_is true show_is t status_is e = (ShowLog [], refl, is_it (codes "show") show_is)
-    by_verb false load_is false feed_is false capture_is false step_is false apply_is false show_is true status_is e = (StatusServer [], refl, is_it (codes "status") status_is)
-    by_verb false load_is false feed_is false capture_is false step_is false apply_is false show_is false status_is e = absurd cc
+    by_verb : (l : Bool) → bytes_eq word (codes "load") ≡ l → (f : Bool) → bytes_eq word (codes "feed") ≡ f → (k : Bool) → bytes_eq word (codes "capture") ≡ k → (p : Bool) → bytes_eq word (codes "step") ≡ p → (a : Bool) → bytes_eq word (codes "apply") ≡ a → (r : Bool) → bytes_eq word (codes "refresh") ≡ r → (s : Bool) → bytes_eq word (codes "show") ≡ s → (t : Bool) → bytes_eq word (codes "status") ≡ t
+        → (l || (f || (k || (p || (a || (r || (s || (t || false)))))))) ≡ true → (command : Command) × IsSome (talk_of command) × (slice_get (command_words command) 0 ≡ Some word)
+    by_verb true load_is f feed_is k capture_is p step_is a apply_is r refresh_is s show_is t status_is e = (Load, refl, is_it (codes "load") load_is)
+    by_verb false load_is true feed_is k capture_is p step_is a apply_is r refresh_is s show_is t status_is e = (Feed [], refl, is_it (codes "feed") feed_is)
+    by_verb false load_is false feed_is true capture_is p step_is a apply_is r refresh_is s show_is t status_is e = (Capture [] None None, refl, is_it (codes "capture") capture_is)
+    by_verb false load_is false feed_is false capture_is true step_is a apply_is r refresh_is s show_is t status_is e = (Step no_set, refl, is_it (codes "step") step_is)
+    by_verb false load_is false feed_is false capture_is false step_is true apply_is r refresh_is s show_is t status_is e = (Apply no_set, refl, is_it (codes "apply") apply_is)
+    by_verb false load_is false feed_is false capture_is false step_is false apply_is true refresh_is s show_is t status_is e = (Refresh no_set, refl, is_it (codes "refresh") refresh_is)
+    by_verb false load_is false feed_is false capture_is false step_is false apply_is false refresh_is true show_is t status_is e = (ShowLog [], refl, is_it (codes "show") show_is)
+    by_verb false load_is false feed_is false capture_is false step_is false apply_is false refresh_is false show_is true status_is e = (StatusServer [], refl, is_it (codes "status") status_is)
+    by_verb false load_is false feed_is false capture_is false step_is false apply_is false refresh_is false show_is false status_is e = absurd cc
 
 -- and the first word of each such command is one of them
 pub verb_of_command : (word : List ℕ) (command : Command) → IsSome (talk_of command) → slice_get (command_words command) 0 ≡ Some word → IsTrue (is_carried_out_verb word)
@@ -39,7 +40,7 @@ verb_of_command word (Prune server minutes) some is = absurd cc
 verb_of_command word (PruneNormal server) some is = absurd cc
 verb_of_command word (Step set) some is = subst (λ (w : List ℕ). IsTrue (is_carried_out_verb w)) (same_Some (codes "step") word is) refl
 verb_of_command word (Apply set) some is = subst (λ (w : List ℕ). IsTrue (is_carried_out_verb w)) (same_Some (codes "apply") word is) refl
-verb_of_command word (Refresh set) some is = absurd cc
+verb_of_command word (Refresh set) some is = subst (λ (w : List ℕ). IsTrue (is_carried_out_verb w)) (same_Some (codes "refresh") word is) refl
 verb_of_command word (Stop server table) some is = absurd cc
 verb_of_command word (Generate server table seed units changes) some is = absurd cc
 verb_of_command word (Rounds qual) some is = absurd cc
@@ -54,12 +55,13 @@ verb_of_command word (ShowTarget server table) some is = subst (λ (w : List ℕ
 verb_of_command word (ShowTrail server set) some is = absurd cc
 verb_of_command word (ShowRejected server set) some is = absurd cc
 
--- The command isn't one of those without a body that are carried out: `capture`, a step or all steps of a set, `status`, and
--- `show` of a source, of a log, of what is captured or of a target.
+-- The command isn't one of those without a body that are carried out: `capture`, a step or all steps of a set, a refresh that
+-- is asked for, `status`, and `show` of a source, of a log, of what is captured or of a target.
 pub record IsOther (command : Command) : Type 0 where
   pub capture : (server : List ℕ) (units every : Option ℕ) → command ≢ Capture server units every
   pub step : (set : SetId) → command ≢ Step set
   pub apply : (set : SetId) → command ≢ Apply set
+  pub refresh : (set : SetId) → command ≢ Refresh set
   pub status : (server : List ℕ) → command ≢ StatusServer server
   pub set_status : (set : SetId) → command ≢ StatusSet set
   pub source : (server table : List ℕ) → command ≢ ShowSource server table
@@ -78,7 +80,7 @@ not_carried_out (Prune server minutes) bodiless other = refl
 not_carried_out (PruneNormal server) bodiless other = refl
 not_carried_out (Step set) bodiless other = absurd (other.step set refl)
 not_carried_out (Apply set) bodiless other = absurd (other.apply set refl)
-not_carried_out (Refresh set) bodiless other = refl
+not_carried_out (Refresh set) bodiless other = absurd (other.refresh set refl)
 not_carried_out (Stop server table) bodiless other = refl
 not_carried_out (Generate server table seed count each) bodiless other = refl
 not_carried_out (Rounds qual) bodiless other = refl

@@ -15,6 +15,7 @@ use Rattle.run_commands.specs.parts.Refusing.{refused}
 use Rattle.run_commands.specs.apply.StepEvents.{step_events, apply_events}
 use Rattle.run_commands.specs.capture.CaptureEvents.{capture_events}
 use Rattle.run_commands.specs.feed.FeedEvents.{begin_events}
+use Rattle.run_commands.specs.refresh.RefreshEvents.{refresh_events}
 use Rattle.run_commands.specs.show.ShowEvents.{source_events, log_events, changes_events, units_events}
 use Rattle.run_commands.specs.status.StatusEvents.{status_events}
 use Rattle.run_commands.specs.target.TargetEvents.{set_events, target_events}
@@ -32,7 +33,7 @@ talk_of (Prune server minutes) = None
 talk_of (PruneNormal server) = None
 talk_of (Step set) = Some (λ number. step_events number set)
 talk_of (Apply set) = Some (λ number. apply_events number set)
-talk_of (Refresh set) = None
+talk_of (Refresh set) = Some (λ number. refresh_events set)
 talk_of (Stop server table) = None
 talk_of (Generate server table seed units changes) = None
 talk_of (Rounds qual) = None
@@ -49,7 +50,7 @@ talk_of (ShowRejected server set) = None
 
 -- the first words of these commands, as `first_words_of_commands` shows
 abbrev pub carried_out_verbs : List (List ℕ)
-carried_out_verbs = codes "load" ∷ codes "feed" ∷ codes "capture" ∷ codes "step" ∷ codes "apply" ∷ codes "show" ∷ codes "status" ∷ []
+carried_out_verbs = codes "load" ∷ codes "feed" ∷ codes "capture" ∷ codes "step" ∷ codes "apply" ∷ codes "refresh" ∷ codes "show" ∷ codes "status" ∷ []
 
 -- a word is one of them
 abbrev pub is_carried_out_verb : List ℕ → Bool

@@ -25,6 +25,7 @@ use run_commands::apply::{apply_set, step_set};
 use run_commands::capture::capture_server;
 use run_commands::feed::begin_feed;
 use run_commands::parts::{RunError, refuse};
+use run_commands::refresh::refresh_set;
 use run_commands::show::{show_change_rows, show_log_records, show_source_rows, show_unit_rows};
 use run_commands::status::show_status;
 use run_commands::target::{show_set_status, show_target_rows};
@@ -44,6 +45,7 @@ fn begins_with_carried_out_verb(line: &[u8]) -> bool
                 || word == b"capture".as_slice()
                 || word == b"step".as_slice()
                 || word == b"apply".as_slice()
+                || word == b"refresh".as_slice()
                 || word == b"show".as_slice()
                 || word == b"status".as_slice()
         }
@@ -72,7 +74,6 @@ fn is_carried_out(command: &Command) -> bool
         Command::CaptureCold { .. }
         | Command::Prune { .. }
         | Command::PruneNormal { .. }
-        | Command::Refresh { .. }
         | Command::Stop { .. }
         | Command::Generate { .. }
         | Command::Rounds { .. }
@@ -84,6 +85,7 @@ fn is_carried_out(command: &Command) -> bool
         | Command::Capture { .. }
         | Command::Step { .. }
         | Command::Apply { .. }
+        | Command::Refresh { .. }
         | Command::StatusServer { .. }
         | Command::StatusSet { .. }
         | Command::ShowSource { .. }
@@ -126,6 +128,7 @@ fn run_command<K: Keeper, O: Sink>(
         } => capture_server(alloc, sites, output, server, units, every),
         Command::Step { set } => step_set(alloc, sites, output, number, &set),
         Command::Apply { set } => apply_set(alloc, sites, output, number, &set),
+        Command::Refresh { set } => refresh_set(alloc, sites, output, &set),
         Command::StatusServer { server } => show_status(alloc, sites, output, server),
         Command::StatusSet { set } => show_set_status(alloc, sites, output, number, &set),
         Command::ShowSource { server, table } => {

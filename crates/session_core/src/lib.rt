@@ -68,7 +68,8 @@ use std::alloc::Global;
 /// and then a line says how many there were. Once something is refused, the rest of the body is
 /// skipped. At `capture` of a server its log is captured. At `step` of a set its next action is
 /// made in one commit, and its line is written; at `apply` one after another, until there is
-/// nothing to do or one is refused. At `show` of a source table its committed rows are written, at
+/// nothing to do or one is refused. At `refresh` of a set its flag is set, so that its next step is
+/// that of a refresh. At `show` of a source table its committed rows are written, at
 /// `show` of a log its records, at `show` of what is captured its change rows or its units, and at
 /// `show` of a target its rows. At `status` of a server its lines are written, how far it is and
 /// its registrations and sets among them, and at `status` of a set how far that is. For each line,

@@ -85,6 +85,19 @@ ok report 000000000000000b0000
 ok apply steps 3
 ";
 
+/// A refresh of the first set is asked for, and made.
+const REFRESH: &[u8] = b"refresh q s
+apply q s
+";
+
+/// It is signalled at 11 and refreshed there.
+const REFRESHED: &[u8] = b"ok flagged
+ok signal hq 000000000000000b0000
+ok refresh 000000000000000b0000 rows 1
+ok report 000000000000000b0000
+ok apply steps 3
+";
+
 /// The line of the block by itself.
 const BLOCK: &[u8] = b"ok block 00000000000000050000 00000000000000090000 \
 insert 0 update 2 delete 0
@@ -110,6 +123,32 @@ ok rows 2
 
 /// How far the first set is before the block.
 const SET_BEFORE: &[u8] = b"ok set q/s synchpoint 00000000000000050000 base ";
+
+/// What is done at the servers once the script has begun, and what it writes.
+#[derive(Clone, Copy, Debug)]
+struct Task {
+    script: &'static [u8],
+    written: &'static [u8],
+    /// What is asked afterwards, and the answer.
+    asked: &'static [u8],
+    shown: &'static [u8],
+}
+
+/// Both sets are applied.
+const APPLIES: Task = Task {
+    script: APPLY,
+    written: APPLIED,
+    asked: SHOW,
+    shown: SHOWN,
+};
+
+/// The first set is refreshed.
+const REFRESHES: Task = Task {
+    script: REFRESH,
+    written: REFRESHED,
+    asked: b"show shop target large\n",
+    shown: LARGE_AFTER,
+};
 
 /// Runs a script at both servers.
 fn run_here(
@@ -142,9 +181,14 @@ fn check_here(
     Ok(())
 }
 
-/// Runs what is left to be done at servers at which a call failed. Before that the first copy has
-/// the rows of the point that its set says, and afterwards both are as without a failure.
-fn check_next_run(rt: &impl Abort, alloc: Global, sites: Sites<MapKeeper>) -> Result<(), Fail> {
+/// Runs what is to be done once more at servers at which a call failed. Before that the first copy
+/// has the rows of the point that its set says, and afterwards all is as without a failure.
+fn check_next_run(
+    rt: &impl Abort,
+    alloc: Global,
+    sites: Sites<MapKeeper>,
+    task: Task,
+) -> Result<(), Fail> {
     let mut sites = with_failure(alloc, &NAMES, sites, NONE)?;
     let (output, status) = run_here(alloc, &mut sites, b"status q s\nshow shop target large\n")?;
     assert_eq!(rt; status, Status::Ok);
@@ -152,9 +196,9 @@ fn check_next_run(rt: &impl Abort, alloc: Global, sites: Sites<MapKeeper>) -> Re
     let rows = if is_before { LARGE_BEFORE } else { LARGE_AFTER };
     assert!(rt; output.bytes().ends_with(rows));
 
-    let (_output, status) = run_here(alloc, &mut sites, APPLY)?;
+    let (_output, status) = run_here(alloc, &mut sites, task.script)?;
     assert_eq!(rt; status, Status::Ok);
-    check_here(rt, alloc, &mut sites, SHOW, SHOWN)
+    check_here(rt, alloc, &mut sites, task.asked, task.shown)
 }
 
 /// Lets each call of a server fail in a run of its own, until a run ends before the call, and
@@ -164,6 +208,7 @@ fn failing_calls(
     alloc: Global,
     server: u32,
     takes_place: bool,
+    task: Task,
 ) -> Result<u64, Fail> {
     for calls in 0..CALLS {
         let failure = Failure {
@@ -172,27 +217,39 @@ fn failing_calls(
             takes_place,
         };
         let mut sites = begun(rt, alloc, failure)?;
-        let (output, status) = run_here(alloc, &mut sites, APPLY)?;
+        let (output, status) = run_here(alloc, &mut sites, task.script)?;
         if status == Status::Ok {
-            assert_eq!(rt; output.bytes(), APPLIED);
+            assert_eq!(rt; output.bytes(), task.written);
             return Ok(calls);
         }
         assert_eq!(rt; status, Status::KeeperFault(server), "at call {calls}");
-        assert!(rt; APPLIED.starts_with(output.bytes()), "at call {calls}");
-        check_next_run(rt, alloc, sites)?;
+        assert!(rt; task.written.starts_with(output.bytes()), "at call {calls}");
+        check_next_run(rt, alloc, sites, task)?;
     }
     Ok(CALLS)
+}
+
+/// Lets each call of each server fail, before it takes place and after.
+fn check_failing_calls(rt: &impl Abort, alloc: Global, task: Task) -> Result<(), Fail> {
+    for (server, takes_place) in [(0, false), (0, true), (1, false), (1, true)] {
+        let calls = failing_calls(rt, alloc, server, takes_place, task)?;
+        assert!(rt; 10 < calls && calls < CALLS, "{calls} calls of {server}");
+    }
+    Ok(())
 }
 
 #[test]
 fn a_failed_call_ends_an_apply_and_the_next_one_makes_up_for_it(
     rt: HostRuntime,
 ) -> Result<(), Fail> {
-    for (server, takes_place) in [(0, false), (0, true), (1, false), (1, true)] {
-        let calls = failing_calls(&rt, rt.alloc(), server, takes_place)?;
-        assert!(rt; 10 < calls && calls < CALLS, "{calls} calls of {server}");
-    }
-    Ok(())
+    check_failing_calls(&rt, rt.alloc(), APPLIES)
+}
+
+#[test]
+fn a_failed_call_ends_a_refresh_and_the_next_one_makes_up_for_it(
+    rt: HostRuntime,
+) -> Result<(), Fail> {
+    check_failing_calls(&rt, rt.alloc(), REFRESHES)
 }
 
 /// How often the servers were read, and the servers with the same keepers: for each of them the

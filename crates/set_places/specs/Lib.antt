@@ -3,4 +3,5 @@ pub mod Finding
 pub mod Members
 pub mod Reading
 pub mod Steps
+pub mod Targets
 pub mod laws

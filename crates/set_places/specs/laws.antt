@@ -6,3 +6,4 @@ pub mod Commits
 pub mod Staying
 pub mod Points
 pub mod Sources
+pub mod Targets

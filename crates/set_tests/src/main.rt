@@ -2,7 +2,7 @@
 //! changes that it needs aren't kept, and what stands if a call of a keeper fails.
 //!
 //! It has no code but tests, of the calls of `set_places` and `subs_sets`, and of `step`,
-//! `step_within` and `cycle` of `apply_cycle` with the targets of `apply_copies`, over definitions
+//! `step_within` and `cycle` of `apply_cycle` with the targets of `member_targets`, over definitions
 //! that `load_defs` loads, and logs that `session` of `session_core` feeds and captures.
 //!
 //! It is a program that does nothing, so that no library is made of it.

@@ -7,10 +7,10 @@ ghost use Rattle.site_store.specs.Views.{work};
 ghost use Rattle.set_places.specs.Places.{IsPlaced};
 
 use crate::servers::{loaded_servers, run};
-use apply_copies::CopyTargets;
 use apply_cycle::{cycle, step, step_within};
 use keep_core::Keeper;
 use keep_map::MapKeeper;
+use member_targets::MemberTargets;
 use repl_records::SetState;
 use repl_types::{Fault, List, Name, SetId, Stepped};
 use set_places::{PlacedSet, find_set};
@@ -73,7 +73,7 @@ fn step_until<K: Keeper>(
     let Some(set) = find(alloc, sites, id)? else {
         return Ok(Stepped::Idle);
     };
-    step_within(sites, alloc, &set, end, &mut CopyTargets)
+    step_within(sites, alloc, &set, end, &mut MemberTargets)
 }
 
 /// Lets the set of a name do what it does next. A set that isn't found is idle.
@@ -85,7 +85,7 @@ pub fn next_step<K: Keeper>(
     let Some(set) = find(alloc, sites, id)? else {
         return Ok(Stepped::Idle);
     };
-    step(sites, alloc, &set, &mut CopyTargets)
+    step(sites, alloc, &set, &mut MemberTargets)
 }
 
 /// Lets the set of a name take its steps until there is nothing to do. They are added to the list.
@@ -96,7 +96,7 @@ pub fn all_steps<K: Keeper>(
     done: &mut List<Stepped>,
 ) -> Result<(), Fault> {
     sites.rollback_all();
-    cycle(sites, alloc, id, &mut CopyTargets, done)
+    cycle(sites, alloc, id, &mut MemberTargets, done)
 }
 
 /// Lets the set q/s do what it does next as often as there are steps here, which it has to make.

@@ -14,7 +14,6 @@ pub mod StandingTables
 mod AfterReads
 mod SetBlame
 mod KnownStatus
-mod CopiedRows
 mod NamedMembers
 mod TargetsDiffer
 mod FoundTargets

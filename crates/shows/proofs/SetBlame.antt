@@ -2,8 +2,8 @@
 -- for a world.
 use Rattle.std.proofs.Common.{◌≡◌, ℕ, ◌<◌, List, [], length, sym, subst, arith, Some}
 use Rattle.std.proofs.lemmas.Option.{slice_get-get_or}
-use Rattle.world_store.specs.Words.{IsKey, key_spelling, IsSet, set_spelling, IsCopy, copy_spelling, Holds, Stands}
-use Rattle.site_store.specs.Words.{Contents, Kept, Bounds, Fails, Rules, joined, Shows, Damages, IsUndamaged, IsNoDamage, AllClosed, names, held, work, sees, at_most_itself, shown_first, shown_second, no_damage, Breaks, Looks, Stops, no_memory, stops_as, stops_at, stops_after, looks_sees}
+use Rattle.world_store.specs.Words.{IsSet, set_spelling, Holds, Stands}
+use Rattle.site_store.specs.Words.{Contents, Kept, Bounds, Fails, Rules, Shows, Damages, IsUndamaged, IsNoDamage, AllClosed, names, held, work, sees, at_most_itself, shown_first, shown_second, no_damage, Breaks, Looks, Stops, no_memory, stops_as, stops_at, stops_after, looks_sees}
 use Rattle.site_store.specs.declared.sites.Sites.{Sites}
 use Rattle.repl_model.specs.Words.{Area, DamageCause, ShowError, Fault, IsTargetSet, target_set_spelling, empty_server, Server, World, server_in, at_place_in, In}
 use Rattle.repl_types.specs.declared.area.Area.TheVariants as areas
@@ -15,8 +15,8 @@ use Rattle.stored_defs.specs.laws.Blaming.{fails_by_table}
 use Rattle.stored_defs.specs.laws.Standing.{same_count, seen_at}
 use Rattle.prune_control.specs.Noting.{mark_rules}
 use Rattle.subs_sets.specs.Rules.{state_rules}
-use Rattle.shows.specs.tables.Showing.{IsOutputFault, FailsShowing as FailsWithin}
-use Rattle.shows.specs.sets.Rules.{copy_rules, status_rules, rules, ShowsDamage}
+use Rattle.shows.specs.tables.Showing.{IsOutputFault}
+use Rattle.shows.specs.sets.Rules.{status_rules, ShowsDamage}
 use Rattle.shows.specs.sets.Showing.{FailsShowing}
 use Rattle.shows.proofs.AfterReads.{closed_on}
 
@@ -25,14 +25,14 @@ use Rattle.shows.proofs.AfterReads.{closed_on}
 module _ {K : Type 0} (kept : K → Kept) (s0 s1 : Sites K) (e : Fault) where
   -- damage of definitions is damage
   pub definitions_show : Stops kept s0 s1 (ShowsDamageOfDefinitions kept s0) e → Stops kept s0 s1 (ShowsDamage kept s0) e
-  definitions_show f = stops_as kept s0 s1 (ShowsDamageOfDefinitions kept s0) (ShowsDamage kept s0) e (λ s a cause h. (h.0, shown_first definition_rules (joined status_rules copy_rules) a cause (sees kept s0 s) h.1)) f
+  definitions_show f = stops_as kept s0 s1 (ShowsDamageOfDefinitions kept s0) (ShowsDamage kept s0) e (λ s a cause h. (h.0, shown_first definition_rules status_rules a cause (sees kept s0 s) h.1)) f
 
   module _ (server : ℕ) (within : server < length (names s0)) where
     -- so is damage of how far a set is
     status_shows : Breaks status_rules kept s0 s1 server e → Stops kept s0 s1 (ShowsDamage kept s0) e
     status_shows f = stops_as kept s0 s1 (Damages (λ s. s ≡ server) status_rules kept s0) (ShowsDamage kept s0) e (λ s a cause h. (
       subst (λ (n : ℕ). n < length (names s0)) (sym h.0) within,
-      shown_second definition_rules (joined status_rules copy_rules) a cause (sees kept s0 s) (shown_first status_rules copy_rules a cause (sees kept s0 s) h.1),
+      shown_second definition_rules status_rules a cause (sees kept s0 s) h.1,
     )) f
 
     -- as of its mark
@@ -83,11 +83,3 @@ module _ {K : Type 0} (kept : K → Kept) (s0 s1 : Sites K) (before now : ℕ) w
   pub output_fails : (e : ShowError) → AllClosed (work kept s0) → Looks kept s0 s1 → IsOutputFault before now e → FailsShowing kept s0 s1 (ShowsDamage kept s0) before now e
   output_fails (errors.Fault e) closed look memory = (subst (Stops kept s0 s1 (ShowsDamage kept s0)) (sym memory) (memory_after kept s0 s1 look (ShowsDamage kept s0)), closed_on kept s0 s1 look closed)
   output_fails errors.Output closed look rose = ((rose, look), closed_on kept s0 s1 look closed)
-
-  -- the rows of a user copy weren't written whole
-  pub copy_fails : (server number : ℕ) (most : Bounds) (e : ShowError) → server < length (names s0) → AllClosed (work kept s0) → FailsWithin kept s0 s1 most (Damages (λ s. s ≡ server) (table_rules IsKey key_spelling IsCopy copy_spelling areas.Target number) kept s0) before now e → FailsShowing kept s0 s1 (ShowsDamage kept s0) before now e
-  copy_fails server number most (errors.Fault e) within closed f = (
-    stops_at kept s0 s1 most (ShowsDamage kept s0) e (fails_by_table IsKey key_spelling IsCopy copy_spelling areas.Target number rules (λ bytes h. h.1.1) (λ bytes h. h.1.1) kept (λ s. s < length (names s0)) s0 s1 server most most e within (at_most_itself most) f),
-    f.closes.closed,
-  )
-  copy_fails server number most errors.Output within closed f = let look : Looks kept s0 s1 = record { most = most; stays = f.1 } in ((f.0, look), closed_on kept s0 s1 look closed)

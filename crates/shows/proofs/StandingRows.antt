@@ -1,12 +1,12 @@
 -- The rows of the tables that are shown as they stand at a server, and their text.
-use Rattle.std.proofs.Common.{◌≡◌, ℕ, ◌*◌, ◌<◌, ◌≤◌, ◌^◌, Bool, true, false, cond, ◌&&◌, List, [], ◌∷◌, ◌++◌, map, length, length-append, refl, sym, ap, subst, ◌∙◌, arith, max, nat_lt, nat_le, Some, slice_get, Less}
+use Rattle.std.proofs.Common.{◌≡◌, ℕ, ◌*◌, ◌<◌, ◌≤◌, ◌^◌, Bool, true, false, cond, ◌&&◌, List, [], ◌∷◌, ◌++◌, map, length, length-append, refl, sym, ap, subst, ◌∙◌, arith, max, nat_lt, nat_le, Some, slice_get}
 use Rattle.std.specs.FinMap.{entries}
 use Rattle.std.specs.List.{AllByRecursion, flat_map}
 use Rattle.std.proofs.lemmas.List.{length-map, map-id}
 use Rattle.std.proofs.lemmas.List.FromFn.{length-enumerate_from}
-use Rattle.world_store.specs.Words.{Is64, b64, sequence_spelling, length64, IsKey, key_spelling, IsLogRecord, IsChangeKey, change_key_spelling, IsChangeRow, CdKey, ChangeRow, IsUow, UowRow, SourceRow, IsSourceRow, IsRising, numbered_below, rises, change_rows_of, uow_rows, source_rows, RowFits, positions_rise, between_few, filter_few, source_few}
+use Rattle.world_store.specs.Words.{Is64, b64, sequence_spelling, length64, IsKey, key_spelling, IsLogRecord, IsChangeKey, change_key_spelling, IsChangeRow, CdKey, ChangeRow, IsUow, UowRow, SourceRow, IsSourceRow, numbered_below, rises, change_rows_of, uow_rows, source_rows, RowFits, positions_rise, between_few, filter_few, source_few}
 use Rattle.site_store.specs.Words.{numbers_in_order}
-use Rattle.repl_model.specs.Words.{bytes_cmp, Values, CdRow, TableDef, At, positions, last_commit, units, units_few, changes_between, LogIsSound, Registered, Server, ServerTable, all_numbered, all_weaker, each_image}
+use Rattle.repl_model.specs.Words.{Values, CdRow, TableDef, At, positions, last_commit, units, units_few, changes_between, LogIsSound, Registered, Server, ServerTable, all_numbered, all_weaker, each_image}
 use Rattle.repl_types.specs.declared.unit.Unit.{Unit as LogUnit}
 use Rattle.reply_text.specs.Rows.{row_line, log_line}
 use Rattle.stored_commits.specs.records.SourceTables.{stored_row, StandsUnderKey, RowsStand}
@@ -19,6 +19,7 @@ use Rattle.cd_tables.specs.laws.SoundChanges.{change_rows_are as changes_rise}
 use Rattle.cd_tables.specs.laws.SoundUnits.{unit_rows_are as units_rise}
 use Rattle.shows.specs.tables.Replies.{captured_changes, captured_units, change_text, committed_rows, count_line, log_text, source_text, stored_change_line, stored_unit_line, unit_text}
 use Rattle.shows.specs.tables.Records.{AreShown, rows_text}
+use Rattle.shows.specs.tables.laws.Rising.{images_rise}
 use Rattle.shows.specs.tables.laws.Texts.{text_shown}
 
 -- ---- the log
@@ -40,11 +41,6 @@ log_text_is server =
     ∙ ap (λ (n : ℕ). flat_map (λ line. line) (map (λ (r : At). log_line r.0 r.1) (positions server.log) ++ count_line n ∷ [])) (length-enumerate_from 1 server.log)
 
 -- ---- the source
-
--- rows rise if those from which their values were made do
-pub images_rise : {X Y : Type 0} (f : X → Y) (rows : List (Values × X)) → IsRising key_spelling rows → IsRising key_spelling (map (λ (r : Values × X). (r.0, f r.1)) rows)
-images_rise f [] rise = tt
-images_rise {X} {Y} f (r ∷ rs) rise = (each_image (λ (q : Values × Y). bytes_cmp (key_spelling r.0) (key_spelling q.0) ≡ Less) (λ (q : Values × X). (q.0, f q.1)) rs rise.0, images_rise f rs rise.1)
 
 module _ (server : Server) (def : TableDef) where
   -- the text of the rows of a table is the reply

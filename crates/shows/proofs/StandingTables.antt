@@ -14,7 +14,7 @@ use Rattle.cd_tables.specs.Captured.{ServerIsSound}
 use Rattle.set_places.specs.laws.Registrations.{no_registration_row, registration_row_is}
 use Rattle.set_places.specs.laws.Sources.{table_keyed}
 use Rattle.shows.specs.tables.Replies.{change_reply, change_text, log_text, registered_named, source_text, stored_change_line, stored_unit_line, table_reply, unit_text}
-use Rattle.shows.specs.tables.Records.{AreShown, rows_text}
+use Rattle.shows.specs.tables.Records.{AreShown, FollowsOfText, rows_text}
 use Rattle.shows.specs.tables.Rules.{rules, ShowsDamage}
 use Rattle.shows.proofs.StandingRows.{change_rows_are, change_text_is, log_records_are, log_text_is, source_rows_are, source_rows_fit, source_text_is, unit_rows_are, unit_text_is}
 
@@ -102,10 +102,6 @@ not_registered w server keeps name none = of_table (server_table name server) re
     of_table (Some t) found = of_registered t found t.registered refl
 
 -- ---- servers that stand for a world
-
--- if a table of these contents is made of rows, this follows of their text
-abbrev pub FollowsOfText : {A X : Type 0} → (A → Type 0) → (A → List ℕ) → (X → Type 0) → (X → List ℕ) → (A → X → List ℕ) → Area → ℕ → (List ℕ → Type 0) → Contents → Type 0
-FollowsOfText {A} {X} key_fits key fits spelling line a t P c = (rows : List (A × X)) → AreShown key_fits key fits rows → c a t ≡ table_from_rows key spelling rows → P (rows_text line rows)
 
 -- what is seen after a call that changed nothing was seen before
 seen_before : {K : Type 0} (kept : K → Kept) (s0 s1 : Sites K) (x : Bounds) (s : ℕ) (P : Contents → Type 0) → Stays kept s0 s1 x → IfSome (sees kept s1 s) P → IfSome (sees kept s0 s) P

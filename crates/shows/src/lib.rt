@@ -8,10 +8,10 @@
 //!
 //! `show_source`, `show_log`, `show_changes` and `show_units` write the committed rows of a table,
 //! the records of a log, the change rows of a registration, and the captured units. `find_target`
-//! finds the member of a read-only set whose target at a server has a name, and `show_copy` writes
-//! the rows of such a target, if it is a user copy. All read one record after another and write
-//! its line at once, by `show_records`, which takes any kind whose lines `ShownRecord` says: so
-//! the memory that they need doesn't grow with the table. Nothing is changed.
+//! finds the member of a read-only set whose target at a server has a name: the crate of its kind
+//! shows the rows. All read one record after another and write its line at once, by
+//! `show_records`, which takes any record whose lines `ShownRecord` says: so the memory that they
+//! need doesn't grow with the table. Nothing is changed.
 //!
 //! `show_server` reads all before it writes the first byte.
 //!
@@ -25,7 +25,6 @@
 #![tactic(auto)]
 
 mod captured;
-mod copies;
 mod last_line;
 mod output;
 mod records;
@@ -38,7 +37,6 @@ mod status;
 mod targets;
 
 pub use captured::{show_changes, show_units};
-pub use copies::{is_user_copy, show_copy};
 pub use records::show_records;
 pub use show::show_server;
 pub use shown::ShownRecord;

@@ -25,5 +25,5 @@ pub use context::{Context, Link};
 pub use defs::{Defs, RegistrationAt, TableAt};
 pub use links::{copy_bytes, is_replica_item};
 pub use spelled::{
-    find_table, is_table, read_defs, spelled_columns, spelled_member_at, target_column,
+    find_table, is_table, read_defs, spelled_columns, spelled_member_at, target_column, target_kind,
 };

@@ -191,7 +191,7 @@ pub fn spelled_registrations(
 
 /// The kind of target that a member's type says, with its two flags.
 #[tactic(auto, unfolding(crate::specs::Spelled::target_kind))]
-fn target_kind(member: &RawMember) -> Option<TargetKind>
+pub fn target_kind(member: &RawMember) -> Option<TargetKind>
     ensures { result ≡ target_kind_lem member.now }
 {
     let kind = member.kind.as_slice();

@@ -28,10 +28,11 @@ The script comes on standard input, one command on each line:
   feed S               appends the records on the body lines to the log of S
   capture S            captures the log of S
   step Q N  apply Q N  makes one step of a set, or all until there is nothing to do
+  refresh Q N          asks for a refresh of a set, which its next steps make
   status               of a server or of a set
   show                 a source table, change rows, captured units, a log, a target
-Sets of user copies are taken. Other forms of these commands, and prune, refresh,
-stop, generate, rounds and audit, aren't carried out yet and are refused as unknown.";
+Sets of user copies are taken. Other forms of these commands, and prune, stop,
+generate, rounds and audit, aren't carried out yet and are refused as unknown.";
 
 /// The option of a script.
 fn cells_with_help<'a>(alloc: Global) -> Arg<'a>

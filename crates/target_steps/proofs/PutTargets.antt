@@ -4,7 +4,7 @@ use Rattle.std.proofs.lemmas.Bool.{eq-eqb, eqb-false, ne_eqb, true≢false}
 use Rattle.world_store.specs.Words.{b32, b64, state_spelling, entry_spelling, SetState, TrailEntry, Reveals}
 use Rattle.site_store.specs.Words.{Contents, put_at, set_key, Kept, NoDamage, AllClosed, names, held, work, sees, IsOpenAt, IsClosedAt, Sets, Bounds, no_access, both, Begins, Puts, InDoubt, AtServer, Fails, IsNoDamage, at_most_itself, passes_then, blames_by, GoesOn, Stops, blames_after, stops_as, stops_after, put_fails, write_fails_on, goes_then, goes_put, goes_as}
 use Rattle.site_store.specs.declared.sites.Sites.{Sites}
-use Rattle.repl_model.specs.Words.{Area, DamageCause, Counts, Fault, TargetKind}
+use Rattle.repl_model.specs.Words.{Area, DamageCause, Counts, Fault, TargetKind, TargetSet}
 use Rattle.repl_types.specs.declared.area.Area.TheVariants as areas
 use Rattle.stored_commits.specs.actions.ActedServers.{is_of_step}
 use Rattle.stored_commits.specs.actions.StoredSteps.{PutsStep}
@@ -16,6 +16,7 @@ use Rattle.subs_sets.specs.declared.states.ReadOnlyState.{ReadOnlyState}
 use Rattle.target_steps.specs.declared.step.Step.{Step}
 use Rattle.target_steps.specs.Taking.{ShowsAtEnds}
 use Rattle.target_steps.specs.Steps.{TakesAll, ForMembers, state_after, entry_after, PutsTargets, PutsSomeTargets}
+use Rattle.target_steps.specs.laws.AtServers.{ends_as}
 
 -- ---- what is put
 
@@ -51,7 +52,7 @@ module _ (number : ℕ) (state : SetState) (next : ℕ) (entry : TrailEntry) (c 
     others = others_stay;
   }
 
-module _ {K : Type 0} (kept : K → Kept) (takes : TargetKind → Bool) (shows : Area → DamageCause → Option Contents → Type 0) (s0 s1 : Sites K) (set : PlacedSet) (step : Step) (lt : set.target < length (names s0)) (closed : AllClosed (work kept s0)) where
+module _ {K : Type 0} (kept : K → Kept) (takes : TargetKind → Bool) (shows : Option TargetSet → Area → DamageCause → Option Contents → Type 0) (s0 s1 : Sites K) (set : PlacedSet) (step : Step) (lt : set.target < length (names s0)) (closed : AllClosed (work kept s0)) where
   -- ---- the beginning
 
   -- it failed
@@ -81,7 +82,7 @@ module _ {K : Type 0} (kept : K → Kept) (takes : TargetKind → Bool) (shows :
     -- a call that takes members and fails after it
     pub take_fails : (made : Contents → Contents → Type 0) (s2 : Sites K) (e : Fault) → AllClosed (work kept s2) → Stops kept s1 s2 (ShowsAtEnds kept shows s1 set) e → MayCommitStep kept s0 s2 set.target made (ShowsAtEnds kept shows s0 set) e
     take_fails made s2 e after f = stops_step kept s0 s2 set.target made (ShowsAtEnds kept shows s0 set) e after (stops_after kept s0 s1 s2 no_access (ShowsAtEnds kept shows s0 set) e begin.passes begin.held
-        (stops_as kept s1 s2 (ShowsAtEnds kept shows s1 set) (ShowsAtEnds kept shows s0 set) e (λ s a cause h. (h.0, subst (shows a cause) (begun s) h.1)) f))
+        (stops_as kept s1 s2 (ShowsAtEnds kept shows s1 set) (ShowsAtEnds kept shows s0 set) e (ends_as kept shows set s0 s1 begun) f))
 
     -- finds no damage
     pub take_undamaged : (e : Fault) → ForMembers kept takes s1 set step (IsNoDamage e) → ForMembers kept takes s0 set step (IsNoDamage e)

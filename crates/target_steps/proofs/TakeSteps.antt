@@ -1,8 +1,8 @@
 -- The members of a set are taken through a step, one after another in one transaction: proofs.
-use Rattle.std.proofs.Common.{◌≡◌, ◌≢◌, ℕ, ◌+◌, ◌*◌, ◌<◌, ◌⊎◌, Bool, true, false, List, [], ◌∷◌, ◌++◌, length, get_or, inl, inr, refl, sym, ap, subst, ◌∙◌, arith, take, Option, Some, None, IsSome, is_some, IfSome, slice_get, get_or-set_same}
+use Rattle.std.proofs.Common.{◌≡◌, ◌≢◌, ℕ, ◌+◌, ◌*◌, ◌<◌, Bool, true, false, List, [], ◌∷◌, ◌++◌, length, get_or, inl, inr, refl, sym, ap, subst, ◌∙◌, arith, take, Option, Some, None, IsSome, is_some, IfSome, slice_get, get_or-set_same}
 use Rattle.std.proofs.Math.Seq.{take-length}
 use Rattle.std.proofs.lemmas.Option.{slice_get_within}
-use Rattle.repl_model.specs.Words.{Area, DamageCause, Counts, Fault, Member, TargetKind, SetDef, SourceTable, World, KnownSet, source_named, IsSound, at_place_in, In, at_within}
+use Rattle.repl_model.specs.Words.{Area, DamageCause, Counts, Fault, Member, TargetKind, SetDef, SourceTable, World, KnownSet, source_named, IsSound, at_place_in, In, at_within, TargetSet}
 use Rattle.world_store.specs.Words.{Holds, Reveals, member_table}
 use Rattle.site_store.specs.Words.{Contents, Kept, seen_of, IsNoDamage, names, held, work, sees, IsOpenAt, IsClosedAt, open_below, other_work, GoesOn, Stops, stops_as, stops_after, goes_none, goes_then, goes_as, goes_open}
 use Rattle.site_store.specs.declared.sites.Sites.{Sites}
@@ -18,8 +18,8 @@ use Rattle.target_steps.proofs.FirstMembers.{SumsTo, FirstTaken, none_taken, nex
 use Rattle.stored_commits.specs.laws.ActedTargets.{targets_stand}
 
 -- The first of a set's members were taken through a step, and no damage is shown that wasn't shown before.
-pub record TakesFirst {K : Type 0} (kept : K → Kept) (takes : TargetKind → Bool) (shows : Area → DamageCause → Option Contents → Type 0) (sites : Sites K) (set : PlacedSet) (step : Step) (count : ℕ) (counts : Counts) (c d : Contents) : Type 0 where
-  pub shown : (a : Area) (cause : DamageCause) → shows a cause (Some d) → shows a cause (Some c)
+pub record TakesFirst {K : Type 0} (kept : K → Kept) (takes : TargetKind → Bool) (shows : Option TargetSet → Area → DamageCause → Option Contents → Type 0) (sites : Sites K) (set : PlacedSet) (step : Step) (count : ℕ) (counts : Counts) (c d : Contents) : Type 0 where
+  pub shown : (a : Area) (cause : DamageCause) → shows (Some set.at_target) a cause (Some d) → shows (Some set.at_target) a cause (Some c)
   pub taken : ForAllTaken kept takes sites set step c (λ w k. FirstTaken w k set.at_target.number step count counts c d)
 
 -- what an open transaction is seen to have
@@ -27,7 +27,7 @@ open_sees : (h : Option Contents) (o : Option (Option Contents)) (c : Contents) 
 open_sees h None c is saw = absurd cc
 open_sees h (Some x) c is saw = ap (λ (y : Option Contents). Some y) saw
 
-module _ {K : Type 0} (kept : K → Kept) (takes : TargetKind → Bool) (shows : Area → DamageCause → Option Contents → Type 0) (s0 : Sites K) (set : PlacedSet) (step : Step) (open_at : IsOpenAt (work kept s0) set.target) (closed : IsClosedAt (work kept s0) set.source) where
+module _ {K : Type 0} (kept : K → Kept) (takes : TargetKind → Bool) (shows : Option TargetSet → Area → DamageCause → Option Contents → Type 0) (s0 : Sites K) (set : PlacedSet) (step : Step) (open_at : IsOpenAt (work kept s0) set.target) (closed : IsClosedAt (work kept s0) set.source) where
   -- no member is taken at first
   pub starts : GoesOn kept s0 s0 set.target (TakesFirst kept takes shows s0 set step 0 no_counts)
   starts = goes_none kept s0 set.target (TakesFirst kept takes shows s0 set step 0 no_counts) open_at (λ c. record { shown = λ a cause h. h; taken = λ w k sound placed reveals read_only can each holds. none_taken w k set.at_target.number step c })
@@ -82,17 +82,17 @@ module _ {K : Type 0} (kept : K → Kept) (takes : TargetKind → Bool) (shows :
 
     module _ (s2 : Sites K) (e : Fault) where
       -- what is shown then was shown before
-      pub take_stops : ((a : Area) (cause : DamageCause) (saw : Option Contents) → shows a cause saw → shows a cause None) → Stops kept s1 s2 (ShowsAtEnds kept shows s1 set) e → Stops kept s0 s2 (ShowsAtEnds kept shows s0 set) e
+      pub take_stops : ((row : Option TargetSet) (a : Area) (cause : DamageCause) (saw : Option Contents) → shows row a cause saw → shows row a cause None) → Stops kept s1 s2 (ShowsAtEnds kept shows s1 set) e → Stops kept s0 s2 (ShowsAtEnds kept shows s0 set) e
       take_stops unseen f = stops_after kept s0 s1 s2 goes.most (ShowsAtEnds kept shows s0 set) e goes.works.passes goes.works.held (stops_as kept s1 s2 (ShowsAtEnds kept shows s1 set) (ShowsAtEnds kept shows s0 set) e
-          (λ s a cause h. (h.0, before s a cause h.0 h.1)) f)
+          before f)
         where
-          at_target : (a : Area) (cause : DamageCause) (o : Option Contents) → sees kept s0 set.target ≡ o → shows a cause (sees kept s1 set.target) → shows a cause o
-          at_target a cause None is h = unseen a cause (sees kept s1 set.target) h
-          at_target a cause (Some c) is h = let d = target_sees c is in d.2.shown a cause (subst (shows a cause) d.1 h)
+          at_target : (a : Area) (cause : DamageCause) (o : Option Contents) → sees kept s0 set.target ≡ o → shows (Some set.at_target) a cause (sees kept s1 set.target) → shows (Some set.at_target) a cause o
+          at_target a cause None is h = unseen (Some set.at_target) a cause (sees kept s1 set.target) h
+          at_target a cause (Some c) is h = let d = target_sees c is in d.2.shown a cause (subst (shows (Some set.at_target) a cause) d.1 h)
 
-          before : (s : ℕ) (a : Area) (cause : DamageCause) → (s ≡ set.source) ⊎ (s ≡ set.target) → shows a cause (sees kept s1 s) → shows a cause (sees kept s0 s)
-          before s a cause (inl is) h = subst (λ (n : ℕ). shows a cause (sees kept s0 n)) (sym is) (subst (shows a cause) source_sees (subst (λ (n : ℕ). shows a cause (sees kept s1 n)) is h))
-          before s a cause (inr is) h = subst (λ (n : ℕ). shows a cause (sees kept s0 n)) (sym is) (at_target a cause (sees kept s0 set.target) refl (subst (λ (n : ℕ). shows a cause (sees kept s1 n)) is h))
+          before : (s : ℕ) (a : Area) (cause : DamageCause) → ShowsAtEnds kept shows s1 set s a cause → ShowsAtEnds kept shows s0 set s a cause
+          before s a cause (inl h) = inl (h.0, subst (λ (n : ℕ). shows None a cause (sees kept s0 n)) (sym h.0) (subst (shows None a cause) source_sees (subst (λ (n : ℕ). shows None a cause (sees kept s1 n)) h.0 h.1)))
+          before s a cause (inr h) = inr (h.0, subst (λ (n : ℕ). shows (Some set.at_target) a cause (sees kept s0 n)) (sym h.0) (at_target a cause (sees kept s0 set.target) refl (subst (λ (n : ℕ). shows (Some set.at_target) a cause (sees kept s1 n)) h.0 h.1)))
 
     -- ---- in a world
 

@@ -12,6 +12,7 @@ use Rattle.repl_definitions.specs.declared.set.SetDef.{SetDef}
 use Rattle.repl_records.specs.declared.set_state.SetState.{SetState}
 use Rattle.repl_records.specs.declared.trail.TrailEntry.{TrailEntry}
 use Rattle.repl_records.specs.declared.trail.TrailEntry.TheVariants as entries
+use Rattle.repl_definitions.specs.declared.set.TargetSet.{TargetSet}
 use Rattle.repl_model.specs.World.{World, KnownSet}
 use Rattle.world_store.specs.Stands.{Holds}
 use Rattle.world_store.specs.TargetRows.{set_rows_refreshed, set_changes}
@@ -51,8 +52,8 @@ module _ {K : Type 0} (kept : K → Kept) (takes : TargetKind → Bool) (sites :
 
   -- All members of a set were taken through a step, with these counts, and no damage is shown that wasn't shown before. All
   -- tables but those of the set's targets are as they were.
-  pub record TakesAll (shows : Area → DamageCause → Option Contents → Type 0) (counts : Counts) (c d : Contents) : Type 0 where
-    pub shown : (a : Area) (cause : DamageCause) → shows a cause (Some d) → shows a cause (Some c)
+  pub record TakesAll (shows : Option TargetSet → Area → DamageCause → Option Contents → Type 0) (counts : Counts) (c d : Contents) : Type 0 where
+    pub shown : (a : Area) (cause : DamageCause) → shows (Some set.at_target) a cause (Some d) → shows (Some set.at_target) a cause (Some c)
     pub taken : ForAllTaken c (λ w k. ((a : Area) (n : ℕ) → is_target_of set.at_target.number a n ≡ false → d a n ≡ c a n)
         × HasTargets k set.at_target.number (entry_of k.at_source.def step) d × (counts ≡ all_counted w k step))
 
@@ -72,7 +73,7 @@ abbrev pub entry_after : Step → SetDef → Counts → TrailEntry
 entry_after (Refresh point time) def counts = entries.Refresh point counts.rows (base_of_step def (Refresh point time))
 entry_after (Block low low_time high time base) def counts = entries.Block low high counts.inserts counts.updates counts.deletes (base_of_step def (Block low low_time high time base))
 
-module _ {K : Type 0} (kept : K → Kept) (takes : TargetKind → Bool) (shows : Area → DamageCause → Option Contents → Type 0) (sites : Sites K) (set : PlacedSet) (step : Step) (known : ReadOnlyState) where
+module _ {K : Type 0} (kept : K → Kept) (takes : TargetKind → Bool) (shows : Option TargetSet → Area → DamageCause → Option Contents → Type 0) (sites : Sites K) (set : PlacedSet) (step : Step) (known : ReadOnlyState) where
   -- all members were taken through a step, and the set's state and the next entry of its trail were put, unless numbers have
   -- run out
   pub record PutsTargets (counts : Counts) (c d : Contents) : Type 0 where

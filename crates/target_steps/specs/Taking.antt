@@ -13,6 +13,7 @@ use Rattle.keep_core.specs.Kept.{Kept}
 use Rattle.repl_definitions.specs.declared.member.Member.{Member}
 use Rattle.repl_definitions.specs.declared.member.TargetKind.{TargetKind}
 use Rattle.repl_definitions.specs.declared.set.SetDef.{SetDef}
+use Rattle.repl_definitions.specs.declared.set.TargetSet.{TargetSet}
 use Rattle.repl_model.specs.AfterActions.{is_base_aggregate, base_point}
 use Rattle.repl_model.specs.ChangeRows.{changes_between}
 use Rattle.repl_model.specs.NextActions.{member_gap}
@@ -165,15 +166,16 @@ module _ {K : Type 0} (kept : K → Kept) (takes : TargetKind → Bool) (sites :
   -- A member of a set with a place was taken through a step, with these counts, and no damage is shown that wasn't shown
   -- before. If its target was what the set's trail makes of it, it is what the trail after the step makes of it. All other
   -- tables are as they were.
-  pub record TakesMember (shows : Area → DamageCause → Option Contents → Type 0) (counts : Counts) (c d : Contents) : Type 0 where
+  pub record TakesMember (shows : Option TargetSet → Area → DamageCause → Option Contents → Type 0) (counts : Counts) (c d : Contents) : Type 0 where
     pub others : (w : World) (k : KnownSet) → IsSound w → IsPlacedAs w k set → (a : Area) (n : ℕ) → is_target (number_of set place) a n ≡ false → d a n ≡ c a n
-    pub shown : (a : Area) (cause : DamageCause) → shows a cause (Some d) → shows a cause (Some c)
+    pub shown : (a : Area) (cause : DamageCause) → shows (Some set.at_target) a cause (Some d) → shows (Some set.at_target) a cause (Some c)
     pub taken : ForTaken c (λ w k member source. (d areas.Target (number_of set place) ≡ member_table source member (k.at_target.trail ++ entry_of k.at_source.def step ∷ [])) × (counts ≡ counted k.at_source.def step source member))
 
   -- what follows in each such world, if the target is seen to have this
   abbrev pub ForMember : Type 0 → Type 0
   ForMember P = (c : Contents) → sees kept sites set.target ≡ Some c → ForTaken c (λ w k member source. P)
 
--- what the source or the target of a set was seen to have shows damage
-abbrev pub ShowsAtEnds : {K : Type 0} → (K → Kept) → (Area → DamageCause → Option Contents → Type 0) → Sites K → PlacedSet → ℕ → Area → DamageCause → Type 0
-ShowsAtEnds kept shows sites set s a cause = ((s ≡ set.source) ⊎ (s ≡ set.target)) × shows a cause (sees kept sites s)
+-- what the source of a set was seen to have shows damage of a source, or what the target was seen to have shows damage of this
+-- set's targets
+abbrev pub ShowsAtEnds : {K : Type 0} → (K → Kept) → (Option TargetSet → Area → DamageCause → Option Contents → Type 0) → Sites K → PlacedSet → ℕ → Area → DamageCause → Type 0
+ShowsAtEnds kept shows sites set s a cause = ((s ≡ set.source) × shows None a cause (sees kept sites s)) ⊎ ((s ≡ set.target) × shows (Some set.at_target) a cause (sees kept sites s))

@@ -16,6 +16,7 @@ pub trait Targets<K: Keeper> {
     ghost use Rattle.repl_types.specs.declared.status.DamageCause.{DamageCause};
     ghost use Rattle.repl_types.specs.declared.status.DamageCause.TheVariants.{NoRest};
     ghost use Rattle.repl_definitions.specs.declared.member.TargetKind.{TargetKind};
+    ghost use Rattle.repl_definitions.specs.declared.set.TargetSet.{TargetSet};
     ghost use Rattle.keep_core.specs.Contents.{Contents};
     ghost use Rattle.stored_commits.specs.actions.StoredSteps.{is_numbered};
     ghost use Rattle.site_store.specs.Damage.{IsNoDamage};
@@ -29,8 +30,9 @@ pub trait Targets<K: Keeper> {
     /// The kinds of members that are taken through steps.
     ghost takes: { TargetKind → Bool };
 
-    /// What was seen of a server shows this damage.
-    ghost shows: { Area → DamageCause → Option Contents → Type 0 };
+    /// What was seen of a server shows this damage: as the source of a set, or, with the set's row,
+    /// as its target.
+    ghost shows: { Option TargetSet → Area → DamageCause → Option Contents → Type 0 };
 
     /// Takes the target of a member through a step, if it was what the set's trail makes of it, and
     /// answers how many rows were put, or how many change rows of each operation were taken. A
@@ -61,13 +63,13 @@ pub trait Targets<K: Keeper> {
         ensures counted { IfOk result (CountsReads step 1 K.kept sites.old sites.new) };
 
     /// Damage that is shown of what was seen is shown of a server that reveals nothing.
-    ghost unseen: { (a : Area) (cause : DamageCause) (saw : Option Contents) → shows a cause saw
-        → shows a cause None };
+    ghost unseen: { (row : Option TargetSet) (a : Area) (cause : DamageCause)
+        (saw : Option Contents) → shows row a cause saw → shows row a cause None };
 
     /// The rows of no such target are numbered.
     ghost unnumbered: { (kind : TargetKind) → takes kind ≡ true → is_numbered kind ≡ false };
 
     /// That a set doesn't come to rest is shown of no server.
-    ghost no_rest: { (a : Area) (steps : ℕ) (saw : Option Contents) → shows a (NoRest steps) saw
-        → ⊥ };
+    ghost no_rest: { (row : Option TargetSet) (a : Area) (steps : ℕ) (saw : Option Contents)
+        → shows row a (NoRest steps) saw → ⊥ };
 }

@@ -17,7 +17,7 @@ use Rattle.reply_text.specs.declared.reply.Reply.TheVariants as replies
 use Rattle.run_core.specs.Runs.{Event, commits, writes}
 use Rattle.run_commands.specs.parts.Refusing.{refused}
 use Rattle.world_commits.specs.actions.StaysSound.{length_signalled}
-use Rattle.apply_copies.specs.Copies.{is_user_copy}
+use Rattle.member_targets.specs.Kinds.{is_taken}
 use Rattle.apply_cycle.specs.Stepping.{answer_of}
 
 -- ---- what a step comes to
@@ -31,7 +31,7 @@ pub data Outcome : Type 0 where
 
 -- all members of a set are of a kind that is carried out
 abbrev pub is_carried_out : SetDef → Bool
-is_carried_out def = list_all (λ member. is_user_copy member.kind) def.members
+is_carried_out def = list_all (λ member. is_taken member.kind) def.members
 
 -- an action is made, and its line written, which has no number of a server
 abbrev pub making : World → KnownSet → Action → Outcome

@@ -1,14 +1,16 @@
 -- What a run does with the text of a load, once its last line is read.
-use Rattle.std.specs.Prelude.{ℕ, Bool, codes, if◌then◌else◌, List, [], ◌∷◌, ◌++◌, Option, Some, None, option_and_then}
+use Rattle.std.specs.Prelude.{ℕ, Bool, false, if◌then◌else◌, List, [], ◌∷◌, ◌++◌, Option, Some, None, option_and_then}
 use Rattle.std.specs.List.{list_all}
 use Rattle.std.specs.Option.{option_map_or}
-use Rattle.std.specs.Str.{bytes_eq, is_utf8}
+use Rattle.std.specs.Str.{is_utf8}
 use Rattle.toml.specs.Data.{Members}
 use Rattle.toml.specs.Parse.{parse_document}
 use Rattle.repl_types.specs.declared.refusal.Refusal.{Refusal}
 use Rattle.repl_types.specs.declared.refusal.Refusal.TheVariants as refusals
 use Rattle.repl_types.specs.declared.refusal.DefPlace.TheVariants as places
 use Rattle.repl_types.specs.declared.refusal.LimitKind.TheVariants as limits
+use Rattle.member_targets.specs.Kinds.{is_taken}
+use Rattle.spelled_defs.specs.Spelled.{target_kind}
 use Rattle.repl_commands.specs.declared.written.RawDefs.{RawDefs}
 use Rattle.repl_commands.specs.declared.written.RawMember.{RawMember}
 use Rattle.repl_commands.specs.declared.written.RawSet.{RawSet}
@@ -31,15 +33,15 @@ stated_by document = if fits_item items.Document document then Some (raw_defs_of
 abbrev pub raw_of : List ℕ → Option RawDefs
 raw_of text = if is_utf8 text then option_and_then stated_by (parse_document text) else None
 
--- a member is a user copy
-abbrev pub is_user_copy : RawMember → Bool
-is_user_copy member = bytes_eq member.kind (codes "user_copy")
+-- a member is of a kind that is carried out
+abbrev pub is_carried_out_member : RawMember → Bool
+is_carried_out_member member = option_map_or is_taken (target_kind member) false
 
--- a set is of a kind that is carried out: user copies
+-- all members of a set are
 abbrev pub is_carried_out_set : RawSet → Bool
-is_carried_out_set set = list_all is_user_copy set.members
+is_carried_out_set set = list_all is_carried_out_member set.members
 
--- all sets of a text are
+-- all members of all sets of a text are
 abbrev pub has_carried_out_sets : RawDefs → Bool
 has_carried_out_sets raw = list_all is_carried_out_set raw.sets
 

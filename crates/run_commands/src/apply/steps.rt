@@ -23,10 +23,10 @@ ghost use Rattle.run_commands.specs.parts.Parts.{IsPart, WritesLine, WritesRefus
 ghost use Rattle.run_commands.specs.parts.Found.{IsKnownWith, ForKnown};
 
 use crate::parts::{RunError, error_of_fault, refuse, refuse_set};
-use apply_copies::CopyTargets;
 use apply_cycle::step;
 use keep_core::{Keeper, Sink, write_line};
-use repl_definitions::{SetDef, TargetKind};
+use member_targets::{MemberTargets, is_taken};
+use repl_definitions::SetDef;
 use repl_types::{Fault, Name, Refusal, SetId, Stepped};
 use reply_text::write_step;
 use set_places::{PlacedSet, find_set};
@@ -44,14 +44,14 @@ pub enum Progress {
     Made,
 }
 
-/// Whether all members of a set are of a kind that is carried out: user copies.
+/// Whether all members of a set are of kinds that are carried out.
 fn is_carried_out(def: &SetDef) -> bool
     ensures { result ≡ is_carried_out_lem def.now }
 {
     def.members
         .as_slice()
         .iter()
-        .all(|member| matches!(member.kind, TargetKind::UserCopy))
+        .all(|member| is_taken(&member.kind))
 }
 
 /// Writes the line of a step of a set whose source has this name. After an error a prefix of it was
@@ -123,7 +123,7 @@ fn make_found<K: Keeper, O: Sink>(
     ensures lines { IfOk result (TakesStep (O.taken output.old) (O.taken output.new)) }
     ensures read { IfErr result FoundByRead }
 {
-    match step(sites, alloc, set, &mut CopyTargets) {
+    match step(sites, alloc, set, &mut MemberTargets) {
         Ok(stepped) => tell_step(alloc, output, &set.at_source.def.source, &stepped),
         Err(Fault::Refused(refusal)) => refuse_step(alloc, output, &refusal),
         Err(fault) => Err(error_of_fault(fault)),

@@ -2,31 +2,36 @@
 
 ghost use Rattle.std.specs.Prelude.{◌≡◌};
 ghost use Rattle.run_commands.specs.load.LoadEvents.{bad_text as bad_text_lem};
-ghost use Rattle.run_commands.specs.load.LoadEvents.{is_user_copy as is_user_copy_lem};
+ghost use Rattle.run_commands.specs.load.LoadEvents.{is_carried_out_member as is_carried_out_member_lem};
 ghost use Rattle.run_commands.specs.load.LoadEvents.{is_carried_out_set as is_carried_out_set_lem};
 ghost use Rattle.run_commands.specs.load.LoadEvents.{has_carried_out_sets as has_carried_out_sets_lem};
 
+use member_targets::is_taken;
 use repl_commands::{RawDefs, RawMember, RawSet};
 use repl_types::{DefPlace, Refusal};
+use spelled_defs::target_kind;
 
-/// Whether a member is a user copy.
-fn is_user_copy(member: &RawMember) -> bool
-    ensures { result ≡ is_user_copy_lem member.now }
+/// Whether a member is of a kind that is carried out.
+fn is_carried_out_member(member: &RawMember) -> bool
+    ensures { result ≡ is_carried_out_member_lem member.now }
 {
-    member.kind.as_slice() == b"user_copy".as_slice()
+    match target_kind(member) {
+        Some(kind) => is_taken(&kind),
+        None => false,
+    }
 }
 
-/// Whether a set is of a kind that is carried out: user copies.
+/// Whether all members of a set are of such a kind.
 fn is_carried_out_set(set: &RawSet) -> bool
     ensures { result ≡ is_carried_out_set_lem set.now }
 {
     set.members
         .as_slice()
         .iter()
-        .all(|member| is_user_copy(member))
+        .all(|member| is_carried_out_member(member))
 }
 
-/// Whether all sets of a text are of such a kind.
+/// Whether all members of all sets of a text are.
 pub fn has_carried_out_sets(raw: &RawDefs) -> bool
     ensures { result ≡ has_carried_out_sets_lem raw.now }
 {

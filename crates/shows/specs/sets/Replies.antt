@@ -1,20 +1,15 @@
--- The replies about read-only sets: how far a set is, and the rows of a user copy.
-use Rattle.std.specs.Prelude.{ℕ, if◌then◌else◌, List, [], ◌∷◌, ◌++◌, length, map, find, Option, Some, None}
+-- The reply about a read-only set, which says how far it is; and the targets of a server.
+use Rattle.std.specs.Prelude.{ℕ, if◌then◌else◌, List, length, map, find, Option, Some, None}
 use Rattle.std.specs.List.{filter_map, flat_map}
-use Rattle.std.specs.Option.{option_map_or}
 use Rattle.std.specs.Str.{bytes_eq}
-use Rattle.repl_types.specs.Value.{Values}
 use Rattle.repl_definitions.specs.declared.member.Member.{Member}
 use Rattle.reply_text.specs.declared.reply.Reply.TheVariants as replies
 use Rattle.reply_text.specs.declared.status.ReadOnlyStatus.{ReadOnlyStatus}
 use Rattle.reply_text.specs.Replies.{reply_line}
-use Rattle.reply_text.specs.Rows.{row_line}
-use Rattle.repl_model.specs.MemberCopies.{user_copy}
 use Rattle.repl_model.specs.SoundDefinitions.{read_only_sets}
 use Rattle.repl_model.specs.Trails.{Trail, synchpoint, base_of}
 use Rattle.repl_model.specs.World.{Server, World, KnownSet, known_from}
-use Rattle.world_store.specs.TargetRows.{has_points, numbered_members, source_of}
-use Rattle.shows.specs.tables.Replies.{count_line}
+use Rattle.world_store.specs.TargetRows.{has_points, numbered_members}
 
 -- ---- how far a set is
 
@@ -36,21 +31,6 @@ status_of_set k = let side = k.at_target in record {
 -- the line that says so
 abbrev pub set_line : KnownSet → List ℕ
 set_line k = reply_line (replies.ReadOnlySet (status_of_set k))
-
--- ---- the rows of a user copy
-
--- the rows of a user copy, under their keys: those of its source as of the point that the set has reached, none if
--- the source isn't there
-abbrev pub copied_rows : World → KnownSet → Member → List (Values × Values)
-copied_rows w k member = option_map_or (λ source. user_copy source member (synchpoint k.at_target.trail)) (source_of w k.at_target.def member) []
-
--- the lines of the reply: of each row, in the order of their keys, and of their count
-abbrev pub copy_lines : World → KnownSet → Member → List (List ℕ)
-copy_lines w k member = map (λ row. row_line row.1) (copied_rows w k member) ++ count_line (length (copied_rows w k member)) ∷ []
-
--- the lines one after another
-abbrev pub copy_text : World → KnownSet → Member → List ℕ
-copy_text w k member = flat_map (λ line. line) (copy_lines w k member)
 
 -- ---- targets
 

@@ -3,7 +3,6 @@ use Rattle.std.specs.Prelude.{◌≡◌, ℕ, ◌<◌, true, false, List, Option
 use Rattle.std.specs.Str.{bytes_eq}
 use Rattle.keep_core.specs.Kept.{Kept}
 use Rattle.repl_definitions.specs.declared.member.Member.{Member}
-use Rattle.repl_definitions.specs.declared.member.TargetKind.TheVariants.{UserCopy}
 use Rattle.repl_definitions.specs.declared.set.SetDef.{SetDef}
 use Rattle.repl_model.specs.Rules.{is_replica_set}
 use Rattle.repl_model.specs.World.{Server, World, KnownSet, known_sets}
@@ -25,12 +24,6 @@ pub record HasTarget (name : List ℕ) (def : SetDef) (place : ℕ) : Type 0 whe
 -- no member has
 abbrev pub HasNoTarget : List ℕ → SetDef → Type 0
 HasNoTarget name def = (place : ℕ) (member : Member) → slice_get def.members place ≡ Some member → bytes_eq name member.target ≡ false
-
--- The member of a set at a place is a user copy.
-pub record IsCopyAt (def : SetDef) (place : ℕ) : Type 0 where
-  pub member : Member
-  pub there : slice_get def.members place ≡ Some member
-  pub copy : member.kind ≡ UserCopy
 
 -- ---- at servers
 
@@ -71,5 +64,5 @@ IsNamedIn name w server def (Some target) = IsTargetNamed name w server target
 
 -- what follows for each world that the servers stand for, the read-only set that stands there as it was found, and its
 -- member at the target's place
-abbrev pub ForCopy : {K : Type 0} → (K → Kept) → Sites K → PlacedTarget → (World → KnownSet → Member → Type 0) → Type 0
-ForCopy kept sites target P = ForSet kept sites target.set (λ w k. (member : Member) → slice_get k.at_target.def.members target.member ≡ Some member → P w k member)
+abbrev pub ForMemberAt : {K : Type 0} → (K → Kept) → Sites K → PlacedTarget → (World → KnownSet → Member → Type 0) → Type 0
+ForMemberAt kept sites target P = ForSet kept sites target.set (λ w k. (member : Member) → slice_get k.at_target.def.members target.member ≡ Some member → P w k member)

@@ -24,6 +24,10 @@ row_lines line rows = flat_map (λ row. line row.0 row.1) rows
 abbrev pub rows_text : {A X : Type 0} → (A → X → List ℕ) → List (A × X) → List ℕ
 rows_text line rows = row_lines line rows ++ count_line (length rows)
 
+-- if a table of these contents is made of rows, this follows of their text
+abbrev pub FollowsOfText : {A X : Type 0} → (A → Type 0) → (A → List ℕ) → (X → Type 0) → (X → List ℕ) → (A → X → List ℕ) → Area → ℕ → (List ℕ → Type 0) → Contents → Type 0
+FollowsOfText {A} {X} key_fits key fits spelling line a t P c = (rows : List (A × X)) → AreShown key_fits key fits rows → c a t ≡ table_from_rows key spelling rows → P (rows_text line rows)
+
 -- if a table of these contents is made of rows, a sink took their text
 abbrev pub TakesRows : {A X : Type 0} → (A → Type 0) → (A → List ℕ) → (X → Type 0) → (X → List ℕ) → (A → X → List ℕ) → Area → ℕ → Option (List ℕ) → Option (List ℕ) → Contents → Type 0
 TakesRows {A} {X} key_fits key fits spelling line a t before now c = (rows : List (A × X)) → AreShown key_fits key fits rows → c a t ≡ table_from_rows key spelling rows → Takes before now (rows_text line rows)

@@ -1,16 +1,22 @@
 -- What is known of the servers of a set between the calls of one of its steps.
-use Rattle.std.proofs.Common.{◌≡◌, ℕ, List, inl, get_or, sym, subst, Option, Some, None}
+use Rattle.std.proofs.Common.{◌≡◌, ℕ, List, inl, inr, get_or, sym, subst, Option, Some, None}
 use Rattle.std.proofs.Math.ListN.{set as set_at}
 use Rattle.world_store.specs.Words.{Reveals, Stands}
 use Rattle.site_store.specs.Words.{Contents, Kept, AllClosed, names, held, work, sees, IsUndamaged, IsNoDamage, no_damage, Looks, Breaks, looks_sees}
 use Rattle.site_store.specs.declared.sites.Sites.{Sites}
-use Rattle.repl_model.specs.Words.{Fault, World, KnownSet, at_place_in}
+use Rattle.repl_model.specs.Words.{Area, DamageCause, Fault, World, KnownSet, at_place_in, TargetSet}
 use Rattle.subs_sets.specs.Rules.{source_rules, state_rules}
 use Rattle.subs_sets.specs.laws.Undamaged.{source_undamaged, states_undamaged}
 use Rattle.set_places.specs.declared.placed_set.PlacedSet.{PlacedSet}
 use Rattle.set_places.specs.Places.{IsPlacedAs}
 use Rattle.set_places.specs.Steps.{HasStepped, MayHaveBecome}
 use Rattle.set_places.specs.laws.Standing.{source_revealed, target_revealed}
+use Rattle.target_steps.specs.Taking.{ShowsAtEnds}
+
+-- damage of the targets of a set is shown wherever the same is seen
+pub ends_as : {K : Type 0} (kept : K → Kept) (shows : Option TargetSet → Area → DamageCause → Option Contents → Type 0) (set : PlacedSet) (s0 s1 : Sites K) → ((s : ℕ) → sees kept s1 s ≡ sees kept s0 s) → (s : ℕ) (a : Area) (cause : DamageCause) → ShowsAtEnds kept shows s1 set s a cause → ShowsAtEnds kept shows s0 set s a cause
+ends_as kept shows set s0 s1 same s a cause (inl h) = inl (h.0, subst (shows None a cause) (same s) h.1)
+ends_as kept shows set s0 s1 same s a cause (inr h) = inr (h.0, subst (shows (Some set.at_target) a cause) (same s) h.1)
 
 module _ {K : Type 0} (kept : K → Kept) (set : PlacedSet) where
   -- nothing changed

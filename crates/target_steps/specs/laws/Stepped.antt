@@ -4,7 +4,7 @@ use Rattle.std.specs.List.{AllByRecursion}
 use Rattle.world_store.specs.Words.{b32, b64, state_spelling, entry_spelling, SetState, TrailEntry, Holds, Reveals}
 use Rattle.site_store.specs.Words.{Contents, Table, set_key, Kept, sees}
 use Rattle.site_store.specs.declared.sites.Sites.{Sites}
-use Rattle.repl_model.specs.Words.{Area, DamageCause, Counts, Member, TargetKind, SetDef, IsSound, World, KnownSet, known_sets, In}
+use Rattle.repl_model.specs.Words.{Area, DamageCause, Counts, Member, TargetKind, SetDef, IsSound, World, KnownSet, known_sets, In, TargetSet}
 use Rattle.repl_types.specs.declared.area.Area.TheVariants as areas
 use Rattle.stored_commits.specs.actions.ActedServers.{is_of_step}
 use Rattle.stored_commits.specs.actions.StoredSteps.{is_numbered, NoneNumbered, PutsStep, HasTargets}
@@ -61,7 +61,7 @@ module _ (takes : TargetKind → Bool) (w : World) (k : KnownSet) (set : PlacedS
   entries_short : length k.at_target.trail < 2 ^ 64 - 1
   entries_short = omega (arith, (trail_reaches w k sound placed.known).entries)
 
-  module _ {K : Type 0} (kept : K → Kept) (shows : Area → DamageCause → Option Contents → Type 0) (sites : Sites K) (reveals : Reveals w k.source (sees kept sites set.source)) (known : ReadOnlyState) (known_is : known ≡ state_in w k) (counts : Counts) (c d : Contents) (holds : Holds w k.target c) (puts : PutsTargets kept takes shows sites set step known counts c d) where
+  module _ {K : Type 0} (kept : K → Kept) (shows : Option TargetSet → Area → DamageCause → Option Contents → Type 0) (sites : Sites K) (reveals : Reveals w k.source (sees kept sites set.source)) (known : ReadOnlyState) (known_is : known ≡ state_in w k) (counts : Counts) (c d : Contents) (holds : Holds w k.target c) (puts : PutsTargets kept takes shows sites set step known counts c d) where
     -- what was counted is what the set counts
     pub counts_are : counts ≡ all_counted w k step
     counts_are = (puts.taken.taken w k sound placed reveals read_only can each holds).2

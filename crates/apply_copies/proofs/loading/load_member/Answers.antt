@@ -4,7 +4,8 @@ use Rattle.site_store.specs.Words.{work, sees, breaks_after, looks_sees, goes_th
 use Rattle.repl_model.specs.Words.{row_limit, TargetColumn, again_source_set}
 use Rattle.apply_copies.specs.Clearing.{Clears}
 use Rattle.apply_copies.specs.Copying.{LoadsAll}
-use Rattle.apply_copies.specs.Loading.{target_number, LoadsCopy}
+use Rattle.set_places.specs.Targets.{target_number}
+use Rattle.apply_copies.specs.Loading.{LoadsCopy}
 use Rattle.apply_copies.specs.Rules.{source_rules, target_rules}
 use Rattle.apply_copies.proofs.Elsewhere.{open_elsewhere, looked_then, sees_elsewhere, breaks_elsewhere}
 use Rattle.apply_copies.proofs.MemberFaults.{own_at, source_stops, member_stops, target_stops, wide_breaks}

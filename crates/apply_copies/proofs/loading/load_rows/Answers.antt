@@ -1,4 +1,4 @@
-use Rattle.apply_copies.specs.Loading.{target_number}
+use Rattle.set_places.specs.Targets.{target_number}
 use Rattle.apply_copies.specs.Rules.{ShowsDamage}
 use Rattle.apply_copies.proofs.MemberFaults.{stops_closed}
 use Rattle.apply_copies.proofs.loading.load_rows.Goals as goal

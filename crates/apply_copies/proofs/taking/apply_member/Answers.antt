@@ -5,7 +5,7 @@ use Rattle.repl_model.specs.Words.{row_limit, IsMember, TargetColumn, DefinedReg
 use Rattle.set_places.specs.Members.{ForSource, IsRegistrationOf}
 use Rattle.apply_copies.specs.ChangeRules.{IsRegisteredIn, change_source_rules}
 use Rattle.apply_copies.specs.Changing.{source_as, TakesAll}
-use Rattle.apply_copies.specs.Loading.{target_number}
+use Rattle.set_places.specs.Targets.{target_number}
 use Rattle.apply_copies.specs.Taking.{TakesChanges}
 use Rattle.apply_copies.proofs.Elsewhere.{looked_then}
 use Rattle.apply_copies.proofs.MemberFaults.{own_at, change_stops, change_member_stops, wide_breaks}

@@ -1,5 +1,5 @@
 use Rattle.apply_copies.specs.ChangeRules.{ShowsDamageOfChanges}
-use Rattle.apply_copies.specs.Loading.{target_number}
+use Rattle.set_places.specs.Targets.{target_number}
 use Rattle.apply_copies.proofs.MemberFaults.{stops_closed}
 use Rattle.apply_copies.proofs.taking.apply_rows.Goals as goal
 

@@ -1,12 +1,12 @@
-use Rattle.std.proofs.Common.{ℕ, ◌<◌, length, refl, subst, sym, Option, IfSome}
+use Rattle.std.proofs.Common.{ℕ, refl, subst, sym, Option, IfSome}
 use Rattle.world_store.specs.Words.{Stands}
 use Rattle.site_store.specs.Words.{names, held}
 use Rattle.repl_model.specs.Words.{World, server_in}
-use Rattle.shows.specs.sets.Rules.{rules}
+use Rattle.shows.specs.sets.Rules.{rules, ShowsDamage}
 use Rattle.shows.specs.sets.Targets.{IsTargetAt, IsNamedAs}
 use Rattle.shows.specs.declared.targets.PlacedTarget.{PlacedTarget}
 use Rattle.run_commands.specs.parts.laws.Composing.{part_as, part_looked, part_refused, reads_failed}
-use Rattle.run_commands.specs.parts.laws.Damage.{sets_shown}
+use Rattle.run_commands.specs.parts.laws.Damage.{all_shown, sets_shown}
 use Rattle.run_commands.specs.parts.laws.Looking.{closed_after, stops_run, stood_before}
 use Rattle.run_commands.specs.target.TargetEvents.{target_events}
 use Rattle.run_commands.proofs.TargetEvents.{no_such_target, one_target}
@@ -19,10 +19,10 @@ find_target-requires g c = record { server = c.requires.server.within; closed = 
 pub error_of_fault-requires : goal.error_of_fault-requires
 error_of_fault-requires g c =
     let s0 = c.args.sites.now in
-    stops_run g.K.Keeper.kept s0 c.find_target.new.sites rules sets_shown (λ n. n < length (names s0)) (λ n lt. lt) c.in-Err.fault c.in-Err.ensures.fault
+    stops_run g.K.Keeper.kept s0 c.find_target.new.sites (ShowsDamage g.K.Keeper.kept s0) (all_shown g.K.Keeper.kept s0 rules sets_shown) c.in-Err.fault c.in-Err.ensures.fault
 
 pub returns-in-Err : goal.returns-in-Err
-returns-in-Err g c = reads_failed {s0 = c.args.sites.now} {s1 = c.find_target.new.sites} {layer = rules} sets_shown (λ n. n < length (names c.args.sites.now)) (λ n lt. lt) c.in-Err.fault c.in-Err.ensures.fault c.requires.closed c.in-Err.ensures.closed c.in-Err.ensures.undamaged (target_events c.args.number c.args.name c.args.table) (λ refused. refused) c.error_of_fault.result c.error_of_fault.ensures
+returns-in-Err g c = reads_failed {s0 = c.args.sites.now} {s1 = c.find_target.new.sites} {damage = ShowsDamage g.K.Keeper.kept c.args.sites.now} (all_shown g.K.Keeper.kept c.args.sites.now rules sets_shown) c.in-Err.fault c.in-Err.ensures.fault c.requires.closed c.in-Err.ensures.closed c.in-Err.ensures.undamaged (target_events c.args.number c.args.name c.args.table) (λ refused. refused) c.error_of_fault.result c.error_of_fault.ensures
 
 -- the server has such a target
 pub show_found_target-requires : goal.show_found_target-requires

@@ -1,8 +1,7 @@
-use Rattle.std.proofs.Common.{◌<◌, length, refl, sym}
-use Rattle.site_store.specs.Words.{names}
-use Rattle.stored_defs.specs.Rules.{rules as stored_rules}
+use Rattle.std.proofs.Common.{refl, sym}
+use Rattle.stored_defs.specs.Rules.{rules as stored_rules, ShowsDamage}
 use Rattle.run_commands.specs.parts.laws.Composing.{part_as, part_looked, part_refused, reads_failed}
-use Rattle.run_commands.specs.parts.laws.Damage.{stored_shown}
+use Rattle.run_commands.specs.parts.laws.Damage.{all_shown, stored_shown}
 use Rattle.run_commands.specs.parts.laws.Looking.{closed_after, stops_run, stood_before}
 use Rattle.run_commands.specs.target.TargetEvents.{set_events}
 use Rattle.run_commands.proofs.MadeSteps.{known_none, known_some, placed_some}
@@ -14,10 +13,10 @@ pub find_set-requires : goal.find_set-requires
 find_set-requires g c = record { closed = c.requires }
 
 pub error_of_fault-requires : goal.error_of_fault-requires
-error_of_fault-requires g c = stops_run g.K.Keeper.kept c.args.sites.now c.find_set.new.sites stored_rules stored_shown (λ n. n < length (names c.args.sites.now)) (λ n lt. lt) c.in-Err.fault c.in-Err.ensures.fault
+error_of_fault-requires g c = stops_run g.K.Keeper.kept c.args.sites.now c.find_set.new.sites (ShowsDamage g.K.Keeper.kept c.args.sites.now) (all_shown g.K.Keeper.kept c.args.sites.now stored_rules stored_shown) c.in-Err.fault c.in-Err.ensures.fault
 
 pub returns-in-Err : goal.returns-in-Err
-returns-in-Err g c = reads_failed {s0 = c.args.sites.now} {s1 = c.find_set.new.sites} {layer = stored_rules} stored_shown (λ n. n < length (names c.args.sites.now)) (λ n lt. lt) c.in-Err.fault c.in-Err.ensures.fault c.requires c.in-Err.ensures.closed c.in-Err.ensures.undamaged (set_events c.args.number c.args.id.now) (λ refused. refused) c.error_of_fault.result c.error_of_fault.ensures
+returns-in-Err g c = reads_failed {s0 = c.args.sites.now} {s1 = c.find_set.new.sites} {damage = ShowsDamage g.K.Keeper.kept c.args.sites.now} (all_shown g.K.Keeper.kept c.args.sites.now stored_rules stored_shown) c.in-Err.fault c.in-Err.ensures.fault c.requires c.in-Err.ensures.closed c.in-Err.ensures.undamaged (set_events c.args.number c.args.id.now) (λ refused. refused) c.error_of_fault.result c.error_of_fault.ensures
 
 -- a set has the name
 pub show_found_set-requires : goal.show_found_set-requires

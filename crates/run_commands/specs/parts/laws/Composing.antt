@@ -1,17 +1,17 @@
 -- Parts of a run as wholes: one after another, by other words, and after reads.
-use Rattle.std.proofs.Common.{◌≡◌, ◌<◌, ◌≤◌, ◌∙◌, ◌||◌, ℕ, List, [], ◌∷◌, length, Bool, true, false, sym, ap, subst, arith, Option, Some, None, Result, Ok, Err, IfOk, IfSome, IsErrAnd}
+use Rattle.std.proofs.Common.{◌≡◌, ◌≤◌, ◌∙◌, ◌||◌, ℕ, List, [], ◌∷◌, Bool, true, false, sym, ap, subst, arith, Option, Some, None, Result, Ok, Err, IfOk, IfSome, IsErrAnd}
 use Rattle.std.proofs.lemmas.Result.{err_from_is_err_and, on_err_weaker}
 use Rattle.world_store.specs.Words.{Stands}
-use Rattle.site_store.specs.Words.{Kept, Takes, TakesPrefix, KeepsServers, Rules, Damages, IsNoDamage, AllClosed, names, held, work, keeps_itself, keeps_then, Looks, Stops}
+use Rattle.site_store.specs.Words.{Kept, Takes, TakesPrefix, KeepsServers, IsNoDamage, AllClosed, names, held, work, keeps_itself, keeps_then, Looks, Stops}
 use Rattle.site_store.specs.declared.sites.Sites.{Sites}
-use Rattle.repl_model.specs.Words.{Fault, Refusal, World}
+use Rattle.repl_model.specs.Words.{Area, DamageCause, Fault, Refusal, World}
 use Rattle.run_core.specs.Runs.{Event, writes}
 use Rattle.run_commands.specs.parts.Parts.{then_events, Happened, StoppedIn, IsPart, WritesLine, WritesRefusal}
 use Rattle.run_commands.specs.parts.Refusing.{refused}
 use Rattle.run_commands.specs.parts.RunErrors.{error_of_fault}
 use Rattle.run_commands.specs.declared.parts.run_error.RunError.{RunError}
 use Rattle.run_commands.specs.declared.parts.run_error.RunError.TheVariants as errors
-use Rattle.run_commands.specs.parts.laws.Damage.{IsShown}
+use Rattle.run_commands.specs.parts.laws.Damage.{IsOfRun}
 use Rattle.run_commands.specs.parts.laws.Exits.{ok_also, if_err_also}
 use Rattle.run_commands.specs.parts.laws.Lines.{none_begun}
 use Rattle.run_commands.specs.parts.laws.Looking.{happened_looked, stopped_looked, keeps_after, cause_looked, stops_keeps, stops_before, stops_cause}
@@ -144,13 +144,13 @@ module _ {K O : Type 0} {kept : K → Kept} {taken : O → Option (List ℕ)} {f
   }
 
   -- nothing was done, since reads failed
-  pub reads_failed : {T : Type 0} {s0 s1 : Sites K} {o : O} {layer : Rules} (all : IsShown layer) (at : ℕ → Type 0) → ((n : ℕ) → at n → n < length (names s0)) → (e : Fault) → Stops kept s0 s1 (Damages at layer kept s0) e → AllClosed (work kept s0) → AllClosed (work kept s1)
+  pub reads_failed : {T : Type 0} {s0 s1 : Sites K} {o : O} {damage : ℕ → Area → DamageCause → Type 0} → IsOfRun kept s0 damage → (e : Fault) → Stops kept s0 s1 damage e → AllClosed (work kept s0) → AllClosed (work kept s1)
       → ((w : World) → Stands (names s0) (held kept s0) w → IsNoDamage e) → (events : World → List (Event World)) (refuses : T → Bool) (error : RunError) → Some error ≡ error_of_fault e → IsPart kept taken faults s0 s1 o o events refuses (Err error)
-  reads_failed {s0 = s0} {s1 = s1} {o = o} {layer = layer} all at below e stops closed after none events refuses error is = record {
+  reads_failed {s0 = s0} {s1 = s1} {o = o} {damage = damage} shown e stops closed after none events refuses error is = record {
     ok = tt;
-    stopped = stops_before kept s0 s1 layer all at below e stops (taken o) events;
-    servers = stops_keeps kept s0 s1 layer all at below e stops after;
-    cause = stops_cause kept s0 s1 layer all at below e stops closed after none (faults o) (faults o) error is;
+    stopped = stops_before kept s0 s1 damage shown e stops (taken o) events;
+    servers = stops_keeps kept s0 s1 damage shown e stops after;
+    cause = stops_cause kept s0 s1 damage shown e stops closed after none (faults o) (faults o) error is;
     counts = omega arith;
   }
 

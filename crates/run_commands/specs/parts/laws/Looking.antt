@@ -1,9 +1,9 @@
 -- Parts of a run that begin with reads.
-use Rattle.std.proofs.Common.{◌≡◌, inl, ℕ, ◌<◌, List, length, Bool, refl, sym, subst, arith, Option, Some, IsSome}
+use Rattle.std.proofs.Common.{◌≡◌, ℕ, List, Bool, refl, sym, subst, arith, Option, Some, IsSome}
 use Rattle.world_store.specs.Words.{Stands}
-use Rattle.site_store.specs.Words.{Contents, Kept, AllClosed, names, held, work, sees, KeepsServers, Blames, Rules, Damages, IsNoDamage, keeps_passed, keeps_then, Looks, Stops}
+use Rattle.site_store.specs.Words.{Contents, Kept, AllClosed, names, held, work, KeepsServers, Blames, IsNoDamage, keeps_passed, keeps_then, Looks, Stops}
 use Rattle.site_store.specs.declared.sites.Sites.{Sites}
-use Rattle.repl_model.specs.Words.{Fault, World}
+use Rattle.repl_model.specs.Words.{Area, DamageCause, Fault, World}
 use Rattle.repl_types.specs.declared.fault.Fault.TheVariants as faults
 use Rattle.run_core.specs.Runs.{Event, Went, Stopped}
 use Rattle.run_core.specs.laws.Runs.{stopped_before}
@@ -11,7 +11,7 @@ use Rattle.run_commands.specs.parts.Causes.{PartHasCause, FoundByRead}
 use Rattle.run_commands.specs.parts.Parts.{Happened, StoppedIn}
 use Rattle.run_commands.specs.parts.RunErrors.{error_of_fault}
 use Rattle.run_commands.specs.declared.parts.run_error.RunError.{RunError}
-use Rattle.run_commands.specs.parts.laws.Damage.{IsShown, fault_reads, fault_cause}
+use Rattle.run_commands.specs.parts.laws.Damage.{IsOfRun, fault_reads, fault_cause}
 use Rattle.run_commands.specs.parts.laws.Parts.{later_cause}
 
 module _ {K : Type 0} (kept : K → Kept) (s0 s1 : Sites K) where
@@ -61,7 +61,7 @@ module _ {K : Type 0} (kept : K → Kept) (s0 s1 : Sites K) where
 
   -- ---- reads that fail
 
-  module _ (layer : Rules) (all : IsShown layer) (at : ℕ → Type 0) (below : (n : ℕ) → at n → n < length (names s0)) (e : Fault) (stops : Stops kept s0 s1 (Damages at layer kept s0) e) where
+  module _ (damage : ℕ → Area → DamageCause → Type 0) (shown : IsOfRun kept s0 damage) (e : Fault) (stops : Stops kept s0 s1 damage e) where
     -- they keep the servers
     pub stops_keeps : AllClosed (work kept s1) → KeepsServers kept s0 s1
     stops_keeps closed = keeps_passed kept s0 s1 stops.most stops.passes closed
@@ -74,7 +74,7 @@ module _ {K : Type 0} (kept : K → Kept) (s0 s1 : Sites K) where
     pub stops_run : IsSome (error_of_fault e)
     stops_run = pick e stops.blames
       where
-        pick : (e : Fault) → Blames kept s0 s1 (Damages at layer kept s0) e → IsSome (error_of_fault e)
+        pick : (e : Fault) → Blames kept s0 s1 damage e → IsSome (error_of_fault e)
         pick faults.Memory blames = refl
         pick (faults.Keeper s) blames = refl
         pick (faults.Damaged s a cause) blames = refl
@@ -82,8 +82,8 @@ module _ {K : Type 0} (kept : K → Kept) (s0 s1 : Sites K) where
 
     -- what it found was read
     pub stops_reads : (error : RunError) → Some error ≡ error_of_fault e → FoundByRead error
-    stops_reads error is = fault_reads kept s0 s1 (Damages at layer kept s0) (λ n a cause h. (below n h.0, inl (all a cause (sees kept s0 n) h.1))) e error is stops.blames
+    stops_reads error is = fault_reads kept s0 s1 damage shown e error is stops.blames
 
     -- why the run ends
     pub stops_cause : AllClosed (work kept s0) → AllClosed (work kept s1) → ((w : World) → Stands (names s0) (held kept s0) w → IsNoDamage e) → (before now : ℕ) (error : RunError) → Some error ≡ error_of_fault e → PartHasCause kept s0 s1 before now error
-    stops_cause closed after none before now error is = fault_cause kept s0 s1 closed (stops_keeps after) layer all at below before now e error is stops.blames (λ n a cause met. stops.held) none
+    stops_cause closed after none before now error is = fault_cause kept s0 s1 closed (stops_keeps after) damage shown before now e error is stops.blames (λ n a cause met. stops.held) none

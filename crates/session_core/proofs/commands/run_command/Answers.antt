@@ -17,6 +17,7 @@ returns g c =
       capture = c.in_default.not-Capture;
       step = c.in_default.not-Step;
       apply = c.in_default.not-Apply;
+      refresh = c.in_default.not-Refresh;
       status = c.in_default.not-StatusServer;
       set_status = c.in_default.not-StatusSet;
       source = c.in_default.not-ShowSource;

@@ -1,9 +1,10 @@
 use Rattle.std.proofs.Common.{◌≡◌, ℕ, ◌<◌, List, length, sym, subst}
-use Rattle.site_store.specs.Words.{names, looks_none}
+use Rattle.site_store.specs.Words.{Damages, names, looks_none}
 use Rattle.subs_sets.specs.Rules.{source_rules}
 use Rattle.apply_cycle.specs.AtServers.{captured_undamaged}
 use Rattle.run_commands.specs.apply.StepEvents.{apply_events}
 use Rattle.run_commands.specs.parts.laws.Composing.{part_looked, reads_failed}
+use Rattle.run_commands.specs.parts.laws.Damage.{layer_shown}
 use Rattle.run_commands.specs.parts.laws.Looking.{closed_after, stops_run, stops_reads}
 use Rattle.run_commands.proofs.FoundApplying.{may_make}
 use Rattle.run_commands.proofs.StepDamage.{source_shown}
@@ -15,7 +16,8 @@ pub error_of_fault-requires : goal.error_of_fault-requires
 error_of_fault-requires g c =
     let s0 = c.args.sites.now in
     let source = c.args.set.now.source in
-    stops_run g.K.Keeper.kept s0 c.most_steps.new.sites source_rules source_shown (λ s. s ≡ source) (λ s is. subst (λ (m : ℕ). m < length (names s0)) (sym is) c.requires.placed.source.within) c.in-Err.fault c.in-Err.ensures.fault
+    let here = λ (s : ℕ). s ≡ source in
+    stops_run g.K.Keeper.kept s0 c.most_steps.new.sites (Damages here source_rules g.K.Keeper.kept s0) (layer_shown g.K.Keeper.kept s0 source_rules source_shown here (λ s is. subst (λ (m : ℕ). m < length (names s0)) (sym is) c.requires.placed.source.within)) c.in-Err.fault c.in-Err.ensures.fault
 
 pub returns-in-Err : goal.returns-in-Err
 returns-in-Err g c =
@@ -25,15 +27,16 @@ returns-in-Err g c =
     let set = c.args.set.now in
     let here = λ (s : ℕ). s ≡ set.source in
     let within = λ (s : ℕ) (is : s ≡ set.source). subst (λ (m : ℕ). m < length (names s0)) (sym is) c.requires.placed.source.within in
+    let shown = layer_shown kept s0 source_rules source_shown here within in
     let e = c.in-Err.fault in
     let f = c.in-Err.ensures.fault in
     let t = g.O.Sink.taken c.args.output.now in
     let error = c.error_of_fault.result in
     let is = c.error_of_fault.ensures in
     record {
-      part = reads_failed {s0 = s0} {s1 = s1} {layer = source_rules} source_shown here within e f c.requires.closed c.in-Err.ensures.closed (λ w stands. let one = c.requires.known w stands in captured_undamaged kept set s0 s0 c.requires.closed w one.0 stands one.2 (looks_none kept s0) s1 e f)
+      part = reads_failed {s0 = s0} {s1 = s1} {damage = Damages here source_rules kept s0} shown e f c.requires.closed c.in-Err.ensures.closed (λ w stands. let one = c.requires.known w stands in captured_undamaged kept set s0 s0 c.requires.closed w one.0 stands one.2 (looks_none kept s0) s1 e f)
           (apply_events c.args.number c.args.id.now) (λ refused. refused) error is;
-      no_rest = tells_none t t set.source error (stops_reads kept s0 s1 source_rules source_shown here within e f error is);
+      no_rest = tells_none t t set.source error (stops_reads kept s0 s1 (Damages here source_rules kept s0) shown e f error is);
     }
 
 -- the steps are made

@@ -1,10 +1,9 @@
-use Rattle.std.proofs.Common.{ℕ, ◌<◌, length, refl}
-use Rattle.site_store.specs.Words.{names}
-use Rattle.stored_defs.specs.Rules.{rules as stored_rules}
+use Rattle.std.proofs.Common.{refl}
+use Rattle.stored_defs.specs.Rules.{rules as stored_rules, ShowsDamage}
 use Rattle.set_places.specs.laws.Staying.{placed_before}
 use Rattle.run_commands.specs.apply.StepEvents.{apply_events}
 use Rattle.run_commands.specs.parts.laws.Composing.{part_as, part_looked, part_refused, reads_failed}
-use Rattle.run_commands.specs.parts.laws.Damage.{stored_shown}
+use Rattle.run_commands.specs.parts.laws.Damage.{all_shown, stored_shown}
 use Rattle.run_commands.specs.parts.laws.Exits.{if_err_also}
 use Rattle.run_commands.specs.parts.laws.Looking.{closed_after, stood_before, stops_run, stops_reads}
 use Rattle.run_commands.specs.parts.laws.Parts.{output_reads}
@@ -17,20 +16,20 @@ pub find_set-requires : goal.find_set-requires
 find_set-requires g c = record { closed = c.requires }
 
 pub error_of_fault-requires : goal.error_of_fault-requires
-error_of_fault-requires g c = stops_run g.K.Keeper.kept c.args.sites.now c.find_set.new.sites stored_rules stored_shown (λ n. n < length (names c.args.sites.now)) (λ n lt. lt) c.in-Err.fault c.in-Err.ensures.fault
+error_of_fault-requires g c = stops_run g.K.Keeper.kept c.args.sites.now c.find_set.new.sites (ShowsDamage g.K.Keeper.kept c.args.sites.now) (all_shown g.K.Keeper.kept c.args.sites.now stored_rules stored_shown) c.in-Err.fault c.in-Err.ensures.fault
 
 pub returns-in-Err : goal.returns-in-Err
 returns-in-Err g c =
     let s0 = c.args.sites.now in
     let s1 = c.find_set.new.sites in
-    let here = λ (n : ℕ). n < length (names s0) in
+    let shown = all_shown g.K.Keeper.kept s0 stored_rules stored_shown in
     let e = c.in-Err.fault in
     let f = c.in-Err.ensures.fault in
     let error = c.error_of_fault.result in
     let is = c.error_of_fault.ensures in
     record {
-      part = reads_failed {s0 = s0} {s1 = s1} {layer = stored_rules} stored_shown here (λ n lt. lt) e f c.requires c.in-Err.ensures.closed c.in-Err.ensures.undamaged (apply_events c.args.number c.args.id.now) (λ refused. refused) error is;
-      no_rest = λ unread. absurd (unread (stops_reads g.K.Keeper.kept s0 s1 stored_rules stored_shown here (λ n lt. lt) e f error is));
+      part = reads_failed {s0 = s0} {s1 = s1} {damage = ShowsDamage g.K.Keeper.kept s0} shown e f c.requires c.in-Err.ensures.closed c.in-Err.ensures.undamaged (apply_events c.args.number c.args.id.now) (λ refused. refused) error is;
+      no_rest = λ unread. absurd (unread (stops_reads g.K.Keeper.kept s0 s1 (ShowsDamage g.K.Keeper.kept s0) shown e f error is));
     }
 
 -- a set has the name

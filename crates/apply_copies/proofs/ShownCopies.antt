@@ -1,39 +1,40 @@
--- The rows of a user copy as they stand at its target, and their text.
-use Rattle.std.proofs.Common.{◌≡◌, ℕ, ◌+◌, ◌*◌, ◌<◌, ◌≤◌, List, [], ◌∷◌, ◌++◌, length, map, refl, sym, ap, subst, ◌∙◌, arith, inl, inr, min, Option, Some, IfSome, slice_get}
+-- The rows of a user copy as they stand at its target, their text, and why they weren't shown whole.
+use Rattle.std.proofs.Common.{◌≡◌, ℕ, ◌<◌, List, [], ◌∷◌, ◌++◌, length, map, sym, ap, subst, ◌∙◌, arith, inl, inr, Option, Some, IfSome, slice_get}
 use Rattle.std.specs.FinMap.{entries}
 use Rattle.std.specs.List.{AllByRecursion, flat_map}
 use Rattle.std.specs.Option.{option_map_or, option_and_then}
-use Rattle.std.proofs.Math.Nat.{min-eq_left}
 use Rattle.std.proofs.lemmas.List.{length-map}
 use Rattle.std.proofs.lemmas.Option.{same_Some, slice_get_within}
-use Rattle.world_store.specs.Words.{IsKey, key_spelling, IsCopy, copy_spelling, CopyRow, table_from_rows, IsRising, filter_rises, Reveals, Stands, member_table, source_of, copy_rows, selected_few, RowFits}
-use Rattle.site_store.specs.Words.{Contents, Kept, Bounds, Damages, IsUndamaged, AllClosed, names, held, work, sees, no_damage}
+use Rattle.world_store.specs.Words.{IsKey, key_spelling, IsCopy, copy_spelling, CopyRow, table_from_rows, IsRising, filter_rises, Reveals, Stands, source_of, copy_rows, selected_few, RowFits}
+use Rattle.site_store.specs.Words.{Contents, Kept, Bounds, Damages, IsUndamaged, AllClosed, names, held, work, sees, no_damage, stays_closed, stops_as, stops_at}
 use Rattle.site_store.specs.declared.sites.Sites.{Sites}
-use Rattle.repl_model.specs.Words.{Values, TableDef, LogRecord, all_filter, all_weaker, ShowError, IsMember, Member, SetDef, user_copy, SourceTable, is_selected, target_row, IsSound, KeepsTable, MemberIsSound, ReplicaMemberIsSound, ServerKeepsRules, LogIsSound, source_at, Trail, synchpoint, World, KnownSet, known_sets, source_named, at_place_in, known_stands, source_in, In, at_one, each_image}
+use Rattle.repl_model.specs.Words.{Area, DamageCause, Values, TableDef, LogRecord, all_filter, all_weaker, ShowError, IsMember, Member, SetDef, user_copy, SourceTable, is_selected, target_row, IsSound, KeepsTable, MemberIsSound, ReplicaMemberIsSound, ServerKeepsRules, LogIsSound, source_at, synchpoint, World, KnownSet, known_sets, source_named, at_place_in, known_stands, source_in, In, at_one, each_image}
 use Rattle.repl_types.specs.declared.area.Area.TheVariants as areas
 use Rattle.repl_types.specs.declared.call_errors.ShowError.TheVariants as errors
-use Rattle.repl_definitions.specs.declared.member.TargetKind.TheVariants.{UserCopy}
 use Rattle.reply_text.specs.Rows.{row_line}
 use Rattle.stored_commits.specs.records.SourceTables.{StandsUnderKey, RowsStand}
 use Rattle.stored_commits.specs.records.laws.StandingRows.{some_byte, standing_rise}
 use Rattle.set_places.specs.declared.placed_set.PlacedSet.{PlacedSet}
 use Rattle.set_places.specs.Places.{IsPlaced, IsPlacedAs, IsReadOnly}
-use Rattle.set_places.specs.laws.Known.{is_among, set_keeps_rules, members_few, number_few}
+use Rattle.set_places.specs.laws.Known.{is_among, placed_def, set_keeps_rules}
 use Rattle.set_places.specs.laws.Sources.{IsSourceOf, source_is_of, table_keyed}
 use Rattle.set_places.specs.laws.Standing.{target_revealed}
 use Rattle.apply_copies.specs.Copying.{selected, copied}
-use Rattle.apply_copies.specs.Loading.{greatest_number, target_number}
+use Rattle.set_places.specs.Targets.{target_number, HasTargetOfKind, DefinesTargets}
+use Rattle.set_places.specs.laws.Targets.{number_is, targets_defined}
 use Rattle.apply_copies.specs.Rules.{target_rules}
 use Rattle.apply_copies.specs.laws.CopyRows.{copied_are, copy_rows_fit, rows_stand_at, target_undamaged}
+use Rattle.apply_copies.specs.laws.TargetLaws.{copy_target}
 use Rattle.shows.specs.servers.Showing.{IsUndamagedShow}
 use Rattle.shows.specs.tables.Replies.{count_line}
-use Rattle.shows.specs.tables.Records.{AreShown, rows_text}
+use Rattle.shows.specs.tables.Records.{AreShown, FollowsOfText, rows_text}
 use Rattle.shows.specs.tables.Showing.{FailsShowing as FailsWithin}
+use Rattle.shows.specs.tables.laws.Rising.{images_rise}
 use Rattle.shows.specs.tables.laws.Texts.{text_shown}
-use Rattle.shows.specs.sets.Replies.{copy_text}
-use Rattle.shows.specs.sets.Targets.{IsCopyAt}
-use Rattle.shows.proofs.StandingRows.{images_rise}
-use Rattle.shows.proofs.StandingTables.{FollowsOfText}
+use Rattle.shows.specs.sets.Showing.{FailsShowing}
+use Rattle.apply_copies.specs.Copies.{is_user_copy, IsCopyAt}
+use Rattle.apply_copies.specs.Showing.{copy_text, ShowsDamage}
+use Rattle.apply_copies.proofs.CopyTables.{table_is}
 use Rattle.stored_commits.specs.laws.ActedTargets.{targets_stand}
 
 -- ---- the rows
@@ -102,30 +103,12 @@ module _ (w : World) (k : KnownSet) (sound : IsSound w) (known : In k (known_set
 
 -- ---- where they stand
 
--- the number of a target that the code computes doesn't pass the greatest number
-number_is : (w : World) (k : KnownSet) (set : PlacedSet) (place : ℕ) (member : Member) → IsSound w → IsPlacedAs w k set → slice_get k.at_target.def.members place ≡ Some member → target_number set.at_target.number place ≡ 64 * set.at_target.number + place
-number_is w k set place member sound placed at =
-    let number = set.at_target.number in
-    let low : number < 256 = number_few w k set sound placed in
-    let few : length k.at_target.def.members ≤ 64 = members_few w k sound placed.known in
-    let within : place < length k.at_target.def.members = slice_get_within k.at_target.def.members place member at in
-    let inner : min (number * 64) greatest_number ≡ number * 64 = min-eq_left (omega (arith, low)) in
-    let outer : min (number * 64 + place) greatest_number ≡ number * 64 + place = min-eq_left (omega (arith, low, few, within)) in
-    ap (λ (n : ℕ). min (n + place) greatest_number) inner ∙ outer ∙ omega arith
-
 -- a member of a set of a sound world has a source
 source_there : (w : World) (k : KnownSet) (member : Member) → IsSound w → In k (known_sets w) → In member k.at_target.def.members → (source : SourceTable) × (source_named member.source k.source ≡ Some source)
 source_there w k member sound known i = elim (set_keeps_rules w k sound known).members [
   | inl all ↦ let own = at_one (MemberIsSound k) k.at_target.def.members member all.0 i in (own.2.0, own.2.1)
   | inr all ↦ let own = at_one (ReplicaMemberIsSound k) k.at_target.def.members member all.0 i in (own.1.0, own.1.2)
 ]
-
--- the target of a user copy has the rows of one
-table_is : (source : SourceTable) (member : Member) (trail : Trail) → member.kind ≡ UserCopy → member_table source member trail ≡ table_from_rows key_spelling copy_spelling (copy_rows source member trail)
-table_is source member trail copy = subst (λ (m : Member). member_table source m trail ≡ table_from_rows key_spelling copy_spelling (copy_rows source m trail)) as_copy refl
-  where
-    as_copy : record member { kind = UserCopy } ≡ member
-    as_copy = λ i. record member { kind = sym copy i }
 
 -- ---- at servers that stand for a world
 
@@ -158,12 +141,16 @@ module _ {K : Type 0} (kept : K → Kept) (s0 : Sites K) (set : PlacedSet) (plac
   seen : Reveals w k.target (sees kept s0 set.target)
   seen = target_revealed kept s0 w k set stands (closed set.target) placed
 
+  -- its number there is that which the code computes
+  within : place < length set.at_source.def.members
+  within = subst (λ (def : SetDef). place < length def.members) (sym (placed_def w k set stands.sound placed)) (slice_get_within set.at_target.def.members place member is_copy.there)
+
   -- it has these rows
   has_rows : seen.0 areas.Target number ≡ table_from_rows key_spelling copy_spelling rows
   has_rows =
-      ap (seen.0 areas.Target) (number_is w k set place member stands.sound placed there)
+      ap (seen.0 areas.Target) (number_is w k set place stands.sound placed within)
       ∙ (targets_stand w k set.at_target.number seen.0 stands.sound (is_among w k set placed read_only) placed.at_target seen.2).0 place member source.0 there source.1
-      ∙ table_is source.0 member k.at_target.trail is_copy.copy
+      ∙ table_is source.0 member (ap is_user_copy is_copy.copy) k.at_target.trail
 
   -- their text is the reply
   text : rows_text {A = Values} (λ _ (r : CopyRow). row_line r.row) rows ≡ copy_text w k member
@@ -187,3 +174,25 @@ module _ {K : Type 0} (kept : K → Kept) (s0 : Sites K) (set : PlacedSet) (plac
       where
         each : (s : ℕ) → s ≡ set.target → (c : Contents) × (sees kept s0 s ≡ Some c) × IsUndamaged (target_rules n) c
         each s at = (seen.0, ap (sees kept s0) at ∙ seen.1, target_undamaged n seen.0 rows (ap (seen.0 areas.Target) same ∙ has_rows) (rows_fit w k stands.sound placed.known member fits source.0 source.1))
+
+-- ---- why they weren't shown whole
+
+module _ {K : Type 0} (kept : K → Kept) (s0 s1 : Sites K) (set : PlacedSet) (place : ℕ) (closed : AllClosed (work kept s0)) (placed : IsPlaced kept s0 set) (is_copy : IsCopyAt set.at_target.def place) (n : ℕ) (same : n ≡ target_number set.at_target.number place) where
+  -- damage of its rows is damage of a user copy there
+  rows_show : (s : ℕ) (a : Area) (cause : DamageCause) → Damages (λ s. s ≡ set.target) (target_rules n) kept s0 s a cause → ShowsDamage kept s0 s a cause
+  rows_show s a cause h = (
+    subst (λ (m : ℕ). m < length (names s0)) (sym h.0) placed.target.within,
+    (
+      set.at_target,
+      subst (λ (m : ℕ). IfSome (sees kept s0 m) (DefinesTargets set.at_target)) (sym h.0) (targets_defined kept s0 set placed.target),
+      (n, subst (λ (m : ℕ). HasTargetOfKind is_user_copy m set.at_target) (sym same) (copy_target set.at_target place is_copy), h.1),
+    ),
+  )
+
+  -- the rows weren't written whole
+  pub copy_fails : (most : Bounds) (before now : ℕ) (e : ShowError) → FailsWithin kept s0 s1 most (Damages (λ s. s ≡ set.target) (target_rules n) kept s0) before now e → FailsShowing kept s0 s1 (ShowsDamage kept s0) before now e
+  copy_fails most before now (errors.Fault e) f = (
+    stops_as kept s0 s1 (Damages (λ s. s ≡ set.target) (target_rules n) kept s0) (ShowsDamage kept s0) e rows_show (stops_at kept s0 s1 most (Damages (λ s. s ≡ set.target) (target_rules n) kept s0) e f),
+    f.closes.closed,
+  )
+  copy_fails most before now errors.Output f = ((f.0, record { most = most; stays = f.1 }), stays_closed kept s0 s1 most closed f.1)
